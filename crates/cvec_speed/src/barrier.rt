@@ -12,21 +12,21 @@ const PATIENCE: u64 = 60;
 
 /// What the threads that are done have told.
 #[derive(Clone, Copy)]
-struct Told {
+struct Reported {
     /// From when to when all of them took.
     span: Option<Span>,
     fault: Option<SpeedFault>,
 }
 
-impl Told {
+impl Reported {
     /// This of one more.
-    fn with(self, span: Result<Span, SpeedFault>) -> Told {
+    fn with(self, span: Result<Span, SpeedFault>) -> Reported {
         match span {
-            Ok(span) => Told {
+            Ok(span) => Reported {
                 span: Some(span.joined(self.span)),
                 fault: self.fault,
             },
-            Err(fault) => Told {
+            Err(fault) => Reported {
                 span: self.span,
                 fault: Some(fault),
             },
@@ -48,7 +48,7 @@ pub struct Barrier {
     threads: u64,
     /// Whether one of them never comes.
     given_up: AtomicBool,
-    told: Mutex<Told>,
+    told: Mutex<Reported>,
 }
 
 impl Barrier {
@@ -58,7 +58,7 @@ impl Barrier {
             there: AtomicU64::new(0),
             threads,
             given_up: AtomicBool::new(false),
-            told: Mutex::new(Told {
+            told: Mutex::new(Reported {
                 span: None,
                 fault: None,
             }),

@@ -86,9 +86,9 @@ impl fmt::Display for Micros {
 
 /// What stands behind the seconds.
 #[derive(Clone, Copy)]
-struct Tail(Option<Detail>);
+struct DetailText(Option<Detail>);
 
-impl fmt::Display for Tail {
+impl fmt::Display for DetailText {
     fn fmt<W: fmt::Write>(&self, f: &mut fmt::Formatter<W>) -> fmt::Result {
         match self.0 {
             None => Ok(()),
@@ -117,10 +117,10 @@ impl fmt::Display for Figure {
         let n = self.n;
         let seconds = self.time.as_secs();
         let nanos = self.time.subsec_nanos();
-        let tail = Tail(self.detail);
+        let detail = DetailText(self.detail);
         write!(
             f,
-            "{{\"work\":\"{work}\",\"threads\":{threads},\"n\":{n},\"seconds\":{seconds}.{nanos:09}{tail}}}"
+            "{{\"work\":\"{work}\",\"threads\":{threads},\"n\":{n},\"seconds\":{seconds}.{nanos:09}{detail}}}"
         )
     }
 }

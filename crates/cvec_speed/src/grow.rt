@@ -45,7 +45,7 @@ fn total_of_blocks(blocks: &[Vec<u64>], growths: u64) -> Total {
 
 /// The block of each thread, and how many growths it makes by copies of that.
 #[derive(Clone, Copy)]
-pub struct Copies<'a> {
+pub struct BlockCopies<'a> {
     blocks: &'a [Vec<u64>],
     growths: u64,
 }
@@ -55,7 +55,7 @@ pub fn grow_copies<E: Wait + Clock, G: ThreadSeat>(
     rt: &E,
     alloc: Global,
     own: &mut G,
-    copies: Copies,
+    copies: BlockCopies,
     barrier: &Barrier,
 ) -> Result<Span, SpeedFault> {
     let Some(block) = copies.blocks.get(own.number()) else {
@@ -92,7 +92,7 @@ fn grow_blocks<E: Threads + Wait + Clock + Eprint + Sync>(
     figures: &mut Vec<Figure>,
 ) -> Result<(), SpeedFault> {
     let growths = sizes.n / sizes.threads as u64 / sizes.block as u64;
-    let role = ThreadRole::Keep(ThreadTask::Grow(Copies { blocks, growths }, barrier));
+    let role = ThreadRole::Keep(ThreadTask::Grow(BlockCopies { blocks, growths }, barrier));
     let (total, figure) = run_role(rt, alloc, "grow", sizes.threads, growths, role, barrier)?;
     total.check(total_of_blocks(blocks, growths))?;
     figure.put(figures)

@@ -21,7 +21,7 @@ use std::time::{Clock, Instant};
 const MANY: usize = 32;
 
 /// Records that are read at places. Reading is written over any, and so proved without what a snapshot is made of.
-pub trait Places {
+pub trait ReadsPlaces {
     /// The record at that place.
     fn record_at(&self, place: u64) -> Option<&u64>;
 
@@ -29,7 +29,7 @@ pub trait Places {
     fn records_at<'a>(&'a self, places: &[u64; MANY], found: &mut [Option<&'a u64>; MANY]);
 }
 
-impl Places for Snapshot<'_, u64> {
+impl ReadsPlaces for Snapshot<'_, u64> {
     fn record_at(&self, place: u64) -> Option<&u64> {
         self.get(place)
     }
@@ -105,7 +105,7 @@ fn fill<E: Wait, G: ThreadSeat>(
 }
 
 /// The sum of the records at places without a pattern.
-fn sum_at_random<P: Places>(snapshot: &P, first: u64, sizes: ReadSizes) -> u64 {
+fn sum_at_random<P: ReadsPlaces>(snapshot: &P, first: u64, sizes: ReadSizes) -> u64 {
     let mut sum: u64 = 0;
     for k in 0..sizes.draws {
         let place = below(mix(first.wrapping_add(k)), sizes.n);
@@ -128,7 +128,7 @@ fn sum_of_found(found: &[Option<&u64>]) -> u64 {
 }
 
 /// As `sum_at_random`, by 32 places at once.
-fn sum_of_many<P: Places>(snapshot: &P, first: u64, sizes: ReadSizes) -> u64 {
+fn sum_of_many<P: ReadsPlaces>(snapshot: &P, first: u64, sizes: ReadSizes) -> u64 {
     let mut sum: u64 = 0;
     let mut found: [Option<&u64>; MANY] = [None; MANY];
     for row in 0..sizes.draws / MANY as u64 {
@@ -159,7 +159,7 @@ fn wanted_sum(first: u64, sizes: ReadSizes) -> u64 {
 }
 
 /// The last record of a row of reads, of which each is at a place that the one before it gives.
-fn last_of_row<P: Places>(snapshot: &P, sizes: ReadSizes) -> u64 {
+fn last_of_row<P: ReadsPlaces>(snapshot: &P, sizes: ReadSizes) -> u64 {
     let mut last: u64 = 1;
     for k in 0..sizes.draws / 4 {
         let place = below(mix(last ^ k), sizes.n);
@@ -180,7 +180,7 @@ fn wanted_last(sizes: ReadSizes) -> u64 {
 }
 
 /// The sum of what a thread reads.
-fn sum_as<P: Places>(asking: Asking, snapshot: &P, first: u64, sizes: ReadSizes) -> u64 {
+fn sum_as<P: ReadsPlaces>(asking: Asking, snapshot: &P, first: u64, sizes: ReadSizes) -> u64 {
     match asking {
         Asking::OneByOne => sum_at_random(snapshot, first, sizes),
         Asking::ManyAtOnce => sum_of_many(snapshot, first, sizes),
@@ -188,7 +188,7 @@ fn sum_as<P: Places>(asking: Asking, snapshot: &P, first: u64, sizes: ReadSizes)
 }
 
 /// One thread reads at random once all threads are there, and compares the sum.
-fn read_once<E: Wait + Clock, P: Places>(
+fn read_once<E: Wait + Clock, P: ReadsPlaces>(
     rt: &E,
     snapshot: &P,
     barrier: &Barrier,
@@ -207,7 +207,7 @@ fn read_once<E: Wait + Clock, P: Places>(
 }
 
 /// The same, and tells the barrier. Whether it went well.
-fn read_as<E: Wait + Clock, P: Places>(
+fn read_as<E: Wait + Clock, P: ReadsPlaces>(
     rt: &E,
     snapshot: &P,
     barrier: &Barrier,
@@ -221,7 +221,7 @@ fn read_as<E: Wait + Clock, P: Places>(
 }
 
 /// So many threads read one snapshot at random.
-fn read_at_random<E: Threads + Wait + Clock + Sync, P: Places + Sync>(
+fn read_at_random<E: Threads + Wait + Clock + Sync, P: ReadsPlaces + Sync>(
     rt: &E,
     alloc: Global,
     snapshot: &P,
@@ -258,7 +258,7 @@ fn read_in_order<E: Clock, G: ThreadSeat>(
 
 /// Reads a row of a quarter as many records, each at a place that the one before it gives, and compares the last
 /// one.
-fn read_in_a_row<E: Clock, P: Places>(
+fn read_in_a_row<E: Clock, P: ReadsPlaces>(
     rt: &E,
     snapshot: &P,
     sizes: ReadSizes,
@@ -273,7 +273,7 @@ fn read_in_a_row<E: Clock, P: Places>(
 }
 
 /// Reads from a snapshot, at random by 1, 2 and 4 threads, one by one and many at once, and in a row.
-fn read_snapshot<E: Threads + Wait + Clock + Sync, P: Places + Sync>(
+fn read_snapshot<E: Threads + Wait + Clock + Sync, P: ReadsPlaces + Sync>(
     rt: &E,
     alloc: Global,
     snapshot: &P,

@@ -3,7 +3,7 @@
 use crate::append::AppendSizes;
 use crate::barrier::Barrier;
 use crate::fault::SpeedFault;
-use crate::grow::{Copies, grow_copies};
+use crate::grow::{BlockCopies, grow_copies};
 use crate::grower::{ThreadSeat, WatchedPhase};
 use crate::waiter::{wait_as, watch_over};
 use crate::watch::Watch;
@@ -16,7 +16,7 @@ use std::time::Clock;
 #[derive(Clone, Copy)]
 pub enum ThreadTask<'a> {
     /// Grows by copies of its block.
-    Grow(Copies<'a>, &'a Barrier),
+    Grow(BlockCopies<'a>, &'a Barrier),
     /// Grows, or sums what there is.
     Beside(&'a beside::Course<'a>),
     /// Appends blocks.

@@ -41,18 +41,11 @@ fn over_pen<D: Disk + Drop>(
 {
     match Live::begin(alloc, Vec::new(alloc), room, seats) {
         Ok(begun) => {
-            let Begun {
-                live,
-                seats,
-                pass,
-                mark,
-            } = begun;
-            let before = live.opening_len();
-            let flusher = Flusher::begin(alloc, pen, pass, mark, before);
+            let before = begun.live.opening_len();
             Ok(ServedPhase {
-                live,
-                seats,
-                flusher,
+                flusher: Flusher::begin(alloc, pen, begun.pass, begun.mark, before),
+                live: begun.live,
+                seats: begun.seats,
             })
         }
         Err((_, fault)) => Err(SpeedFault::Grow(fault)),
