@@ -6,9 +6,8 @@ ghost use Rattle.book_core.specs.Lists.{IsSeatOf};
 ghost use Rattle.flush_core.specs.Flusher.{IsFlusherOf};
 ghost use Rattle.vault_core.specs.Gathering.{AreOfPhase};
 
-use super::crews::Open;
 use book_core::{Live, Seat};
-use crew_core::{CrewFault, Lists, crew};
+use crew_core::{CrewFault, Lists, OpenGate, crew};
 use disk_core::{Blow, Choice, Disk, FuseDisk, ImageLength, PendingBytes, RamDisk};
 use flush_core::Flusher;
 use segment_core::{Format, scan};
@@ -75,13 +74,13 @@ fn take_last_in<D: Disk>(
 
 /// What a seat is told of a broken crew: how many growths are settled, and the records of all growths, in order.
 #[derive(Drop)]
-struct Told {
+struct Heard {
     settled: u64,
     records: Vec<u64>,
 }
 
 /// Asks a seat, before the flusher takes it in.
-fn ask_seat(alloc: Global, live: &Live<u64>, seat: &mut Seat<u64>) -> Option<Told>
+fn ask_seat(alloc: Global, live: &Live<u64>, seat: &mut Seat<u64>) -> Option<Heard>
     requires { IsSeatOf live.now seat.old }
     ensures { IsSeatOf live.now seat.new }
 {
@@ -91,7 +90,7 @@ fn ask_seat(alloc: Global, live: &Live<u64>, seat: &mut Seat<u64>) -> Option<Tol
     for i in 0..size {
         records.push(*live.get(seat, i)?).ok()?;
     }
-    Some(Told { settled, records })
+    Some(Heard { settled, records })
 }
 
 /// What a broken crew leaves.
@@ -100,7 +99,7 @@ struct Left<D: Disk> {
     disk: D,
     /// How many growths are settled.
     settled: u64,
-    told: Told,
+    told: Heard,
 }
 
 /// Asks one of the two seats, and takes both in.
@@ -128,7 +127,7 @@ fn tell_last<D: Disk>(
     live: &Live<u64>,
     flusher: &mut Flusher<u64, D>,
     seats: &mut Vec<Seat<u64>>,
-) -> Option<Told>
+) -> Option<Heard>
     requires flusher { IsFlusherOf (D.keeps flusher.old.pen.disk) live.now flusher.old }
     requires seats { All (IsSeatOf live.now) seats.old.items }
     ensures flusher { IsFlusherOf (D.keeps flusher.new.pen.disk) live.now flusher.new }
@@ -171,7 +170,7 @@ fn parts_of<D: Disk + Send + Drop, E: Threads + Wait + Sync>(
 ) -> Result<Gathering<u64, D>, Whole>
     ensures { IfOk result (λ parts. AreOfPhase (D.keeps parts.flusher.pen.disk) parts.live parts.seats.items parts.flusher) }
 {
-    match crew(rt, alloc, vault, source, &Open) {
+    match crew(rt, alloc, vault, source, &OpenGate) {
         Ok(_) => Err(Whole::Settled),
         Err(CrewFault::Gather(parts)) => Ok(parts),
         Err(CrewFault::Share(_, _)) => Err(Whole::Unbegun),
@@ -228,7 +227,7 @@ fn is_prefix(
     disk: &RamDisk,
     choice: &Choice,
     settled: u64,
-    told: &Told,
+    told: &Heard,
 ) -> Result<bool, Fail> {
     let image = disk.image(choice)?;
     let records = scan::<u64>(alloc, image.as_slice())?.records;

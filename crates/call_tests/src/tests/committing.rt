@@ -27,6 +27,8 @@ impl<'a, D: Disk> Disk for Counting<'a, D> {
 
     ghost reads_an_image = { λ disk model. D.reads_an_image disk.inner model };
 
+    ghost reads_bytes = { λ disk model. D.reads_bytes disk.inner model };
+
     fn len(&mut self) -> Result<u64, DiskFault> {
         self.inner.len()
     }

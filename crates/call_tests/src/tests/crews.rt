@@ -4,27 +4,13 @@ ghost use Rattle.std.specs.Prelude.{◌≡◌, ◌+◌, ◌*◌, ◌^◌, ◌∷
 
 use block_core::{Fresh, FreshFault};
 use book_core::{GrowFault, Receipt};
-use crew_core::{Crewed, Gate, Source, crew};
+use crew_core::{Crewed, Gate, OpenGate, Source, crew};
 use disk_core::RamDisk;
 use segment_core::Format;
 use std::alloc::Global;
 use std::sync::Wait;
 use std::thread::Threads;
 use vault_core::Vault;
-
-/// A gate that lets all pass.
-#[derive(Drop)]
-pub(super) struct Open;
-
-impl Gate for Open {
-    ghost may_stop = { λ _ _ _. ⊥ };
-
-    fn before(&self, _grower: u16, _k: u32) -> bool {
-        true
-    }
-
-    fn after(&self, _grower: u16, _receipt: &Receipt) {}
-}
 
 /// For each of some growers as many growths of one record, which tells grower and number.
 #[derive(Drop)]
@@ -118,7 +104,7 @@ fn sum_of_crew<E: Threads + Wait + Sync>(
     growers: u16,
     count: u32,
 ) -> Option<Sum> {
-    let crewed = grow(rt, alloc, &Named { growers, count }, &Open)?;
+    let crewed = grow(rt, alloc, &Named { growers, count }, &OpenGate)?;
     Some(sum_of(&crewed))
 }
 
@@ -207,7 +193,7 @@ impl Source<u64> for Exhausted {
 
 /// What growers make of which the second runs out of memory, and whether it alone has the fault.
 fn sum_of_exhausted<E: Threads + Wait + Sync>(rt: &E, alloc: Global) -> Option<(Sum, bool)> {
-    let crewed = grow(rt, alloc, &Exhausted, &Open)?;
+    let crewed = grow(rt, alloc, &Exhausted, &OpenGate)?;
     let faults = [None, Some(GrowFault::Memory), None];
     let same = crewed.faults.as_slice() == faults.as_slice();
     Some((sum_of(&crewed), same))

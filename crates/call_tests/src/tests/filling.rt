@@ -14,11 +14,11 @@ const TURNS: u64 = 100_000_000;
 
 /// Squares that count how often they touch.
 #[derive(Drop)]
-struct Counted {
+struct CountedSquares {
     touches: AtomicU64,
 }
 
-impl Touch<u64> for Counted {
+impl Touch<u64> for CountedSquares {
     ghost one = { λ _ at _. at * at };
 
     fn one(&self, at: u64, _r: u64) -> u64 {
@@ -63,7 +63,7 @@ fn touches_of<E: Threads + AllocGlobal + Sync>(rt: &E, n: usize, part: usize) ->
     requires some { 0 < part }
     requires small { n ≤ 2 ^ 32 }
 {
-    let counted = Counted {
+    let counted = CountedSquares {
         touches: AtomicU64::new(0),
     };
     let mut records = Vec::from_elem(rt.alloc(), 0, n)?;

@@ -129,6 +129,19 @@ fn read_each(live: &Live<u64>, seat: &mut Seat<u64>) -> ([Option<u64>; 4], [u64;
     ([zeroth, first, second, third], [pieces, behind])
 }
 
+/// These sizes, and what the first seat then reads.
+fn meet_and_read<E: Wait>(
+    rt: &E,
+    live: &Live<u64>,
+    first: &mut Seat<u64>,
+    second: &mut Seat<u64>,
+) -> Option<([u64; 4], ([Option<u64>; 4], [u64; 2]))>
+    requires { IsSeatOf live.now first.old × IsSeatOf live.now second.old }
+{
+    let sizes = meet_after_two(rt, live, first, second)?;
+    Some((sizes, read_each(live, first)))
+}
+
 /// The same by the seats of a book.
 fn meet_of_two<E: Wait>(rt: &E, alloc: Global) -> Option<([u64; 4], ([Option<u64>; 4], [u64; 2]))> {
     let Two {
@@ -136,10 +149,7 @@ fn meet_of_two<E: Wait>(rt: &E, alloc: Global) -> Option<([u64; 4], ([Option<u64
         mut first,
         mut second,
     } = begin_two(alloc, 8)?;
-    match meet_after_two(rt, &live, &mut first, &mut second) {
-        Some(sizes) => Some((sizes, read_each(&live, &mut first))),
-        None => None,
-    }
+    meet_and_read(rt, &live, &mut first, &mut second)
 }
 
 #[test]
@@ -185,11 +195,18 @@ fn records_of(alloc: Global, live: &Live<u64>, seat: &mut Seat<u64>) -> Option<V
 }
 
 /// Whether a snapshot then has just these.
+fn appends_seven<E: Wait>(rt: &E, alloc: Global, live: &Live<u64>, seat: Seat<u64>) -> Option<bool>
+    requires { IsSeatOf live.now seat }
+{
+    let mut seat = append_seven(rt, alloc, live, seat)?;
+    let records = records_of(alloc, live, &mut seat)?;
+    Some(records.as_slice() == [0, 1, 2, 3, 4, 5, 6].as_slice())
+}
+
+/// The same by the first seat of a book.
 fn has_seven<E: Wait>(rt: &E, alloc: Global) -> Option<bool> {
     let Two { live, first, .. } = begin_two(alloc, 8)?;
-    let mut seat = append_seven(rt, alloc, &live, first)?;
-    let records = records_of(alloc, &live, &mut seat)?;
-    Some(records.as_slice() == [0, 1, 2, 3, 4, 5, 6].as_slice())
+    appends_seven(rt, alloc, &live, first)
 }
 
 #[test]

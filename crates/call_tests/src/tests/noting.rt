@@ -4,7 +4,7 @@ use disk_core::{Disk, DiskFault};
 
 /// What a disk was asked.
 #[derive(Clone, Copy)]
-pub(super) struct Notes {
+pub(super) struct Noted {
     pub(super) syncs: u64,
     pub(super) lengths: u64,
     pub(super) reads: u64,
@@ -21,13 +21,13 @@ pub(super) struct Notes {
 #[derive(Drop)]
 pub(super) struct NotingDisk<D: Disk> {
     inner: D,
-    notes: Notes,
+    noted: Noted,
 }
 
 impl<D: Disk> NotingDisk<D> {
     /// A disk that was asked nothing so far.
     pub(super) fn new(inner: D) -> NotingDisk<D> {
-        let notes = Notes {
+        let noted = Noted {
             syncs: 0,
             lengths: 0,
             reads: 0,
@@ -36,11 +36,11 @@ impl<D: Disk> NotingDisk<D> {
             end: 0,
             in_turn: true,
         };
-        NotingDisk { inner, notes }
+        NotingDisk { inner, noted }
     }
 
-    pub(super) fn notes(&self) -> Notes {
-        self.notes
+    pub(super) fn noted(&self) -> Noted {
+        self.noted
     }
 }
 
@@ -53,26 +53,28 @@ impl<D: Disk> Disk for NotingDisk<D> {
 
     ghost reads_an_image = { λ disk model. D.reads_an_image disk.inner model };
 
+    ghost reads_bytes = { λ disk model. D.reads_bytes disk.inner model };
+
     fn len(&mut self) -> Result<u64, DiskFault> {
-        self.notes.lengths = self.notes.lengths.saturating_add(1);
+        self.noted.lengths = self.noted.lengths.saturating_add(1);
         self.inner.len()
     }
 
     fn read_at(&mut self, at: u64, out: &mut [u8]) -> Result<(), DiskFault> {
-        self.notes.reads = self.notes.reads.saturating_add(1);
-        self.notes.longest = self.notes.longest.max(out.len());
-        self.notes.in_turn = self.notes.in_turn && at == self.notes.end;
-        self.notes.end = at.saturating_add(out.len() as u64);
+        self.noted.reads = self.noted.reads.saturating_add(1);
+        self.noted.longest = self.noted.longest.max(out.len());
+        self.noted.in_turn = self.noted.in_turn && at == self.noted.end;
+        self.noted.end = at.saturating_add(out.len() as u64);
         self.inner.read_at(at, out)
     }
 
     fn write_at(&mut self, at: u64, bytes: &[u8]) -> Result<(), DiskFault> {
-        self.notes.writes = self.notes.writes.saturating_add(1);
+        self.noted.writes = self.noted.writes.saturating_add(1);
         self.inner.write_at(at, bytes)
     }
 
     fn sync(&mut self) -> Result<(), DiskFault> {
-        self.notes.syncs = self.notes.syncs.saturating_add(1);
+        self.noted.syncs = self.noted.syncs.saturating_add(1);
         self.inner.sync()
     }
 }

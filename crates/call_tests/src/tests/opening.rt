@@ -1,6 +1,6 @@
 //! Which calls of the disk an opening makes.
 
-use super::noting::{Notes, NotingDisk};
+use super::noting::{Noted, NotingDisk};
 use disk_core::RamDisk;
 use pen_core::Pen;
 use std::alloc::Global;
@@ -20,12 +20,12 @@ fn file_of(alloc: Global, len: usize) -> Option<Vec<u8>> {
 }
 
 /// Whether the file has that record, and the calls that opening it makes.
-fn calls_of(alloc: Global, file: Vec<u8>) -> Option<(bool, Notes)> {
+fn calls_of(alloc: Global, file: Vec<u8>) -> Option<(bool, Noted)> {
     let disk = NotingDisk::new(RamDisk::from_bytes(alloc, file));
     match Pen::open::<u64>(alloc, disk) {
         Ok((pen, records)) => Some((
             records.as_slice() == [5].as_slice(),
-            pen.into_disk().notes(),
+            pen.into_disk().noted(),
         )),
         Err(_) => None,
     }
@@ -35,9 +35,9 @@ fn calls_of(alloc: Global, file: Vec<u8>) -> Option<(bool, Notes)> {
 #[test]
 fn a_file_is_read_in_pieces_of_4_kib_in_turn(rt: HostRuntime) -> Result<(), Fail> {
     let file = file_of(rt.alloc(), 4_097).ok_or("memory")?;
-    let (has_record, notes) = calls_of(rt.alloc(), file).ok_or("not opened")?;
-    let counts = [notes.syncs, notes.lengths, notes.writes];
-    let reads = notes.reads <= 2 && notes.longest <= 4_096 && notes.in_turn;
+    let (has_record, asked) = calls_of(rt.alloc(), file).ok_or("not opened")?;
+    let counts = [asked.syncs, asked.lengths, asked.writes];
+    let reads = asked.reads <= 2 && asked.longest <= 4_096 && asked.in_turn;
     assert_eq!(rt; (has_record, counts, reads), (true, [1, 1, 0], true));
     Ok(())
 }

@@ -2,9 +2,9 @@
 
 ghost use Rattle.std.specs.Prelude.{◌+◌, ◌*◌, ◌%◌, ◌^◌};
 
-use super::crews::{Open, new_vault};
+use super::crews::new_vault;
 use block_core::Touch;
-use crew_core::{Lists, crew};
+use crew_core::{Lists, OpenGate, crew};
 use disk_core::RamDisk;
 use record_core::Flagged;
 use std::alloc::{AllocError, Global};
@@ -91,7 +91,7 @@ fn first_of<E: Threads + Wait + Sync>(
     source: &Lists<'_, Flagged>,
 ) -> Option<Flagged> {
     let vault = Vault::<Flagged, RamDisk>::create(alloc, RamDisk::new(alloc)).ok()?;
-    let crewed = crew(rt, alloc, vault, source, &Open).ok()?;
+    let crewed = crew(rt, alloc, vault, source, &OpenGate).ok()?;
     crewed.vault.get(0).copied()
 }
 

@@ -20,7 +20,7 @@ const ROUNDS: u64 = 20;
 
 /// A phase with one seat, and who commits its growths.
 #[derive(Drop)]
-struct Served<D: Disk> {
+struct OneSeat<D: Disk> {
     live: Live<u64>,
     seat: Seat<u64>,
     flusher: Flusher<u64, D>,
@@ -29,7 +29,7 @@ struct Served<D: Disk> {
 }
 
 /// A phase over a new file.
-fn begin<D: Disk + Drop>(alloc: Global, disk: D) -> Option<Served<D>> {
+fn begin<D: Disk + Drop>(alloc: Global, disk: D) -> Option<OneSeat<D>> {
     let Ok(vault) = Vault::<u64, D>::create(alloc, disk) else {
         return None;
     };
@@ -37,7 +37,7 @@ fn begin<D: Disk + Drop>(alloc: Global, disk: D) -> Option<Served<D>> {
         return None;
     };
     let seat = live.take_seat(&mut seats)?;
-    Some(Served {
+    Some(OneSeat {
         live,
         seat,
         flusher,
@@ -114,9 +114,9 @@ fn serve<D: Disk + Drop, E: Wait>(rt: &E, live: &Live<u64>, flusher: Flusher<u64
 /// What two threads come to, of which one commits what the other grows.
 fn serve_and_grow<D: Disk + Send + Drop, E: Threads + Wait + Clock + Sync>(
     rt: &E,
-    served: Served<D>,
+    served: OneSeat<D>,
 ) -> (Option<u64>, u64) {
-    let Served {
+    let OneSeat {
         live,
         seat,
         flusher,

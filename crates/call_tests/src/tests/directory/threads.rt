@@ -12,13 +12,13 @@ use std::thread::Threads;
 
 /// Where two threads begin together.
 #[derive(Drop)]
-struct Gate {
+struct Meeting {
     here: AtomicU64,
 }
 
-impl Gate {
-    fn new() -> Gate {
-        Gate {
+impl Meeting {
+    fn new() -> Meeting {
+        Meeting {
             here: AtomicU64::new(0),
         }
     }
@@ -61,7 +61,7 @@ fn put_beside(
 fn grow_as(
     alloc: Global,
     directory: &Directory<u64>,
-    gate: &Gate,
+    gate: &Meeting,
     seat: u64,
     count: u64,
 ) -> Option<Pass<u64>>
@@ -89,7 +89,7 @@ fn grow_by_two<E: Threads + Sync>(
 ) -> Option<(Pass<u64>, Pass<u64>)>
     ensures { IfSome result (λ passes. (passes.0.of ≡ directory.now) × (passes.1.of ≡ directory.now)) }
 {
-    let gate = Gate::new();
+    let gate = Meeting::new();
     let shared = &gate;
     let (one, other) = thread::join(
         rt,

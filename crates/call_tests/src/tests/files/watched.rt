@@ -14,14 +14,14 @@ use std::sync::atomic::{AtomicU64, Ordering};
 /// Files that hold nothing. The path `links/link` is a link to `/deep/target`. How often one folder is synced is
 /// counted; it may fail each time.
 #[derive(Drop)]
-struct Watch<'a> {
+struct CountedFiles<'a> {
     folder: &'a str,
     fails: bool,
     syncs: &'a AtomicU64,
 }
 
 #[derive(Drop)]
-struct Watched<'a> {
+struct CountedFile<'a> {
     is_folder: bool,
     fails: bool,
     syncs: &'a AtomicU64,
@@ -33,20 +33,20 @@ fn unsupported<T>() -> io::Result<T>
     Err(io::ErrorKind::Unsupported.into())
 }
 
-impl<'a> Files for Watch<'a> {
-    type File = Watched<'a>;
+impl<'a> Files for CountedFiles<'a> {
+    type File = CountedFile<'a>;
 
-    type Dir = Watched<'a>;
+    type Dir = CountedFile<'a>;
 
-    fn open_file(&self, _how: &OpenOptions, path: &str) -> io::Result<Watched<'a>> {
-        Ok(Watched {
+    fn open_file(&self, _how: &OpenOptions, path: &str) -> io::Result<CountedFile<'a>> {
+        Ok(CountedFile {
             is_folder: path == self.folder,
             fails: self.fails,
             syncs: self.syncs,
         })
     }
 
-    fn open_dir(&self, _path: &str) -> io::Result<Watched<'a>> {
+    fn open_dir(&self, _path: &str) -> io::Result<CountedFile<'a>> {
         unsupported()
     }
 
@@ -91,7 +91,7 @@ impl<'a> Files for Watch<'a> {
     }
 }
 
-impl OpenFile for Watched<'_> {
+impl OpenFile for CountedFile<'_> {
     fn metadata(&self) -> io::Result<Metadata> {
         Ok(Metadata::of_file(0))
     }
@@ -115,7 +115,7 @@ impl OpenFile for Watched<'_> {
     }
 }
 
-impl FileExt for Watched<'_> {
+impl FileExt for CountedFile<'_> {
     fn read_at(&self, _buf: &mut [u8], _offset: u64) -> io::Result<usize> {
         unsupported()
     }
@@ -125,13 +125,13 @@ impl FileExt for Watched<'_> {
     }
 }
 
-impl Read for Watched<'_> {
+impl Read for CountedFile<'_> {
     fn read(&mut self, _buf: &mut [u8]) -> io::Result<usize> {
         unsupported()
     }
 }
 
-impl Write for Watched<'_> {
+impl Write for CountedFile<'_> {
     fn write(&mut self, _buf: &[u8]) -> io::Result<usize> {
         unsupported()
     }
@@ -141,7 +141,7 @@ impl Write for Watched<'_> {
     }
 }
 
-impl Seek for Watched<'_> {
+impl Seek for CountedFile<'_> {
     fn seek(&mut self, _to: SeekFrom) -> io::Result<u64> {
         unsupported()
     }
@@ -155,7 +155,7 @@ fn make_watched(
     fails: bool,
 ) -> (u64, Option<io::ErrorKind>) {
     let syncs = AtomicU64::new(0);
-    let watch = Watch {
+    let watch = CountedFiles {
         folder,
         fails,
         syncs: &syncs,

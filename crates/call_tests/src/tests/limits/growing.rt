@@ -26,7 +26,7 @@ fn nearly_fill<E: Wait>(
 
 /// What growths are told that would pass the limit, that come to it, and that come behind it.
 #[derive(Clone, Copy, Debug, PartialEq, Eq)]
-struct Told {
+struct AtLimit {
     past: Option<GrowFault>,
     /// Number, start and length.
     last: Option<[u64; 3]>,
@@ -37,7 +37,7 @@ struct Told {
 }
 
 /// Grows past the limit, to it, and behind it.
-fn grow_past<E: Wait>(rt: &E, live: &Live<Nought>, seat: &mut Seat<Nought>) -> Option<Told>
+fn grow_past<E: Wait>(rt: &E, live: &Live<Nought>, seat: &mut Seat<Nought>) -> Option<AtLimit>
     requires { IsSeatOf live.now seat.old }
 {
     nearly_fill(rt, live, seat).ok()?;
@@ -48,7 +48,7 @@ fn grow_past<E: Wait>(rt: &E, live: &Live<Nought>, seat: &mut Seat<Nought>) -> O
     let least = live
         .grow_to_at_least(rt, seat, RECORD_LIMIT + 1, Nought)
         .err();
-    Some(Told {
+    Some(AtLimit {
         past,
         last: last.map(|receipt| [receipt.number, receipt.start, receipt.len]),
         one,
@@ -58,7 +58,7 @@ fn grow_past<E: Wait>(rt: &E, live: &Live<Nought>, seat: &mut Seat<Nought>) -> O
 }
 
 /// The same by the seat of a new book.
-fn grow_to_the_limit<E: Wait>(rt: &E, alloc: Global) -> Option<Told> {
+fn grow_to_the_limit<E: Wait>(rt: &E, alloc: Global) -> Option<AtLimit> {
     match Live::<Nought>::begin(alloc, Vec::new(alloc), 4_098, 1) {
         Ok(
             Begun {
@@ -77,7 +77,7 @@ fn grow_to_the_limit<E: Wait>(rt: &E, alloc: Global) -> Option<Told> {
 #[test]
 fn a_growth_past_the_limit_is_too_long(rt: HostRuntime) {
     let told = grow_to_the_limit(&rt, rt.alloc());
-    let want = Told {
+    let want = AtLimit {
         past: Some(GrowFault::TooLong),
         last: Some([4_096, 4_294_934_528, 32_768]),
         one: Some(GrowFault::TooLong),
