@@ -1,0 +1,3 @@
+mod LogLeft
+mod GoesOnLemmas
+mod Worked

@@ -1,0 +1,21 @@
+-- Who commits for all threads of a phase.
+use Rattle.std.specs.Prelude.{ℕ, ◌==◌, List, [], if◌then◌else◌}
+use Rattle.std.specs.Arc.{arc_value}
+use Rattle.book_core.specs.Lists.{Phase}
+use Rattle.disk_core.specs.declared.disk.Disk.{Ghosts}
+use Rattle.relay_core.specs.declared.call.Call.{Call}
+use Rattle.relay_core.specs.declared.relay_disk.RelayDisk.{RelayDisk}
+use Rattle.phase_core.specs.declared.committer.Committer.{Committer}
+
+module _ {D : Type 0} {disk : Ghosts D} where
+  -- the phase that it is of
+  abbrev pub phase_of : Committer D disk → Phase ℕ
+  phase_of committer = arc_value committer.live
+
+  -- the disk that lists its calls
+  abbrev pub disk_of : Committer D disk → RelayDisk D disk
+  disk_of committer = committer.flusher.pen.disk
+
+  -- the calls that the host hasn't made: those of the list, if it began behind those that it has made
+  abbrev pub calls_of : Committer D disk → List Call
+  calls_of committer = if committer.flusher.pen.disk.from == committer.made then committer.flusher.pen.disk.calls.items else []

@@ -1,0 +1,4 @@
+pub mod Grower
+pub mod Committing
+pub mod Committer
+pub mod Host

@@ -1,0 +1,153 @@
+//! Who commits for all threads of a phase.
+
+ghost use Rattle.std.specs.Prelude.{◌≡◌, ◌+◌, None, IsNone, IfOk, IfErr, IfSome, OnOk, MatchResult};
+ghost use Rattle.std.specs.Arc.{arc_value};
+ghost use Rattle.std.specs.Int.{w64};
+ghost use Rattle.disk_core.specs.Moments.{clock};
+ghost use Rattle.record_core.specs.Bytes.{unsigned};
+ghost use Rattle.flush_core.specs.Flusher.{IsFlusherOf, ToldIsLeft};
+ghost use Rattle.relay_core.specs.Listed.{LeadTo};
+ghost use Rattle.phase_core.specs.Committing.{GoesOn, IsCallFault, IsUnplanned};
+
+use book_core::Live;
+use disk_core::Disk;
+use flush_core::{FlushFault, Flusher, Lane, Tick};
+use relay_core::{Call, RelayDisk};
+use std::alloc::Global;
+use std::sync::Arc;
+
+/// Who commits for all threads of a phase. It makes no call of the file: it lists them, a host makes them, and then it tells
+/// the growers what is durable. One thread at a time uses it.
+#[derive(Drop)]
+pub struct Committer<D: Disk> {
+    live: Arc<Live<u64>, Global>,
+    flusher: Flusher<u64, RelayDisk<D>>,
+    /// The moment of the disk up to which the host has made its calls.
+    made: u64,
+    ghost of: { IsFlusherOf (D.keeps flusher.pen.disk.inner) (arc_value live) flusher },
+}
+
+/// Makes the calls of the job in hand.
+fn settle_job<D: Disk>(flusher: &mut Flusher<u64, RelayDisk<D>>) -> Result<(), FlushFault>
+    ensures goes_on { GoesOn (λ disk. D.keeps disk.inner) flusher.old flusher.new }
+    ensures taken { flusher.new.taken ≡ flusher.old.taken }
+    ensures idle { OnOk result (flusher.new.pen.job ≡ None) }
+    ensures refused { IfErr result IsCallFault }
+{
+    while flusher.tick(Lane::Log)? == Tick::Step {}
+    Ok(())
+}
+
+/// Begins to commit the next growths that it knows, and answers how many.
+fn take<D: Disk>(
+    flusher: &mut Flusher<u64, RelayDisk<D>>,
+    live: &Live<u64>,
+) -> Result<u64, FlushFault>
+    requires { IsFlusherOf (D.keeps flusher.old.pen.disk.inner) live.now flusher.old }
+    ensures goes_on { GoesOn (λ disk. D.keeps disk.inner) flusher.old flusher.new }
+    ensures taken { MatchResult result
+        (λ count. flusher.new.taken ≡ flusher.old.taken + count)
+        (λ _. flusher.new.taken ≡ flusher.old.taken) }
+{
+    flusher.take_group(live)
+}
+
+/// Learns what was grown.
+fn learn<D: Disk>(
+    flusher: &mut Flusher<u64, RelayDisk<D>>,
+    live: &Live<u64>,
+) -> Result<(), FlushFault>
+    requires { IsFlusherOf (D.keeps flusher.old.pen.disk.inner) live.now flusher.old }
+    ensures goes_on { GoesOn (λ disk. D.keeps disk.inner) flusher.old flusher.new }
+    ensures of { IsFlusherOf (D.keeps flusher.new.pen.disk.inner) live.now flusher.new }
+    ensures taken { flusher.new.taken ≡ flusher.old.taken }
+{
+    flusher.look(live)?;
+    Ok(())
+}
+
+/// Learns what was grown, and commits the next growths.
+fn commit<D: Disk>(
+    flusher: &mut Flusher<u64, RelayDisk<D>>,
+    live: &Live<u64>,
+) -> Result<u64, FlushFault>
+    requires { IsFlusherOf (D.keeps flusher.old.pen.disk.inner) live.now flusher.old }
+    ensures goes_on { GoesOn (λ disk. D.keeps disk.inner) flusher.old flusher.new }
+    ensures taken { IfOk result (λ count. flusher.new.taken ≡ flusher.old.taken + count) }
+    ensures idle { OnOk result (flusher.new.pen.job ≡ None) }
+    ensures refused { IfErr result (λ fault. IsUnplanned fault flusher.old flusher.new) }
+{
+    learn(flusher, live)?;
+    let count = take(flusher, live)?;
+    settle_job(flusher)?;
+    Ok(count)
+}
+
+impl<D: Disk> Committer<D> {
+    ghost use Rattle.phase_core.specs.Committer.{phase_of, disk_of, calls_of};
+
+    pub(crate) fn new(
+        live: Arc<Live<u64>, Global>,
+        flusher: Flusher<u64, RelayDisk<D>>,
+    ) -> Committer<D>
+        requires { IsFlusherOf (D.keeps flusher.pen.disk.inner) (arc_value live) flusher }
+        ensures parts { (phase_of result ≡ arc_value live) × (result.flusher ≡ flusher) }
+        ensures made { result.made ≡ 1 }
+    {
+        Committer {
+            live,
+            flusher,
+            made: 1,
+        }
+    }
+
+    /// Lists the calls that commit what was grown, and answers how many growths they commit: as many as one payload holds.
+    /// Refused as the flusher is: `Strayed`; `Pen(FileFull)` and `Pen(Memory)`, after which it may be called again;
+    /// `Pen(Broken)` and `Pen(Disk)`, where a call has failed.
+    pub fn plan(&mut self) -> Result<u64, FlushFault>
+        ensures phase { phase_of self.new ≡ phase_of self.old }
+        ensures goes_on { GoesOn (λ disk. D.keeps disk.inner) self.old.flusher self.new.flusher }
+        ensures taken { IfOk result (λ count. self.new.flusher.taken ≡ self.old.flusher.taken + count) }
+        ensures idle { OnOk result (self.new.flusher.pen.job ≡ None) }
+        ensures made { self.new.made ≡ self.old.made }
+        ensures refused { IfErr result (λ fault. IsUnplanned fault self.old.flusher self.new.flusher) }
+    {
+        commit(&mut self.flusher, &self.live)
+    }
+
+    /// The calls that the host is to make, in order: those that lead from the file as the host has made it to the file as it
+    /// is to be. `None` where one of them was lost: then nothing more can be committed.
+    pub fn calls(&self) -> Option<&[Call]>
+        ensures are { IfSome result (λ calls. calls.now ≡ calls_of self.now) }
+        ensures lead { IfSome result (λ calls.
+            D.keeps (disk_of self.now).inner → LeadTo (D.states (disk_of self.now).inner) self.now.made calls.now) }
+    {
+        let disk = self.flusher.disk();
+        if disk.from() == self.made {
+            return disk.calls();
+        }
+        if disk.moment()? == self.made {
+            return Some(&[]);
+        }
+        None
+    }
+
+    /// The host has made the calls, and each has succeeded: tells the growers what is durable, and answers how many growths
+    /// are. Whatever a crash leaves from then on opens to so many growths at least. `None` where a call was lost.
+    pub fn settle(&mut self) -> Option<u64>
+        ensures phase { phase_of self.new ≡ phase_of self.old }
+        ensures made { IfSome result (λ _. self.new.made ≡ clock (D.states (disk_of self.new).inner)) }
+        ensures told { IfSome result (λ count. (count ≡ self.old.flusher.settled) × (self.new.flusher.mark.told.count ≡ count)) }
+        ensures left { D.keeps (disk_of self.new).inner
+            → ToldIsLeft (unsigned w64) (D.states (disk_of self.new).inner) self.new.flusher self.new.flusher.mark.raises }
+        ensures lost { IsNone result → (self.new.flusher ≡ self.old.flusher) × (self.new.made ≡ self.old.made) }
+    {
+        let moment = self.flusher.disk().moment()?;
+        self.flusher.disk().finish();
+        self.made = moment;
+        let count = self.flusher.raise(&self.live);
+        // What the mark told stands.
+        let _disk = self.flusher.disk();
+        Some(count)
+    }
+}

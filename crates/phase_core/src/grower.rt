@@ -1,0 +1,81 @@
+//! A thread's own end of a phase.
+
+ghost use Rattle.std.specs.Prelude.{◌≡◌, ◌≤◌, ◌⊎◌, length, take, drop, OnOk, IfErr, MatchResult};
+ghost use Rattle.std.specs.Arc.{arc_value};
+ghost use Rattle.book_core.specs.Lists.{IsSeatOf};
+ghost use Rattle.book_core.specs.Growing.{GrowsBy, IsCopiesRefusal, IsLookFault, SeatIsTold, SeatLearns};
+
+use block_core::Fresh;
+use book_core::{GrowFault, Live, MarkState, Receipt, Seat};
+use std::alloc::Global;
+use std::sync::Arc;
+
+/// A thread's own end of a phase. It lives as long as its phase, which it keeps: the last end that is dropped ends it.
+#[derive(Drop)]
+pub struct Grower {
+    live: Arc<Live<u64>, Global>,
+    seat: Seat<u64>,
+    ghost of: { IsSeatOf (arc_value live) seat },
+}
+
+impl Grower {
+    ghost use Rattle.phase_core.specs.Grower.{phase_of, list_of, Copies};
+
+    pub(crate) fn new(live: Arc<Live<u64>, Global>, seat: Seat<u64>) -> Grower
+        requires { IsSeatOf (arc_value live) seat }
+        ensures { (phase_of result ≡ arc_value live) × (result.seat ≡ seat) }
+    {
+        Grower { live, seat }
+    }
+
+    /// Grows by copies of the records, as one block behind all that was grown before. `Strayed` where another growth came
+    /// first: the seat knows that one then, and the call may be made again.
+    pub fn try_grow(&mut self, alloc: Global, records: &[u64]) -> Result<Receipt, GrowFault>
+        ensures phase { phase_of self.new ≡ phase_of self.old }
+        ensures grown { GrowsBy (phase_of self.old) self.old.seat self.new.seat records.now result }
+        ensures refused { IfErr result (IsCopiesRefusal 8 (phase_of self.old) self.new.seat (length records.now)) }
+    {
+        let fresh = Fresh::from_slice(alloc, records)?;
+        match self.live.try_grow(&mut self.seat, fresh) {
+            Ok(receipt) => Ok(receipt),
+            Err((_, fault)) => Err(fault),
+        }
+    }
+
+    /// How many growths are durable, and whether more may be. For a grower no count falls.
+    pub fn settled(&mut self) -> (u64, MarkState)
+        ensures phase { phase_of self.new ≡ phase_of self.old }
+        ensures told { SeatIsTold self.old.seat self.new.seat result.0 result.1 }
+    {
+        self.live.settled(&mut self.seat)
+    }
+
+    /// Learns what others grew, and answers how many records there are. `Strayed` names a growth that is none of the phase.
+    pub fn look(&mut self) -> Result<u64, GrowFault>
+        ensures phase { phase_of self.new ≡ phase_of self.old }
+        ensures learns { SeatLearns self.old.seat self.new.seat }
+        ensures size { MatchResult result
+            (λ size. size ≡ length (list_of self.new))
+            (IsLookFault self.new.seat) }
+    {
+        self.live.look(&mut self.seat)?;
+        Ok(self.live.size(&self.seat))
+    }
+
+    /// Copies records from position `from` on to the front of `out`, and answers how many: as many as stand in one piece
+    /// there, at least one where it knows one there and `out` has room.
+    pub fn read(&mut self, from: u64, out: &mut [u64]) -> usize
+        ensures same { self.new ≡ self.old }
+        ensures copies { Copies (list_of self.old) from out.old out.new result }
+        ensures some { (result ≡ 0) → (length (list_of self.old) ≤ from) ⊎ (length out.old ≡ 0) }
+    {
+        match self.live.piece(&mut self.seat, from) {
+            Some(piece) => {
+                let count = piece.len().min(out.len());
+                out[..count].copy_from_slice(&piece[..count]);
+                count
+            }
+            None => 0,
+        }
+    }
+}

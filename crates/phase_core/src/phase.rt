@@ -1,0 +1,136 @@
+//! A phase over a file whose calls a host makes.
+
+ghost use Rattle.std.specs.Prelude.{◌≡◌, [], length, IfOk, IfErr, IfSome, OnOk};
+ghost use Rattle.std.specs.Arc.{arc_value};
+ghost use Rattle.std.specs.Int.{w64};
+ghost use Rattle.record_core.specs.Bytes.{unsigned};
+ghost use Rattle.disk_core.specs.FileDisk.{KeepsSoFar};
+ghost use Rattle.directory_core.specs.Limits.{growth_limit};
+ghost use Rattle.pen_core.specs.Births.{IsExisting};
+ghost use Rattle.pen_core.specs.Opening.{IsOpened};
+ghost use Rattle.book_core.specs.Lists.{opening_of};
+ghost use Rattle.book_core.specs.Beginning.{AreNewSeats, IsNewSeat, MayBegin};
+ghost use Rattle.flush_core.specs.Flusher.{IsFlusherOf};
+
+use crate::committer::Committer;
+use crate::grower::Grower;
+use crate::host::{HostDisk, host_disk};
+use book_core::{Live, Seat};
+use directory_core::GROWTH_LIMIT;
+use flush_core::Flusher;
+use pen_core::{OpenFault, PenFault};
+use relay_core::RelayDisk;
+use segment_core::Format;
+use std::alloc::Global;
+use std::sync::Arc;
+use vault_core::{Vault, VaultFault};
+
+/// A phase, and the seats that nobody has.
+#[derive(Drop)]
+pub struct Phase {
+    live: Arc<Live<u64>, Global>,
+    seats: Vec<Seat<u64>>,
+    ghost seated: { AreNewSeats (arc_value live).directory (arc_value live).mark seats.items },
+}
+
+/// Why no phase is begun.
+#[derive(Clone, Copy)]
+pub enum BeginFault {
+    /// As a new file is refused, or a phase over a file.
+    Pen(PenFault),
+    /// As a file that is there is refused.
+    Open(OpenFault),
+}
+
+/// One phase for all its ends.
+fn shared(
+    alloc: Global,
+    live: Live<u64>,
+    flusher: Flusher<u64, RelayDisk<HostDisk>>,
+    seats: Vec<Seat<u64>>,
+) -> Result<(Phase, Committer<HostDisk>), BeginFault>
+    requires of { IsFlusherOf (KeepsSoFar flusher.pen.disk.inner) live flusher }
+    requires seated { AreNewSeats live.directory live.mark seats.items }
+    ensures phase { IfOk result (λ r. (arc_value r.0.live ≡ live) × (arc_value r.1.live ≡ live)) }
+    ensures flusher { IfOk result (λ r. r.1.flusher ≡ flusher) }
+    ensures refused { IfErr result (λ fault. fault ≡ BeginFault.Pen PenFault.Memory) }
+{
+    let Ok(live) = Arc::new(alloc, live) else {
+        return Err(BeginFault::Pen(PenFault::Memory));
+    };
+    let Ok(other) = live.clone() else {
+        return Err(BeginFault::Pen(PenFault::Memory));
+    };
+    Ok((Phase { live, seats }, Committer::new(other, flusher)))
+}
+
+/// Lends the vault to so many growers and to who commits.
+fn lend(
+    alloc: Global,
+    vault: Vault<u64, RelayDisk<HostDisk>>,
+    seats: u16,
+) -> Result<(Phase, Committer<HostDisk>), BeginFault>
+    ensures opening { IfOk result (λ r. (arc_value r.0.live).blocks ≡ vault.blocks) }
+    ensures one { IfOk result (λ r. arc_value r.1.live ≡ arc_value r.0.live) }
+    ensures disk { IfOk result (λ r. r.1.flusher.pen ≡ vault.pen) }
+    ensures begins { IfOk result (λ r. (r.1.flusher.settled ≡ 0) × (r.1.flusher.pass.entries ≡ [])) }
+    ensures may { OnOk result (MayBegin growth_limit seats) }
+{
+    match vault.share(GROWTH_LIMIT, seats) {
+        Ok((live, flusher, seats)) => shared(alloc, live, flusher, seats),
+        Err((_, VaultFault::Pen(fault))) => Err(BeginFault::Pen(fault)),
+        Err(_) => unreachable!(),
+    }
+}
+
+impl Phase {
+    /// A phase over a new file of that version, with so many seats: from 1 to 64. The file holds these bytes, none or what a
+    /// creation left that was stopped: `Exists` where they are more. Who commits lists the calls of its making first.
+    pub fn create(
+        alloc: Global,
+        bytes: Vec<u8>,
+        format: Format,
+        seats: u16,
+    ) -> Result<(Phase, Committer<HostDisk>), BeginFault>
+        ensures empty { IfOk result (λ r. (arc_value r.0.live).blocks ≡ []) }
+        ensures none_existed { IfOk result (λ r. KeepsSoFar r.1.flusher.pen.disk.inner → IsExisting bytes.items → ⊥) }
+        ensures one { IfOk result (λ r. arc_value r.1.live ≡ arc_value r.0.live) }
+        ensures begins { IfOk result (λ r. (r.1.flusher.settled ≡ 0) × (r.1.flusher.pass.entries ≡ [])) }
+        ensures may { OnOk result (MayBegin growth_limit seats) }
+    {
+        match Vault::create_as(alloc, host_disk(alloc, bytes), format) {
+            Ok(vault) => lend(alloc, vault, seats),
+            Err((_, fault)) => Err(BeginFault::Pen(fault)),
+        }
+    }
+
+    /// A phase over a file that holds these bytes, with so many seats: from 1 to 64. What the file has stands in it from
+    /// before. Who commits lists a sync first: what was read is durable from then on.
+    pub fn open(
+        alloc: Global,
+        bytes: Vec<u8>,
+        seats: u16,
+    ) -> Result<(Phase, Committer<HostDisk>), BeginFault>
+        ensures opened { IfOk result (λ r. KeepsSoFar r.1.flusher.pen.disk.inner
+            → IsOpened (unsigned w64) bytes.items r.1.flusher.pen (opening_of (arc_value r.0.live))) }
+        ensures one { IfOk result (λ r. arc_value r.1.live ≡ arc_value r.0.live) }
+        ensures begins { IfOk result (λ r. (r.1.flusher.settled ≡ 0) × (r.1.flusher.pass.entries ≡ [])) }
+        ensures may { OnOk result (MayBegin growth_limit seats) }
+    {
+        match Vault::open(alloc, host_disk(alloc, bytes)) {
+            Ok(vault) => lend(alloc, vault, seats),
+            Err((_, fault)) => Err(BeginFault::Open(fault)),
+        }
+    }
+
+    /// One more thread's end. `None` where each seat is taken, or there is no memory.
+    pub fn grower(&mut self) -> Option<Grower>
+        ensures phase { arc_value self.new.live ≡ arc_value self.old.live }
+        ensures seat { IfSome result (λ grower. (arc_value grower.live ≡ arc_value self.old.live)
+            × IsNewSeat (arc_value self.old.live).directory (arc_value self.old.live).mark (length self.new.seats.items) grower.seat) }
+    {
+        let live = self.live.clone().ok()?;
+        let seat = live.take_seat(&mut self.seats)?;
+        Some(Grower::new(live, seat))
+    }
+}
