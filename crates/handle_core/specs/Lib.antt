@@ -1,0 +1,4 @@
+pub mod Keeping
+pub mod Refusal
+pub mod Roles
+pub mod Handles

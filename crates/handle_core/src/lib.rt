@@ -1,0 +1,15 @@
+//! What C has of a vector that its threads grow: an end of a phase behind one pointer, by which a call finds it again.
+#![tactic(auto)]
+
+mod committer_calls;
+mod grower_calls;
+mod handle;
+mod kept;
+mod parts;
+mod phase_calls;
+mod refusal;
+mod session;
+
+pub use handle::Handle;
+pub use refusal::Refusal;
+pub use session::{Role, Session};

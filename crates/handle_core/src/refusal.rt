@@ -1,0 +1,83 @@
+//! Why a call is refused, in numbers.
+
+ghost use Rattle.std.specs.Prelude.{◌≡◌, ◌<◌};
+ghost use Rattle.handle_core.specs.Refusal.{code_of, of_growth};
+
+use book_core::GrowFault;
+
+/// Why a call is refused. The numbers are those of `cvec.h`, where it has them.
+#[derive(Clone, Copy)]
+pub enum Refusal {
+    /// The file has no vector: none was begun in it.
+    Unborn,
+    /// The file's bytes aren't those of a segment file.
+    NotSegment,
+    /// The file has a version that isn't known.
+    Version,
+    /// The file's records aren't of 8 bytes.
+    Width,
+    /// A frame of the file is at fault.
+    Damaged,
+    /// Memory was refused.
+    Memory,
+    /// A growth without a record.
+    Empty,
+    /// The vector would have more than 2^32 records.
+    OutOfRange,
+    /// The growth doesn't fit one frame; of a phase, the number of seats is 0 or past 64.
+    TooLarge,
+    /// The next gate would stand at 2^48 or past it.
+    FileFull,
+    /// The memory that was passed isn't as long as the call's bytes.
+    NoRoom,
+    /// Something is there already.
+    Exists,
+    /// A call of the file was lost or failed: nothing more can be committed.
+    Broken,
+    /// The handle has another end, or none; or no seat is left, or no call of that number.
+    NotSo,
+    /// Another growth came first: the call may be made again.
+    Again,
+    /// The phase has as many growths as it may have: a new one begins with the file.
+    Full,
+}
+
+impl Refusal {
+    /// Its number.
+    pub fn code(self) -> u32
+        ensures { (result ≡ code_of self) × (0 < result) }
+    {
+        match self {
+            Refusal::Unborn => 1,
+            Refusal::NotSegment => 2,
+            Refusal::Version => 3,
+            Refusal::Width => 4,
+            Refusal::Damaged => 5,
+            Refusal::Memory => 6,
+            Refusal::Empty => 7,
+            Refusal::OutOfRange => 8,
+            Refusal::TooLarge => 9,
+            Refusal::FileFull => 10,
+            Refusal::NoRoom => 11,
+            Refusal::Exists => 32,
+            Refusal::Broken => 34,
+            Refusal::NotSo => 64,
+            Refusal::Again => 65,
+            Refusal::Full => 66,
+        }
+    }
+
+    /// That of a growth.
+    pub(crate) fn of_growth(fault: GrowFault) -> Refusal
+        ensures { result ≡ of_growth fault }
+    {
+        match fault {
+            GrowFault::Closed | GrowFault::Full => Refusal::Full,
+            GrowFault::TooLong => Refusal::OutOfRange,
+            GrowFault::Strayed(_) => Refusal::Again,
+            GrowFault::Memory => Refusal::Memory,
+            GrowFault::Empty => Refusal::Empty,
+            GrowFault::TooLarge => Refusal::TooLarge,
+        }
+    }
+}
