@@ -1,0 +1,2 @@
+mod HandleLemmas
+mod Worked

@@ -1,0 +1,47 @@
+-- The calls of the file that C is to make.
+use Rattle.std.specs.Prelude.{◌≡◌, ℕ, List, length, slice_get, Some}
+use Rattle.disk_core.specs.FileDisk.{states_of, KeepsSoFar}
+use Rattle.relay_core.specs.declared.call.Call.{Call}
+use Rattle.relay_core.specs.declared.call.Call.TheVariants.{Write, Sync}
+use Rattle.relay_core.specs.Listed.{LeadTo}
+use Rattle.phase_core.specs.Committer.{calls_of}
+use Rattle.handle_core.specs.declared.session.Role.{Role}
+use Rattle.handle_core.specs.declared.session.Role.TheVariants as roles
+use Rattle.cvec_threads.specs.declared.file_call.CvecCall.{CvecCall}
+
+-- what is told of a call
+abbrev pub call_told : Call → CvecCall
+call_told (Write at bytes) = record { at = at; len = length bytes.items; kind = 0 }
+call_told Sync = record { at = 0; len = 0; kind = 1 }
+
+-- So many calls are listed, and they make of the file as the host has made it the file as it is to be. The handle is as it was.
+abbrev pub CountsCalls : ℕ → Role → Role → Type 0
+CountsCalls count (roles.Committer old) new =
+    (new ≡ roles.Committer old) × (count ≡ length (calls_of old))
+    × (KeepsSoFar old.flusher.pen.disk.inner → LeadTo (states_of old.flusher.pen.disk.inner) old.made (calls_of old))
+CountsCalls count old new = ⊥
+
+-- the call of that number is told
+pub record IsToldAt (calls : List Call) (number : ℕ) (call : CvecCall) : Type 0 where
+  pub listed : Call
+  pub at : slice_get calls number ≡ Some listed
+  pub told : call ≡ call_told listed
+
+abbrev pub TellsCall : ℕ → CvecCall → Role → Role → Type 0
+TellsCall number call (roles.Committer old) new = (new ≡ roles.Committer old) × IsToldAt (calls_of old) number call
+TellsCall number call old new = ⊥
+
+-- it writes these bytes
+abbrev pub IsWriteOf : List ℕ → Call → Type 0
+IsWriteOf out (Write at bytes) = out ≡ bytes.items
+IsWriteOf out Sync = ⊥
+
+-- the bytes are those of the write of that number
+pub record AreBytesAt (calls : List Call) (number : ℕ) (out : List ℕ) : Type 0 where
+  pub listed : Call
+  pub at : slice_get calls number ≡ Some listed
+  pub are : IsWriteOf out listed
+
+abbrev pub CopiesCall : ℕ → List ℕ → Role → Role → Type 0
+CopiesCall number out (roles.Committer old) new = (new ≡ roles.Committer old) × AreBytesAt (calls_of old) number out
+CopiesCall number out old new = ⊥

@@ -1,0 +1,117 @@
+//! What who commits calls.
+
+ghost use Rattle.std.specs.Prelude.{◌≡◌, ◌≢◌};
+ghost use Rattle.handle_core.specs.Roles.{Plans, Settles, RefusesPlan, RefusesSettle};
+ghost use Rattle.handle_core.specs.Handles.{role_of, Becomes, Refused};
+ghost use Rattle.cvec_threads.specs.Calls.{CountsCalls, TellsCall, CopiesCall};
+
+use crate::file_call::{CvecCall, call_at, copy_bytes, count_of};
+use handle_core::{Handle, Refusal};
+use std::alloc::Global;
+
+/// Lists the calls of the file that commit what was grown. `growths`: how many growths they commit.
+#[unsafe(no_mangle)]
+pub extern "C" fn cvec_phase_plan(alloc: Global, committer: &mut Handle, growths: &mut u64) -> u32
+    ensures plans { result ≡ 0 → Becomes (Plans growths.new) (role_of committer.old) (role_of committer.new) }
+    ensures refused { result ≢ 0 → Refused RefusesPlan result (role_of committer.old) (role_of committer.new) × (growths.new ≡ growths.old) }
+{
+    let Some(mut session) = committer.take(alloc) else {
+        return Refusal::NotSo.code();
+    };
+    let planned = session.plan();
+    committer.put(session);
+    match planned {
+        Ok(count) => {
+            *growths = count;
+            0
+        }
+        Err(refusal) => refusal.code(),
+    }
+}
+
+/// How many calls are listed.
+#[unsafe(no_mangle)]
+pub extern "C" fn cvec_phase_calls(alloc: Global, committer: &mut Handle, count: &mut u64) -> u32
+    ensures listed { result ≡ 0 → Becomes (CountsCalls count.new) (role_of committer.old) (role_of committer.new) }
+    ensures refused { result ≢ 0 → (role_of committer.new ≡ role_of committer.old) × (count.new ≡ count.old) }
+{
+    let Some(session) = committer.take(alloc) else {
+        return Refusal::NotSo.code();
+    };
+    let counted = count_of(&session);
+    committer.put(session);
+    match counted {
+        Ok(found) => {
+            *count = found;
+            0
+        }
+        Err(refusal) => refusal.code(),
+    }
+}
+
+/// The call of that number.
+#[unsafe(no_mangle)]
+pub extern "C" fn cvec_phase_call(
+    alloc: Global,
+    committer: &mut Handle,
+    number: u64,
+    call: &mut CvecCall,
+) -> u32
+    ensures told { result ≡ 0 → Becomes (TellsCall number call.new) (role_of committer.old) (role_of committer.new) }
+    ensures refused { result ≢ 0 → (role_of committer.new ≡ role_of committer.old) × (call.new ≡ call.old) }
+{
+    let Some(session) = committer.take(alloc) else {
+        return Refusal::NotSo.code();
+    };
+    let found = call_at(&session, number);
+    committer.put(session);
+    match found {
+        Ok(found) => {
+            *call = found;
+            0
+        }
+        Err(refusal) => refusal.code(),
+    }
+}
+
+/// Copies the bytes of a listed write over `out`, which is as long as they are.
+#[unsafe(no_mangle)]
+pub extern "C" fn cvec_phase_bytes(
+    alloc: Global,
+    committer: &mut Handle,
+    number: u64,
+    out: &mut [u8],
+) -> u32
+    ensures copied { result ≡ 0 → Becomes (CopiesCall number out.new) (role_of committer.old) (role_of committer.new) }
+    ensures refused { result ≢ 0 → (role_of committer.new ≡ role_of committer.old) × (out.new ≡ out.old) }
+{
+    let Some(session) = committer.take(alloc) else {
+        return Refusal::NotSo.code();
+    };
+    let copied = copy_bytes(&session, number, out);
+    committer.put(session);
+    match copied {
+        Ok(()) => 0,
+        Err(refusal) => refusal.code(),
+    }
+}
+
+/// The host has made the calls, and each has succeeded: the growers are told what is durable. `count`: how many growths are.
+#[unsafe(no_mangle)]
+pub extern "C" fn cvec_phase_settle(alloc: Global, committer: &mut Handle, count: &mut u64) -> u32
+    ensures settled { result ≡ 0 → Becomes (Settles count.new) (role_of committer.old) (role_of committer.new) }
+    ensures refused { result ≢ 0 → Refused RefusesSettle result (role_of committer.old) (role_of committer.new) × (count.new ≡ count.old) }
+{
+    let Some(mut session) = committer.take(alloc) else {
+        return Refusal::NotSo.code();
+    };
+    let settled = session.settle();
+    committer.put(session);
+    match settled {
+        Ok(found) => {
+            *count = found;
+            0
+        }
+        Err(refusal) => refusal.code(),
+    }
+}

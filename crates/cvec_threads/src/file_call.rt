@@ -1,0 +1,73 @@
+//! The calls of the file that C is to make.
+
+ghost use Rattle.std.specs.Prelude.{◌≡◌, IfOk, OnOk, OnErr};
+ghost use Rattle.cvec_threads.specs.Calls.{call_told, CountsCalls, TellsCall, CopiesCall};
+
+use handle_core::{Refusal, Session};
+use relay_core::Call;
+
+/// A call of the file that C is to make.
+#[repr(C)]
+#[derive(Clone, Copy)]
+pub struct CvecCall {
+    /// The place from which on it writes, 0 of a sync.
+    pub at: u64,
+    /// How many bytes it writes, 0 of a sync.
+    pub len: u64,
+    /// 0 of a write, 1 of a sync.
+    pub kind: u32,
+}
+
+impl CvecCall {
+    fn of(call: &Call) -> CvecCall
+        ensures { result ≡ call_told call.now }
+    {
+        match call {
+            Call::Write { at, bytes } => CvecCall {
+                at: *at,
+                len: bytes.len() as u64,
+                kind: 0,
+            },
+            Call::Sync => CvecCall {
+                at: 0,
+                len: 0,
+                kind: 1,
+            },
+        }
+    }
+}
+
+/// How many calls are listed.
+pub(crate) fn count_of(session: &Session) -> Result<u64, Refusal>
+    ensures { IfOk result (λ count. CountsCalls count session.now.role session.now.role) }
+{
+    let calls = session.calls()?;
+    Ok(calls.len() as u64)
+}
+
+/// The call of that number.
+pub(crate) fn call_at(session: &Session, number: u64) -> Result<CvecCall, Refusal>
+    ensures { IfOk result (λ call. TellsCall number call session.now.role session.now.role) }
+{
+    match session.calls()?.get(number as usize) {
+        Some(call) => Ok(CvecCall::of(call)),
+        None => Err(Refusal::NotSo),
+    }
+}
+
+/// Copies the bytes of a listed write over `out`, which is as long as they are.
+pub(crate) fn copy_bytes(session: &Session, number: u64, out: &mut [u8]) -> Result<(), Refusal>
+    ensures copied { OnOk result (CopiesCall number out.new session.now.role session.now.role) }
+    ensures refused { OnErr result (out.new ≡ out.old) }
+{
+    match session.calls()?.get(number as usize) {
+        Some(Call::Write { at: _, bytes }) => {
+            if bytes.len() != out.len() {
+                return Err(Refusal::NoRoom);
+            }
+            out.copy_from_slice(bytes.as_slice());
+            Ok(())
+        }
+        _ => Err(Refusal::NotSo),
+    }
+}
