@@ -1,0 +1,57 @@
+"""The crates of this repository: which stand on which, a repository of some of them alone, and the note by which the
+toolchain knows what a library was made from."""
+import os
+import re
+import shutil
+import sys
+
+TOP = os.path.dirname(os.path.dirname(os.path.realpath(__file__)))
+
+
+def lines_of_crates():
+    """The lines of crates.txt by the crates' names."""
+    with open(f"{TOP}/crates.txt", encoding="utf-8") as file:
+        return {line.split(":")[0].split()[0]: line for line in file if re.match(r"\w", line)}
+
+
+def crates_below(lines, name):
+    """The crates of this repository that it stands on, lowest first."""
+    found = []
+    for word in lines[name].split(":")[1].split():
+        if word in lines:
+            found += [*crates_below(lines, word), word]
+    return list(dict.fromkeys(found))
+
+
+def copy_crates(lines, names, copy):
+    """Makes a repository of these crates alone, without what builds and wrong bodies have left in their folders."""
+    for name in names:
+        left = shutil.ignore_patterns("out", "must-fail")
+        shutil.copytree(f"{TOP}/crates/{name}", f"{copy}/crates/{name}", ignore=left)
+    with open(f"{copy}/crates.txt", "w", encoding="utf-8") as file:
+        file.writelines(lines[name] for name in names)
+    if os.path.exists(f"{TOP}/HANDLES"):
+        shutil.copy(f"{TOP}/HANDLES", copy)
+
+
+def note_sources(names, copy):
+    """Notes by the library of each of these crates, as the toolchain does, what it was made from: `rt ci` leaves that out."""
+    sys.path.insert(0, os.path.dirname(os.path.realpath(shutil.which("rt"))))
+    sys.dont_write_bytecode = True
+    import rtlib
+
+    # Each crate asks those below it for their sums, so that without these it would read them once for each way down.
+    sums, sum_of = {}, rtlib.Crate.stamp
+
+    def stamp(crate):
+        if crate.folder not in sums:
+            sums[crate.folder] = sum_of(crate)
+        return sums[crate.folder]
+
+    rtlib.Crate.stamp = stamp
+    known = {}
+    for name in names:
+        folder = f"{copy}/crates/{name}"
+        known[folder] = known.get(folder) or rtlib.Crate(folder, copy, known)
+        with open(f"{folder}/out/rlib/stamp", "w", encoding="utf-8") as file:
+            file.write(known[folder].stamp())
