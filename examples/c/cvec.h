@@ -36,12 +36,14 @@ enum cvec_status {
     CVEC_EMPTY = 7,        /* a group without a record */
     CVEC_OUT_OF_RANGE = 8, /* the vector would have more than 2^32 records */
     CVEC_TOO_LARGE = 9,    /* the group doesn't fit one frame: 2^20 bytes in version 1, 2^24 in version 2, with 8 of its own */
-    CVEC_FILE_FULL = 10,   /* the next gate would stand at 2^48 or past it */
+    CVEC_FILE_FULL = 10,   /* the next gate would stand at 2^48 or past it; of cvec_look_TYPE: there are more than 2^48 bytes */
     CVEC_NO_ROOM = 11,     /* the memory that was passed is too small */
     CVEC_NO_FRAME = 12,    /* no whole open frame begins there */
+    CVEC_NO_RECORD = 13,   /* of cvec_look_TYPE: the bytes of the record at position fault->at are none of the type */
     /* of cvec_file.c alone */
     CVEC_EXISTS = 32,      /* something is there already */
-    CVEC_IN_USE = 33,      /* open already by cvec_create or cvec_open, in this process too, or locked (flock) otherwise */
+    CVEC_IN_USE = 33,      /* open already by cvec_create or cvec_open, in this process too, or locked (flock) otherwise. A lock
+                              that readers share is waited for, 10 seconds */
     CVEC_BROKEN = 34,      /* a write or a sync has failed on this file before. Open it again; after a sync, restart first */
     CVEC_DISK_OPEN = 35,   /* a call of the system failed, errno says why: open, or flock */
     CVEC_DISK_LENGTH = 36, /* fstat */
@@ -49,7 +51,8 @@ enum cvec_status {
     CVEC_DISK_WRITE = 38,  /* pwrite */
     CVEC_DISK_SYNC = 39,   /* fdatasync, or fsync of the folder. Restart the system before the file is opened again */
     CVEC_FORKED = 40,      /* the process from which this one was forked has opened it: here it can only be closed */
-    CVEC_NOT_FILE = 41     /* a folder, a pipe or a device has that name: it wasn't opened */
+    CVEC_NOT_FILE = 41,    /* a folder, a pipe or a device has that name: it wasn't opened */
+    CVEC_READ_ONLY = 42    /* an append to a file that cvec_open_to_read has opened */
 };
 
 /* Why an image is damaged, in the order in which docs/file/format.md looks for it. */
@@ -73,7 +76,7 @@ enum cvec_kind { CVEC_GROUP = 1, CVEC_CHANGE = 2, CVEC_SHRINK = 3, CVEC_FOLD = 4
 
 /* Where and why an image has no vector. */
 typedef struct cvec_fault {
-    uint64_t at;    /* the place of a damage, 0 for another fault */
+    uint64_t at;    /* the place of a damage, the position of a record that is none, 0 for another fault */
     uint32_t cause; /* an enum cvec_cause */
     uint32_t found; /* the version, the width or the kind that was found, else 0 */
 } cvec_fault;
@@ -149,6 +152,22 @@ CVEC_READ(i64, int64_t)
 CVEC_READ(pair, cvec_pair)
 CVEC_READ(flagged, cvec_flagged)
 
+/* cvec_look_TYPE: the same of bytes that were read while another process writes the file: from the first one on, none before
+ * one in front of it, up to where a read finds none; a length that was asked before may cut a frame. Then the records and
+ * *stat are the vector of one moment of the reading, and such a file isn't called damaged, also where changes are folded
+ * meanwhile. Of a file at which nobody writes it answers what cvec_read_TYPE does. Bytes that stop before the file are
+ * CVEC_UNBORN, CVEC_NOT_SEGMENT, or CVEC_DAMAGED by CVEC_CAUSE_NO_GATE or CVEC_CAUSE_SHORT_FRAME: read on. What was seen is
+ * on the device once the file is synced behind the last read. It answers as cvec_read_TYPE, also CVEC_NO_RECORD and
+ * CVEC_FILE_FULL, and takes twice as much memory. */
+#define CVEC_LOOK(TYPE, RECORD) \
+    uint32_t cvec_look_##TYPE(const uint8_t *bytes, size_t len, uint64_t from, RECORD *out, size_t room, uint64_t *count, \
+                              cvec_stat *stat, cvec_fault *fault);
+CVEC_LOOK(u32, uint32_t)
+CVEC_LOOK(u64, uint64_t)
+CVEC_LOOK(i64, int64_t)
+CVEC_LOOK(pair, cvec_pair)
+CVEC_LOOK(flagged, cvec_flagged)
+
 /* cvec_homes_TYPE: checks an image as cvec_check_TYPE does, and writes the homes of the vector's positions over
  * out[0 .. *count], each position in one, in order. Where stat->changes <= stat->folded the vector's records are the ones
  * that stand there, so who has mapped the file reads them with no copy; else some have been changed since, and
@@ -203,8 +222,9 @@ typedef struct cvec_file {
     int fd;
     cvec_type type;
     bool broken;
-    int process; /* the one that opened it */
-    cvec_stat stat;
+    bool read_only;
+    int process;    /* the one that opened it */
+    cvec_stat stat; /* of one that is read only: what it held when it was last read */
     uint8_t *bytes; /* of the last append, to be used again */
     size_t room;
 } cvec_file;
@@ -218,13 +238,19 @@ uint32_t cvec_create(cvec_file *file, const char *path, cvec_type type);
  * closed. */
 uint32_t cvec_open(cvec_file *file, const char *path, cvec_type type, cvec_fault *fault);
 
+/* Opens a file for reading alone, also while another process writes it, or has it locked: without a lock, and with no leave
+ * to write. It reads and checks it as cvec_read does. Where it is refused *file is closed. */
+uint32_t cvec_open_to_read(cvec_file *file, const char *path, cvec_type type, cvec_fault *fault);
+
 /* Appends the records as one growth: all of them or none. CVEC_DONE: they are durable. A refusal from CVEC_VERSION to
  * CVEC_MEMORY writes nothing. Behind CVEC_DISK_WRITE and CVEC_DISK_SYNC the file is broken: opened again, behind
  * CVEC_DISK_SYNC after a restart of the system, it has all of them or none. The records are of the file's type. */
 uint32_t cvec_append(cvec_file *file, const void *records, size_t count);
 
-/* Copies records out, as cvec_read_TYPE does. It takes as much memory as cvec_open. */
-uint32_t cvec_read(const cvec_file *file, uint64_t from, void *out, size_t room, uint64_t *count, cvec_fault *fault);
+/* Copies records out, as cvec_read_TYPE does. It takes as much memory as cvec_open. Of a file that is open to be read it
+ * answers as cvec_look_TYPE: the vector of one moment of the call, synced before it is answered, and file->stat is what that
+ * holds. Where file->stat.size > from + *count there were more records than room. Behind CVEC_DISK_SYNC that file is broken. */
+uint32_t cvec_read(cvec_file *file, uint64_t from, void *out, size_t room, uint64_t *count, cvec_fault *fault);
 
 /* Closes the file. What was appended stands. A file that is closed may be closed again. */
 void cvec_close(cvec_file *file);

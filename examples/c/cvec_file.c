@@ -9,6 +9,8 @@
 #include <string.h>
 #include <sys/file.h>
 #include <sys/stat.h>
+#include <sys/statvfs.h>
+#include <time.h>
 #include <unistd.h>
 
 static const uint8_t open_gate = 1;
@@ -18,8 +20,11 @@ static const uint8_t closed_gate = 0;
 static const cvec_pair no_records[1];
 static cvec_pair no_room[1];
 
-/* The bytes that a file takes for its frames at first. */
-enum { FIRST_ROOM = 4096 };
+/* The bytes that a file takes for its frames at first, and for what is read of one whose length isn't known. */
+enum { FIRST_ROOM = 4096, FIRST_PIECE = 65536 };
+
+/* How often a lock is tried while readers share it: for 10 seconds, each 20 milliseconds. */
+enum { LOCK_TURNS = 500, LOCK_WAIT = 20000000 };
 
 /* ---- the record types */
 
@@ -41,6 +46,17 @@ static uint32_t read_records(cvec_type type, const uint8_t *image, size_t len, u
     case CVEC_I64: return cvec_read_i64(image, len, from, out, room, count, fault);
     case CVEC_PAIR: return cvec_read_pair(image, len, from, out, room, count, fault);
     default: return cvec_read_flagged(image, len, from, out, room, count, fault);
+    }
+}
+
+static uint32_t look_at(cvec_type type, const uint8_t *bytes, size_t len, uint64_t from, void *out, size_t room,
+                        uint64_t *count, cvec_stat *stat, cvec_fault *fault) {
+    switch (type) {
+    case CVEC_U32: return cvec_look_u32(bytes, len, from, out, room, count, stat, fault);
+    case CVEC_U64: return cvec_look_u64(bytes, len, from, out, room, count, stat, fault);
+    case CVEC_I64: return cvec_look_i64(bytes, len, from, out, room, count, stat, fault);
+    case CVEC_PAIR: return cvec_look_pair(bytes, len, from, out, room, count, stat, fault);
+    default: return cvec_look_flagged(bytes, len, from, out, room, count, stat, fault);
     }
 }
 
@@ -77,12 +93,25 @@ static int open_path(const char *path, int flags) {
     return fd;
 }
 
-static uint32_t lock(int fd) {
+static uint32_t lock_by(int fd, int operation) {
     int done;
-    do done = flock(fd, LOCK_EX | LOCK_NB);
+    do done = flock(fd, operation | LOCK_NB);
     while (was_interrupted(done));
     if (done == 0) return CVEC_DONE;
     return errno == EWOULDBLOCK ? CVEC_IN_USE : CVEC_DISK_OPEN;
+}
+
+/* Commands that only read share the lock, and have it for moments: where it can be shared, it is tried again. */
+static uint32_t lock(int fd) {
+    const struct timespec wait = {0, LOCK_WAIT};
+    for (int turn = 0;; turn++) {
+        uint32_t answer = lock_by(fd, LOCK_EX);
+        if (answer != CVEC_IN_USE || turn == LOCK_TURNS) return answer;
+        answer = lock_by(fd, LOCK_SH);
+        if (answer == CVEC_DONE) answer = lock_by(fd, LOCK_UN);
+        if (answer != CVEC_DONE) return answer;
+        nanosleep(&wait, NULL);
+    }
 }
 
 static uint32_t length_of(int fd, uint64_t *len) {
@@ -170,16 +199,20 @@ static bool is_no_file(const char *path) {
     return stat(path, &found) == 0 && !S_ISREG(found.st_mode);
 }
 
-/* Opens it for one process alone. */
-static uint32_t open_alone(cvec_file *file, const char *path, cvec_type type, int flags) {
+static uint32_t open_by(cvec_file *file, const char *path, cvec_type type, int flags) {
     memset(file, 0, sizeof *file);
     file->fd = -1;
     file->type = type;
     file->process = (int)getpid();
     if (is_no_file(path)) return CVEC_NOT_FILE;
-    file->fd = open_path(path, O_RDWR | flags);
-    if (file->fd < 0) return CVEC_DISK_OPEN;
-    uint32_t answer = lock(file->fd);
+    file->fd = open_path(path, flags);
+    return file->fd < 0 ? CVEC_DISK_OPEN : CVEC_DONE;
+}
+
+/* Opens it for one process alone. */
+static uint32_t open_alone(cvec_file *file, const char *path, cvec_type type, int flags) {
+    uint32_t answer = open_by(file, path, type, O_RDWR | flags);
+    if (answer == CVEC_DONE) answer = lock(file->fd);
     if (answer != CVEC_DONE) return answer;
     file->bytes = malloc(FIRST_ROOM);
     if (file->bytes == NULL) return CVEC_MEMORY;
@@ -209,6 +242,34 @@ static uint32_t load(int fd, struct image *image) {
     if (image->bytes == NULL) return CVEC_MEMORY;
     answer = read_at(fd, 0, image->bytes, image->len);
     if (answer != CVEC_DONE) free(image->bytes);
+    return answer;
+}
+
+static uint32_t take_more(struct image *image, size_t *room) {
+    size_t more = *room == 0 ? FIRST_PIECE : *room * 2;
+    uint8_t *bytes = more > *room ? realloc(image->bytes, more) : NULL;
+    if (bytes == NULL) return CVEC_MEMORY;
+    image->bytes = bytes;
+    *room = more;
+    return CVEC_DONE;
+}
+
+/* Of a file that another process may write: from the first byte on, none before one in front of it, up to where a read finds
+ * none. A length that was asked before would cut a frame whose gate is read open later. */
+static uint32_t load_in_turn(int fd, struct image *image) {
+    size_t room = 0;
+    uint32_t answer = CVEC_DONE;
+    *image = (struct image){NULL, 0};
+    for (;;) {
+        if (image->len == room) answer = take_more(image, &room);
+        if (answer != CVEC_DONE) break;
+        ssize_t done = pread(fd, image->bytes + image->len, room - image->len, (off_t)image->len);
+        if (was_interrupted(done)) continue;
+        if (done == 0) return CVEC_DONE;
+        if (done < 0) answer = CVEC_DISK_READ;
+        else image->len += (size_t)done;
+    }
+    free(image->bytes);
     return answer;
 }
 
@@ -270,6 +331,46 @@ uint32_t cvec_open(cvec_file *file, const char *path, cvec_type type, cvec_fault
     return answer;
 }
 
+/* ---- a file that is read beside its writer: all bytes in turn, a sync, so that what was seen is on the device, and a look */
+
+/* What can't be written is on the device, and such a file system may know no sync. */
+static bool is_never_written(int fd) {
+    struct statvfs found;
+    int why = errno, done;
+    do done = fstatvfs(fd, &found);
+    while (was_interrupted(done));
+    errno = why;
+    return done == 0 && (found.f_flag & ST_RDONLY) != 0;
+}
+
+static uint32_t sync_seen(cvec_file *file) {
+    uint32_t answer = sync_data(file->fd);
+    if (answer == CVEC_DONE || ((errno == EINVAL || errno == EROFS) && is_never_written(file->fd))) return CVEC_DONE;
+    file->broken = true;
+    return answer;
+}
+
+static uint32_t read_beside(cvec_file *file, uint64_t from, void *out, size_t room, uint64_t *count, cvec_fault *fault) {
+    struct image image;
+    uint32_t answer = load_in_turn(file->fd, &image);
+    if (answer != CVEC_DONE) return answer;
+    answer = sync_seen(file);
+    if (answer == CVEC_DONE)
+        answer = look_at(file->type, image.bytes, image.len, from, out, room, count, &file->stat, fault);
+    free(image.bytes);
+    return answer;
+}
+
+uint32_t cvec_open_to_read(cvec_file *file, const char *path, cvec_type type, cvec_fault *fault) {
+    uint64_t count = 0;
+    memset(fault, 0, sizeof *fault);
+    uint32_t answer = open_by(file, path, type, O_RDONLY);
+    file->read_only = true;
+    if (answer == CVEC_DONE) answer = read_beside(file, 0, no_room, 0, &count, fault);
+    if (answer != CVEC_DONE) cvec_close(file);
+    return answer;
+}
+
 /* ---- records */
 
 static uint32_t take_room(cvec_file *file, size_t len) {
@@ -292,6 +393,7 @@ static uint32_t make_frame(cvec_file *file, const void *records, size_t count, c
 uint32_t cvec_append(cvec_file *file, const void *records, size_t count) {
     cvec_stat next;
     uint32_t answer = refusal_of(file);
+    if (answer == CVEC_DONE && file->read_only) answer = CVEC_READ_ONLY;
     if (answer != CVEC_DONE) return answer;
     answer = make_frame(file, count > 0 ? records : no_records, count, &next);
     if (answer != CVEC_DONE) return answer;
@@ -304,13 +406,15 @@ uint32_t cvec_append(cvec_file *file, const void *records, size_t count) {
     return CVEC_DONE;
 }
 
-uint32_t cvec_read(const cvec_file *file, uint64_t from, void *out, size_t room, uint64_t *count, cvec_fault *fault) {
+uint32_t cvec_read(cvec_file *file, uint64_t from, void *out, size_t room, uint64_t *count, cvec_fault *fault) {
     struct image image;
     memset(fault, 0, sizeof *fault);
+    if (room == 0) out = no_room;
     uint32_t answer = refusal_of(file);
+    if (answer == CVEC_DONE && file->read_only) return read_beside(file, from, out, room, count, fault);
     if (answer == CVEC_DONE) answer = load(file->fd, &image);
     if (answer != CVEC_DONE) return answer;
-    answer = read_records(file->type, image.bytes, image.len, from, room > 0 ? out : no_room, room, count, fault);
+    answer = read_records(file->type, image.bytes, image.len, from, out, room, count, fault);
     free(image.bytes);
     return answer;
 }
@@ -340,6 +444,7 @@ const char *cvec_status_text(uint32_t status) {
     case CVEC_FILE_FULL: return "file full";
     case CVEC_NO_ROOM: return "no room";
     case CVEC_NO_FRAME: return "no frame";
+    case CVEC_NO_RECORD: return "no record";
     case CVEC_EXISTS: return "exists";
     case CVEC_IN_USE: return "in use";
     case CVEC_BROKEN: return "broken";
@@ -350,6 +455,7 @@ const char *cvec_status_text(uint32_t status) {
     case CVEC_DISK_SYNC: return "disk sync";
     case CVEC_FORKED: return "forked";
     case CVEC_NOT_FILE: return "not a file";
+    case CVEC_READ_ONLY: return "read only";
     default: return "unknown";
     }
 }

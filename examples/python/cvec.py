@@ -4,6 +4,8 @@
         file.append([5, 7, 11])                  # durable when it returns
     with cvec.open("numbers.cvec", "u64") as file:
         print(file.read())                       # a copy of all records
+    with cvec.open_to_read("numbers.cvec", "u64") as file:
+        print(len(file), file.read())            # beside another process that writes it; each read is of one moment
     with cvec.Map("numbers.cvec", "u64") as seen:
         for piece in seen.pieces():              # the mapped file itself, nothing is copied
             ...
@@ -23,7 +25,7 @@ from cvec_records import IN_C, IN_FILE, numpy
 
 FIRST_GATE = 11
 GROUP, CHANGE, SHRINK, FOLD = 1, 2, 3, 4
-_UNBORN, _DAMAGED, _NO_ROOM, _DISK_OPEN, _FORKED, _NOT_FILE = 1, 5, 11, 35, 40, 41
+_UNBORN, _DAMAGED, _NO_ROOM, _NO_RECORD, _DISK_OPEN, _FORKED, _NOT_FILE = 1, 5, 11, 13, 35, 40, 41
 
 # The statuses of which errno says why.
 _OF_SYSTEM = range(35, 40)
@@ -60,8 +62,8 @@ class Home(ctypes.Structure):
 
 
 class _File(ctypes.Structure):
-    _fields_ = [("fd", c_int), ("type", c_int), ("broken", ctypes.c_bool), ("process", c_int), ("stat", Stat),
-                ("bytes", c_void_p), ("room", c_size_t)]
+    _fields_ = [("fd", c_int), ("type", c_int), ("broken", ctypes.c_bool), ("read_only", ctypes.c_bool),
+                ("process", c_int), ("stat", Stat), ("bytes", c_void_p), ("room", c_size_t)]
 
 
 class _Type:
@@ -87,6 +89,7 @@ def _library():
     answers = {
         "cvec_create": [POINTER(_File), ctypes.c_char_p, c_int],
         "cvec_open": [POINTER(_File), ctypes.c_char_p, c_int, POINTER(Fault)],
+        "cvec_open_to_read": [POINTER(_File), ctypes.c_char_p, c_int, POINTER(Fault)],
         "cvec_append": [POINTER(_File), c_void_p, c_size_t],
         "cvec_read": [POINTER(_File), c_uint64, c_void_p, c_size_t, POINTER(c_uint64), POINTER(Fault)],
         "cvec_frame_at": [c_void_p, c_size_t, c_uint64, c_uint8, c_uint16, POINTER(Frame)],
@@ -116,6 +119,8 @@ class Error(Exception):
         text = _LIB.cvec_status_text(status).decode()
         if status == _DAMAGED:
             text += f" at {fault.at}: {_LIB.cvec_cause_text(fault.cause).decode()}"
+        if status == _NO_RECORD:
+            text += f" at position {fault.at}"
         if status in _OF_SYSTEM:
             text += f": {os.strerror(errno)}"
         super().__init__(text)
@@ -135,7 +140,8 @@ def _name_of(path):
 
 
 class File:
-    """A file that is open for reading and appending, by the process that opened it; create() and open() make one."""
+    """A file that is open for reading and appending, by the process that opened it; create() and open() make one. One of
+    open_to_read() is read alone, each time anew."""
 
     def __init__(self, kind, raw):
         self._kind, self._raw = kind, raw
@@ -164,6 +170,8 @@ class File:
     def stat(self):
         """What the file holds now."""
         with self._turn():
+            if self._raw.read_only:
+                self._read(0, 0)
             return Stat.from_buffer_copy(self._raw.stat)
 
     def append(self, records):
@@ -176,16 +184,28 @@ class File:
             _pass(_LIB.cvec_append(byref(self._raw), ctypes.addressof(row), count))
 
     def read(self, start=0, count=None):
-        """A copy of the records from a position on, all of them or so many."""
+        """A copy of the records from a position on, all of them or so many; of a file that another process writes as they
+        are at one moment."""
         if start < 0:
             raise ValueError("a position is below 0")
-        fault, done = Fault(), c_uint64()
         with self._turn():
-            left = max(0, self._raw.stat.size - start)
-            room = left if count is None else min(left, count)
-            row = (self._kind.record * room)()
-            _pass(_LIB.cvec_read(byref(self._raw), start, ctypes.addressof(row), room, byref(done), byref(fault)), fault)
-        return self._kind.in_c.unpack((c_uint8 * (done.value * self._kind.in_c.width)).from_buffer(row))
+            while True:
+                room = self._left(start, count)
+                row, done = self._read(start, room)
+                # One that is only read may have grown. It is read again, as all of it is of one moment.
+                if self._left(start, count) <= room:
+                    break
+        return self._kind.in_c.unpack((c_uint8 * (done * self._kind.in_c.width)).from_buffer(row))
+
+    def _left(self, start, count):
+        left = max(0, self._raw.stat.size - start)
+        return left if count is None else min(left, count)
+
+    def _read(self, start, room):
+        fault, done = Fault(), c_uint64()
+        row = (self._kind.record * room)()
+        _pass(_LIB.cvec_read(byref(self._raw), start, ctypes.addressof(row), room, byref(done), byref(fault)), fault)
+        return row, done.value
 
     def close(self):
         """Closes the file. What was appended stands."""
@@ -212,11 +232,21 @@ def create(path, kind):
     return File(kind, raw)
 
 
+def _open_by(call, path, kind):
+    kind, raw, fault = _TYPES[kind], _File(), Fault()
+    _pass(call(byref(raw), _name_of(path), kind.number, byref(fault)), fault)
+    return File(kind, raw)
+
+
 def open(path, kind):
     """Opens a file of this record type, and checks it."""
-    kind, raw, fault = _TYPES[kind], _File(), Fault()
-    _pass(_LIB.cvec_open(byref(raw), _name_of(path), kind.number, byref(fault)), fault)
-    return File(kind, raw)
+    return _open_by(_LIB.cvec_open, path, kind)
+
+
+def open_to_read(path, kind):
+    """Opens a file for reading alone, and checks it: also while another process writes it, without a lock, and with no leave
+    to write."""
+    return _open_by(_LIB.cvec_open_to_read, path, kind)
 
 
 def _open_to_map(path):

@@ -8,6 +8,7 @@
 //! ```
 #![deny(unsafe_op_in_unsafe_fn)]
 
+use std::cell::UnsafeCell;
 use std::ffi::{CStr, CString, c_char, c_int};
 use std::fmt;
 use std::io;
@@ -77,8 +78,9 @@ pub struct Error {
     pub errno: Option<i32>,
 }
 
-/// The number of a file that is damaged.
+/// The numbers of a file that is damaged, and of one with a record that is none of the type.
 const DAMAGED: u32 = 5;
+const NO_RECORD: u32 = 13;
 
 /// The numbers of the system's calls that fail, of which the first is to open a file.
 const OF_SYSTEM: std::ops::RangeInclusive<u32> = DISK_OPEN..=39;
@@ -91,6 +93,9 @@ impl fmt::Display for Error {
         f.write_str(&status.to_string_lossy())?;
         if self.status == DAMAGED {
             write!(f, " at {}: {}", self.fault.at, cause.to_string_lossy())?;
+        }
+        if self.status == NO_RECORD {
+            write!(f, " at position {}", self.fault.at)?;
         }
         if let Some(errno) = self.errno {
             write!(f, ": {}", io::Error::from_raw_os_error(errno))?;
@@ -112,6 +117,7 @@ struct RawFile {
     fd: c_int,
     kind: c_int,
     broken: bool,
+    read_only: bool,
     process: c_int,
     stat: Stat,
     bytes: *mut u8,
@@ -129,8 +135,9 @@ unsafe extern "C" {
     fn cvec_frame_at(image: *const u8, len: usize, at: u64, version: u8, width: u16, frame: *mut Frame) -> u32;
     fn cvec_create(file: *mut RawFile, path: *const c_char, kind: c_int) -> u32;
     fn cvec_open(file: *mut RawFile, path: *const c_char, kind: c_int, fault: *mut Fault) -> u32;
+    fn cvec_open_to_read(file: *mut RawFile, path: *const c_char, kind: c_int, fault: *mut Fault) -> u32;
     fn cvec_append(file: *mut RawFile, records: *const u8, count: usize) -> u32;
-    fn cvec_read(file: *const RawFile, from: u64, out: *mut u8, room: usize, count: *mut u64, fault: *mut Fault) -> u32;
+    fn cvec_read(file: *mut RawFile, from: u64, out: *mut u8, room: usize, count: *mut u64, fault: *mut Fault) -> u32;
     fn cvec_close(file: *mut RawFile);
     fn cvec_status_text(status: u32) -> *const c_char;
     fn cvec_cause_text(cause: u32) -> *const c_char;
@@ -183,10 +190,11 @@ pub fn frame_at(image: &[u8], at: u64, version: u8, width: u16) -> Option<Frame>
     (status == 0).then_some(frame)
 }
 
-/// A file that is open for reading and appending, by the process that opened it. It says how wide its records are and not of
-/// which type: one of `u64` is opened as `i64` too.
+/// A file that is open for reading and appending, by the process that opened it; by `open_to_read` for reading alone. It says
+/// how wide its records are and not of which type: one of `u64` is opened as `i64` too.
 pub struct File<R: Record> {
-    raw: RawFile,
+    /// A read changes what is known of a file that another process writes.
+    raw: UnsafeCell<RawFile>,
     of: PhantomData<R>,
 }
 
@@ -194,7 +202,7 @@ pub struct File<R: Record> {
 unsafe impl<R: Record> Send for File<R> {}
 
 fn closed() -> RawFile {
-    RawFile { fd: -1, kind: 0, broken: true, process: 0, stat: Stat::default(), bytes: std::ptr::null_mut(), room: 0 }
+    RawFile { fd: -1, kind: 0, broken: true, read_only: false, process: 0, stat: Stat::default(), bytes: std::ptr::null_mut(), room: 0 }
 }
 
 /// A path with a zero byte is none that the system has a name for.
@@ -203,13 +211,17 @@ fn name_of(path: &Path) -> Result<CString, Error> {
 }
 
 impl<R: Record> File<R> {
+    fn over(raw: RawFile) -> File<R> {
+        File { raw: UnsafeCell::new(raw), of: PhantomData }
+    }
+
     /// Makes a file of version 1. One that is there stays, and is refused.
     pub fn create(path: &Path) -> Result<File<R>, Error> {
         let name = name_of(path)?;
         let mut raw = closed();
         // SAFETY: the name ends with a zero, and lasts for the call; what is refused leaves a closed file.
         let status = unsafe { cvec_create(&mut raw, name.as_ptr(), R::KIND) };
-        told(status, Fault::default()).map(|()| File { raw, of: PhantomData })
+        told(status, Fault::default()).map(|()| File::over(raw))
     }
 
     /// Opens a file, and checks it.
@@ -218,36 +230,65 @@ impl<R: Record> File<R> {
         let (mut raw, mut fault) = (closed(), Fault::default());
         // SAFETY: as above.
         let status = unsafe { cvec_open(&mut raw, name.as_ptr(), R::KIND, &mut fault) };
-        told(status, fault).map(|()| File { raw, of: PhantomData })
+        told(status, fault).map(|()| File::over(raw))
     }
 
-    /// What the file holds.
+    /// Opens a file for reading alone, and checks it: also while another process writes it, without a lock, and with no leave
+    /// to write.
+    pub fn open_to_read(path: &Path) -> Result<File<R>, Error> {
+        let name = name_of(path)?;
+        let (mut raw, mut fault) = (closed(), Fault::default());
+        // SAFETY: as above.
+        let status = unsafe { cvec_open_to_read(&mut raw, name.as_ptr(), R::KIND, &mut fault) };
+        told(status, fault).map(|()| File::over(raw))
+    }
+
+    /// What the file holds; one that is open to be read, when it was last read.
     pub fn stat(&self) -> Stat {
-        self.raw.stat
+        // SAFETY: no other thread has the file (it isn't `Sync`), and no call is at it.
+        unsafe { (*self.raw.get()).stat }
+    }
+
+    /// How many records those are.
+    pub fn len(&self) -> u64 {
+        self.stat().size
+    }
+
+    pub fn is_empty(&self) -> bool {
+        self.len() == 0
     }
 
     /// Appends the records as one growth: durable when it returns, and all of them or none whatever happens.
     pub fn append(&mut self, records: &[R]) -> Result<(), Error> {
         // SAFETY: the file is of this type, and the pointer and the length are those of one slice.
-        let status = unsafe { cvec_append(&mut self.raw, records.as_ptr().cast(), records.len()) };
+        let status = unsafe { cvec_append(self.raw.get_mut(), records.as_ptr().cast(), records.len()) };
         told(status, Fault::default())
     }
 
-    /// A copy of the records from a position on.
+    /// A copy of the records from a position on; of a file that another process writes as they are at one moment.
     pub fn read(&self, from: u64) -> Result<Vec<R>, Error> {
-        let mut out = vec![R::default(); self.raw.stat.size.saturating_sub(from) as usize];
-        let (mut count, mut fault) = (0, Fault::default());
-        // SAFETY: as above; what is written are records of the type.
-        let status = unsafe { cvec_read(&self.raw, from, out.as_mut_ptr().cast(), out.len(), &mut count, &mut fault) };
-        told(status, fault)?;
-        out.truncate(count as usize);
-        Ok(out)
+        loop {
+            let mut out = vec![R::default(); self.left(from)];
+            let (mut count, mut fault) = (0, Fault::default());
+            // SAFETY: as above; what is written are records of the type.
+            let status = unsafe { cvec_read(self.raw.get(), from, out.as_mut_ptr().cast(), out.len(), &mut count, &mut fault) };
+            told(status, fault)?;
+            // One that is only read may have grown. It is read again, as all of it is of one moment.
+            if self.left(from) <= out.len() {
+                out.truncate(count as usize);
+                return Ok(out);
+            }
+        }
+    }
+
+    fn left(&self, from: u64) -> usize {
+        self.len().saturating_sub(from) as usize
     }
 }
 
 impl<R: Record> Drop for File<R> {
     fn drop(&mut self) {
         // SAFETY: it is closed once, here.
-        unsafe { cvec_close(&mut self.raw) }
+        unsafe { cvec_close(self.raw.get_mut()) }
     }
 }
