@@ -1,0 +1,439 @@
+/* A vector that threads grow, over libcvec_threads.a: who commits, the calls of the file, and the rules of the handles. */
+#define _DEFAULT_SOURCE 1
+#define _POSIX_C_SOURCE 200809L
+#include "cvec_vector.h"
+
+#include <errno.h>
+#include <fcntl.h>
+#include <pthread.h>
+#include <signal.h>
+#include <stdlib.h>
+#include <string.h>
+#include <sys/file.h>
+#include <sys/stat.h>
+#include <time.h>
+#include <unistd.h>
+
+struct cvec_vector {
+    int fd;
+    pid_t process;
+    pthread_mutex_t mutex; /* guards all below but `committer` and `made`, which who commits has */
+    pthread_cond_t settled;
+    cvec_handle phase, committer;
+    uint64_t made;    /* of the calls that are listed so many are made */
+    uint64_t durable; /* so many growths are */
+    uint32_t seats;   /* that aren't closed */
+    bool committing, broken;
+};
+
+struct cvec_vector_seat {
+    cvec_vector *vector;
+    cvec_handle grower;
+    bool busy; /* by __atomic */
+};
+
+/* What is lent in place of no records. */
+static const uint64_t no_records[1];
+static uint64_t no_room[1];
+
+/* The seats of one vector, and for how many nanoseconds a growth that came second sleeps at first and at most. */
+enum { MOST_SEATS = 64, FIRST_NAP = 2000, LONGEST_NAP = 200000 };
+
+/* ---- calls of the system, each made whole */
+
+static bool was_interrupted(ssize_t done) { return done < 0 && errno == EINTR; }
+
+static int open_path(const char *path, int flags) {
+    int fd;
+    do fd = open(path, flags | O_CLOEXEC, 0666);
+    while (was_interrupted(fd));
+    return fd;
+}
+
+static uint32_t lock(int fd) {
+    int done;
+    do done = flock(fd, LOCK_EX | LOCK_NB);
+    while (was_interrupted(done));
+    if (done == 0) return CVEC_DONE;
+    return errno == EWOULDBLOCK ? CVEC_IN_USE : CVEC_DISK_OPEN;
+}
+
+static uint32_t length_of(int fd, uint64_t *len) {
+    struct stat found;
+    int done;
+    do done = fstat(fd, &found);
+    while (was_interrupted(done));
+    if (done != 0) return CVEC_DISK_LENGTH;
+    if (!S_ISREG(found.st_mode)) return CVEC_NOT_FILE;
+    *len = (uint64_t)found.st_size;
+    return CVEC_DONE;
+}
+
+static uint32_t read_at(int fd, uint8_t *bytes, size_t len) {
+    for (size_t at = 0; at < len;) {
+        ssize_t done = pread(fd, bytes + at, len - at, (off_t)at);
+        if (was_interrupted(done)) continue;
+        if (done == 0) errno = EIO;
+        if (done <= 0) return CVEC_DISK_READ;
+        at += (size_t)done;
+    }
+    return CVEC_DONE;
+}
+
+static uint32_t write_whole(int fd, uint64_t at, const uint8_t *bytes, size_t len) {
+    while (len > 0) {
+        ssize_t done = pwrite(fd, bytes, len, (off_t)at);
+        if (was_interrupted(done)) continue;
+        if (done == 0) errno = EIO;
+        if (done <= 0) return CVEC_DISK_WRITE;
+        bytes += done;
+        at += (uint64_t)done;
+        len -= (size_t)done;
+    }
+    return CVEC_DONE;
+}
+
+/* A write past the greatest size of a file raises SIGXFSZ, which would end the process: it is held back in this thread, and
+ * taken, so that the write fails by EFBIG alone. */
+static uint32_t write_at(int fd, uint64_t at, const uint8_t *bytes, size_t len) {
+    sigset_t too_large, before, pending;
+    const struct timespec now = {0, 0};
+    sigemptyset(&too_large);
+    sigaddset(&too_large, SIGXFSZ);
+    sigpending(&pending);
+    pthread_sigmask(SIG_BLOCK, &too_large, &before);
+    uint32_t answer = write_whole(fd, at, bytes, len);
+    int why = errno;
+    if (answer != CVEC_DONE && !sigismember(&pending, SIGXFSZ))
+        while (sigtimedwait(&too_large, NULL, &now) < 0 && errno == EINTR) {}
+    pthread_sigmask(SIG_SETMASK, &before, NULL);
+    errno = why;
+    return answer;
+}
+
+static uint32_t sync_data(int fd) {
+    int done;
+    do done = fdatasync(fd);
+    while (was_interrupted(done));
+    return done == 0 ? CVEC_DONE : CVEC_DISK_SYNC;
+}
+
+static void close_quietly(int fd) {
+    int why = errno;
+    close(fd);
+    errno = why;
+}
+
+/* A new name is durable only when its folder is synced. */
+static uint32_t sync_folder(const char *path) {
+    char *whole = realpath(path, NULL);
+    if (whole == NULL) return CVEC_DISK_SYNC;
+    char *name = strrchr(whole, '/');
+    name[name == whole ? 1 : 0] = '\0';
+    int fd = open_path(whole, O_RDONLY | O_DIRECTORY);
+    free(whole);
+    if (fd < 0) return CVEC_DISK_SYNC;
+    int done;
+    do done = fsync(fd);
+    while (was_interrupted(done));
+    close_quietly(fd);
+    return done == 0 ? CVEC_DONE : CVEC_DISK_SYNC;
+}
+
+/* ---- commits */
+
+/* Makes the listed call of that number. */
+static uint32_t make_call(cvec_vector *vector, uint64_t number) {
+    cvec_call call;
+    uint32_t answer = cvec_phase_call(&vector->committer, number, &call);
+    if (answer != CVEC_DONE) return answer;
+    if (call.kind == 1) return sync_data(vector->fd);
+    uint8_t *bytes = malloc((size_t)call.len + 1);
+    if (bytes == NULL) return CVEC_MEMORY;
+    answer = cvec_phase_bytes(&vector->committer, number, bytes, (size_t)call.len);
+    if (answer == CVEC_DONE) answer = write_at(vector->fd, call.at, bytes, (size_t)call.len);
+    free(bytes);
+    return answer;
+}
+
+/* Makes the calls that aren't made, in their order. Where memory was refused, the next commit goes on there. */
+static uint32_t make_calls(cvec_vector *vector) {
+    uint64_t count = 0;
+    uint32_t answer = cvec_phase_calls(&vector->committer, &count);
+    for (; answer == CVEC_DONE && vector->made < count; vector->made += answer == CVEC_DONE)
+        answer = make_call(vector, vector->made);
+    return answer;
+}
+
+/* For who has the committer: commits one group of what was grown. */
+static uint32_t commit(cvec_vector *vector, uint64_t *growths, uint64_t *durable) {
+    uint32_t answer = cvec_phase_plan(&vector->committer, growths);
+    if (answer == CVEC_DONE) answer = make_calls(vector);
+    if (answer != CVEC_DONE) return answer;
+    vector->made = 0;
+    return cvec_phase_settle(&vector->committer, durable);
+}
+
+/* Whether the answer of a commit leaves a vector that commits no more: else the same commit may be tried again. */
+static bool is_lasting(uint32_t answer) {
+    return answer != CVEC_DONE && answer != CVEC_MEMORY && answer != CVEC_FILE_FULL;
+}
+
+/* With the mutex, while nobody commits: commits one group for all who wait. Meanwhile it hasn't got the mutex. */
+static uint32_t lead(cvec_vector *vector, uint64_t *growths) {
+    uint64_t durable = 0;
+    vector->committing = true;
+    pthread_mutex_unlock(&vector->mutex);
+    uint32_t answer = commit(vector, growths, &durable);
+    pthread_mutex_lock(&vector->mutex);
+    vector->committing = false;
+    if (answer == CVEC_DONE) vector->durable = durable;
+    if (is_lasting(answer)) vector->broken = true;
+    pthread_cond_broadcast(&vector->settled);
+    return answer;
+}
+
+/* ---- the vector */
+
+/* Gives up what a vector has. */
+static void give_up(cvec_vector *vector) {
+    cvec_phase_close(&vector->phase);
+    cvec_phase_close(&vector->committer);
+    if (vector->fd >= 0) close_quietly(vector->fd);
+    pthread_cond_destroy(&vector->settled);
+    pthread_mutex_destroy(&vector->mutex);
+    free(vector);
+}
+
+static cvec_vector *vector_of(void) {
+    cvec_vector *vector = calloc(1, sizeof *vector);
+    if (vector == NULL) return NULL;
+    vector->fd = -1;
+    vector->process = getpid();
+    pthread_mutex_init(&vector->mutex, NULL);
+    pthread_cond_init(&vector->settled, NULL);
+    return vector;
+}
+
+/* Whether a folder, a pipe or a device has this name: to open one may wait, or do more. */
+static bool is_no_file(const char *path) {
+    struct stat found;
+    return stat(path, &found) == 0 && !S_ISREG(found.st_mode);
+}
+
+static uint32_t open_alone(cvec_vector *vector, const char *path, int flags) {
+    if (is_no_file(path)) return CVEC_NOT_FILE;
+    vector->fd = open_path(path, O_RDWR | flags);
+    if (vector->fd < 0) return CVEC_DISK_OPEN;
+    uint32_t answer = lock(vector->fd);
+    if (answer == CVEC_DONE && flags != 0) answer = sync_folder(path);
+    /* What is read then is what a crash leaves. */
+    return answer == CVEC_DONE ? sync_data(vector->fd) : answer;
+}
+
+/* Begins the vector over what the file holds; a version of 0 opens it. */
+static uint32_t begin(cvec_vector *vector, uint8_t version, uint16_t seats) {
+    uint64_t len = 0;
+    uint32_t answer = length_of(vector->fd, &len);
+    if (answer != CVEC_DONE) return answer;
+    uint8_t *bytes = len < SIZE_MAX ? malloc((size_t)len + 1) : NULL;
+    if (bytes == NULL) return CVEC_MEMORY;
+    answer = read_at(vector->fd, bytes, (size_t)len);
+    if (answer == CVEC_DONE)
+        answer = version == 0 ? cvec_phase_open(bytes, (size_t)len, seats, &vector->phase, &vector->committer)
+                              : cvec_phase_create(bytes, (size_t)len, version, seats, &vector->phase, &vector->committer);
+    free(bytes);
+    return answer;
+}
+
+static uint32_t begin_at(cvec_vector **begun, const char *path, int flags, uint8_t version, uint16_t seats) {
+    uint64_t growths = 0;
+    *begun = NULL;
+    if (seats == 0 || seats > MOST_SEATS) return CVEC_TOO_LARGE; /* before a file is made */
+    cvec_vector *vector = vector_of();
+    if (vector == NULL) return CVEC_MEMORY;
+    uint32_t answer = open_alone(vector, path, flags);
+    if (answer == CVEC_DONE) answer = begin(vector, version, seats);
+    if (answer == CVEC_DONE) answer = commit(vector, &growths, &vector->durable);
+    if (answer == CVEC_DONE)
+        *begun = vector;
+    else
+        give_up(vector);
+    return answer;
+}
+
+uint32_t cvec_vector_create(cvec_vector **vector, const char *path, uint8_t version, uint16_t seats) {
+    *vector = NULL;
+    if (version != 1 && version != 2) return CVEC_NOT_SO;
+    return begin_at(vector, path, O_CREAT, version, seats);
+}
+
+uint32_t cvec_vector_open(cvec_vector **vector, const char *path, uint16_t seats) {
+    return begin_at(vector, path, 0, 0, seats);
+}
+
+/* Commits until there is nothing to commit. */
+static uint32_t commit_rest(cvec_vector *vector) {
+    uint64_t growths = 1;
+    uint32_t answer = CVEC_DONE;
+    while (answer == CVEC_DONE && growths > 0) answer = lead(vector, &growths);
+    return answer;
+}
+
+/* A forked process has copies of the handles, and of a mutex that any thread may have had: it closes the file alone. */
+static uint32_t leave(cvec_vector *vector) {
+    close_quietly(vector->fd);
+    vector->fd = -1;
+    return CVEC_FORKED;
+}
+
+uint32_t cvec_vector_close(cvec_vector *vector) {
+    if (vector->process != getpid()) return leave(vector);
+    pthread_mutex_lock(&vector->mutex);
+    uint32_t answer = vector->seats > 0 ? CVEC_BUSY : vector->broken ? CVEC_BROKEN : commit_rest(vector);
+    pthread_mutex_unlock(&vector->mutex);
+    if (answer == CVEC_BUSY) return answer;
+    give_up(vector);
+    return answer;
+}
+
+/* ---- seats */
+
+uint32_t cvec_vector_take_seat(cvec_vector *vector, cvec_vector_seat **taken) {
+    *taken = NULL;
+    if (vector->process != getpid()) return CVEC_FORKED;
+    cvec_vector_seat *seat = calloc(1, sizeof *seat);
+    if (seat == NULL) return CVEC_MEMORY;
+    seat->vector = vector;
+    pthread_mutex_lock(&vector->mutex);
+    uint32_t answer = cvec_phase_seat(&vector->phase, &seat->grower);
+    if (answer == CVEC_DONE) vector->seats++;
+    pthread_mutex_unlock(&vector->mutex);
+    if (answer == CVEC_DONE)
+        *taken = seat;
+    else
+        free(seat);
+    return answer;
+}
+
+/* Takes the seat for one call. Two calls at once on one handle would be undefined. */
+static uint32_t enter(cvec_vector_seat *seat) {
+    if (seat->vector->process != getpid()) return CVEC_FORKED;
+    return __atomic_exchange_n(&seat->busy, true, __ATOMIC_ACQUIRE) ? CVEC_BUSY : CVEC_DONE;
+}
+
+static void leave_seat(cvec_vector_seat *seat) { __atomic_store_n(&seat->busy, false, __ATOMIC_RELEASE); }
+
+uint32_t cvec_vector_close_seat(cvec_vector_seat *seat) {
+    uint32_t answer = enter(seat);
+    if (answer != CVEC_DONE) return answer;
+    cvec_vector *vector = seat->vector;
+    cvec_phase_close(&seat->grower);
+    free(seat);
+    pthread_mutex_lock(&vector->mutex);
+    vector->seats--;
+    pthread_mutex_unlock(&vector->mutex);
+    return CVEC_DONE;
+}
+
+static bool is_broken(cvec_vector *vector) {
+    pthread_mutex_lock(&vector->mutex);
+    bool broken = vector->broken;
+    pthread_mutex_unlock(&vector->mutex);
+    return broken;
+}
+
+/* Sleeps so that who came first can go on, each time longer. */
+static void give_way(long *nap) {
+    struct timespec time = {0, *nap};
+    nanosleep(&time, NULL);
+    if (*nap < LONGEST_NAP) *nap *= 2;
+}
+
+static uint32_t grow_in_turn(cvec_vector_seat *seat, const uint64_t *records, size_t count, cvec_receipt *receipt) {
+    uint64_t size;
+    for (long nap = FIRST_NAP;; give_way(&nap)) {
+        uint32_t answer = cvec_phase_grow(&seat->grower, records, count, receipt);
+        if (answer != CVEC_AGAIN) return answer;
+        /* Were the growth that came first none of this vector's, no turn would come. */
+        answer = cvec_phase_size(&seat->grower, &size);
+        if (answer != CVEC_DONE) return answer;
+    }
+}
+
+uint32_t cvec_vector_grow(cvec_vector_seat *seat, const uint64_t *records, size_t count, cvec_receipt *receipt) {
+    cvec_receipt unasked;
+    uint32_t answer = enter(seat);
+    if (answer != CVEC_DONE) return answer;
+    answer = is_broken(seat->vector) ? CVEC_BROKEN
+                                     : grow_in_turn(seat, count > 0 ? records : no_records, count, receipt ? receipt : &unasked);
+    leave_seat(seat);
+    return answer;
+}
+
+/* With the mutex: waits until so many growths are durable. */
+static uint32_t await_count(cvec_vector *vector, uint64_t count) {
+    uint64_t growths = 0;
+    while (vector->durable < count) {
+        if (vector->broken) return CVEC_BROKEN;
+        if (vector->committing) {
+            pthread_cond_wait(&vector->settled, &vector->mutex);
+            continue;
+        }
+        uint32_t answer = lead(vector, &growths);
+        if (answer != CVEC_DONE) return answer;
+        if (growths == 0 && vector->durable < count) return CVEC_OUT_OF_RANGE;
+    }
+    return CVEC_DONE;
+}
+
+uint32_t cvec_vector_await(cvec_vector_seat *seat, uint64_t number) {
+    uint32_t answer = enter(seat);
+    if (answer != CVEC_DONE) return answer;
+    if (number == UINT64_MAX) {
+        leave_seat(seat);
+        return CVEC_OUT_OF_RANGE;
+    }
+    pthread_mutex_lock(&seat->vector->mutex);
+    answer = await_count(seat->vector, number + 1);
+    pthread_mutex_unlock(&seat->vector->mutex);
+    leave_seat(seat);
+    return answer;
+}
+
+uint32_t cvec_vector_settled(cvec_vector_seat *seat, uint64_t *count) {
+    uint32_t state;
+    uint32_t answer = enter(seat);
+    if (answer != CVEC_DONE) return answer;
+    answer = cvec_phase_settled(&seat->grower, count, &state);
+    leave_seat(seat);
+    return answer;
+}
+
+uint32_t cvec_vector_size(cvec_vector_seat *seat, uint64_t *size) {
+    uint32_t answer = enter(seat);
+    if (answer != CVEC_DONE) return answer;
+    answer = cvec_phase_size(&seat->grower, size);
+    leave_seat(seat);
+    return answer;
+}
+
+/* Piece by piece, as the records stand. */
+static uint32_t read_pieces(cvec_handle *grower, uint64_t from, uint64_t *out, size_t room, uint64_t *count) {
+    uint64_t size, copied = 0, part = 1;
+    uint32_t answer = cvec_phase_size(grower, &size);
+    while (answer == CVEC_DONE && copied < room && part > 0) {
+        answer = cvec_phase_read(grower, from + copied, out + copied, room - (size_t)copied, &part);
+        if (answer == CVEC_DONE) copied += part;
+    }
+    if (answer == CVEC_DONE) *count = copied;
+    return answer;
+}
+
+uint32_t cvec_vector_read(cvec_vector_seat *seat, uint64_t from, uint64_t *out, size_t room, uint64_t *count) {
+    uint32_t answer = enter(seat);
+    if (answer != CVEC_DONE) return answer;
+    answer = read_pieces(&seat->grower, from, room > 0 ? out : no_room, room, count);
+    leave_seat(seat);
+    return answer;
+}

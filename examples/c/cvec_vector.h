@@ -1,0 +1,110 @@
+/* A durable vector of uint64_t that threads of one process grow, from C (C99) and C++, over POSIX threads.
+ *
+ * The first part is what cvec_vector.c offers: opaque pointers, one vector for a file, and a seat for each thread. It makes
+ * the calls of the system, and is not proved. The second part is libcvec_threads.a, which is proved: what each call makes
+ * of the handle that it is passed. docs/use/threads.md tells both.
+ *
+ * What a function answers is a number of enum cvec_status (cvec.h) or of enum cvec_vector_status. */
+#ifndef CVEC_VECTOR_H
+#define CVEC_VECTOR_H
+
+#include "cvec.h"
+
+#ifdef __cplusplus
+extern "C" {
+#endif
+
+enum cvec_vector_status {
+    CVEC_NOT_SO = 64, /* every seat is taken, or there is no such version; of the library: a handle of another end, or none */
+    CVEC_AGAIN = 65,  /* of the library alone: another growth came first */
+    CVEC_FULL = 66,   /* the vector was grown 1,048,568 times since it was opened: close it, and open it again */
+    CVEC_BUSY = 67    /* another thread is inside a call by this seat; of a close: a seat isn't closed */
+};
+
+/* ---- cvec_vector.c: not proved */
+
+typedef struct cvec_vector cvec_vector;
+typedef struct cvec_vector_seat cvec_vector_seat;
+
+/* Where a growth stands. */
+typedef struct cvec_receipt {
+    uint64_t number; /* how many growths stand before it */
+    uint64_t start;  /* how many records stand before it */
+    uint64_t len;    /* how many it has */
+    uint64_t serial; /* how many growths of its seat stand before it */
+    uint16_t seat;   /* whose growth it is */
+} cvec_receipt;
+
+/* Makes a file of version 1 or 2, or opens one that is there, for so many seats: 1 to 64. The file is locked (flock) until
+ * the vector is closed. Any other number than CVEC_DONE leaves *vector NULL. */
+uint32_t cvec_vector_create(cvec_vector **vector, const char *path, uint8_t version, uint16_t seats);
+uint32_t cvec_vector_open(cvec_vector **vector, const char *path, uint16_t seats);
+
+/* Commits what was grown, and closes the file. CVEC_BUSY, and nothing is closed, while a seat isn't closed. Whatever else it
+ * answers, the vector is gone; another number than CVEC_DONE says that growths nobody awaited may be lost. */
+uint32_t cvec_vector_close(cvec_vector *vector);
+
+/* A seat, for one thread at a time. */
+uint32_t cvec_vector_take_seat(cvec_vector *vector, cvec_vector_seat **seat);
+
+/* Gives it up. Its growths stay, and its number isn't taken again until the file is opened again. CVEC_BUSY: it stays. */
+uint32_t cvec_vector_close_seat(cvec_vector_seat *seat);
+
+/* Grows by copies of these records, as one block behind all that was grown before: all of them are in the vector, in a row,
+ * or none. Others read them from then on; durable they are once they are awaited. receipt may be NULL. */
+uint32_t cvec_vector_grow(cvec_vector_seat *seat, const uint64_t *records, size_t count, cvec_receipt *receipt);
+
+/* Waits until the growth of that number, and each before it, is durable. Who finds that nobody commits commits for all. */
+uint32_t cvec_vector_await(cvec_vector_seat *seat, uint64_t number);
+
+/* How many growths are durable: the first ones are. It doesn't wait. */
+uint32_t cvec_vector_settled(cvec_vector_seat *seat, uint64_t *count);
+
+/* How many records there are, durable or not. */
+uint32_t cvec_vector_size(cvec_vector_seat *seat, uint64_t *size);
+
+/* Copies the records from position `from` on, as far as `out` and the vector reach, durable or not; *count says how many. */
+uint32_t cvec_vector_read(cvec_vector_seat *seat, uint64_t from, uint64_t *out, size_t room, uint64_t *count);
+
+/* ---- libcvec_threads.a: proved. cvec_vector.c keeps its rules: a handle is all zero at first; it is never copied; one call
+ * at a time has it; no call comes from a signal's handler or from a forked process. Pointers are never NULL, and what is
+ * written overlaps nothing. A call that doesn't answer 0 writes nothing but its handles. */
+
+/* An end of a vector, or nothing. */
+typedef struct cvec_handle {
+    void *at;
+    bool full;
+} cvec_handle;
+
+/* A call of the file that the host is to make. */
+typedef struct cvec_call {
+    uint64_t at;   /* the place from which on it writes */
+    uint64_t len;  /* how many bytes */
+    uint32_t kind; /* 0 a write, 1 a sync (fdatasync) */
+} cvec_call;
+
+/* Begins a vector over a file that holds these bytes, and fills two handles: the phase, which gives seats, and who commits. */
+uint32_t cvec_phase_create(const uint8_t *bytes, size_t len, uint8_t version, uint16_t seats, cvec_handle *phase,
+                           cvec_handle *committer);
+uint32_t cvec_phase_open(const uint8_t *bytes, size_t len, uint16_t seats, cvec_handle *phase, cvec_handle *committer);
+uint32_t cvec_phase_seat(cvec_handle *phase, cvec_handle *grower);
+uint32_t cvec_phase_close(cvec_handle *handle);
+
+/* By a seat's handle. CVEC_AGAIN: another growth came first; call it again. state: 0, growths may yet be settled. */
+uint32_t cvec_phase_grow(cvec_handle *grower, const uint64_t *records, size_t count, cvec_receipt *receipt);
+uint32_t cvec_phase_settled(cvec_handle *grower, uint64_t *count, uint32_t *state);
+uint32_t cvec_phase_size(cvec_handle *grower, uint64_t *size);
+uint32_t cvec_phase_read(cvec_handle *grower, uint64_t from, uint64_t *out, size_t room, uint64_t *count);
+
+/* By the handle of who commits: plan, make each call in order, and only if each has succeeded, settle. */
+uint32_t cvec_phase_plan(cvec_handle *committer, uint64_t *growths);
+uint32_t cvec_phase_calls(cvec_handle *committer, uint64_t *count);
+uint32_t cvec_phase_call(cvec_handle *committer, uint64_t number, cvec_call *call);
+uint32_t cvec_phase_bytes(cvec_handle *committer, uint64_t number, uint8_t *out, size_t len);
+uint32_t cvec_phase_settle(cvec_handle *committer, uint64_t *count);
+
+#ifdef __cplusplus
+}
+#endif
+
+#endif

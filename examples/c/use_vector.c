@@ -1,0 +1,69 @@
+/* Threads that grow one vector: each grows by blocks of its own, waits until they are durable, and reads them back.
+ * ./use_vector FILE THREADS GROWTHS */
+#include "cvec_vector.h"
+
+#include <inttypes.h>
+#include <pthread.h>
+#include <stdio.h>
+#include <stdlib.h>
+
+enum { BLOCK = 3, MOST_THREADS = 64 };
+
+struct job {
+    cvec_vector_seat *seat;
+    uint64_t name, growths;
+    uint32_t status;
+};
+
+/* Grows by one block, and waits until it is durable. */
+static uint32_t grow_once(struct job *job, uint64_t turn) {
+    const uint64_t block[BLOCK] = {job->name, turn, job->name + turn};
+    uint64_t back[BLOCK], count = 0;
+    cvec_receipt receipt;
+    uint32_t status = cvec_vector_grow(job->seat, block, BLOCK, &receipt);
+    if (status == CVEC_DONE) status = cvec_vector_await(job->seat, receipt.number);
+    if (status == CVEC_DONE) status = cvec_vector_read(job->seat, receipt.start, back, BLOCK, &count);
+    if (status != CVEC_DONE) return status;
+    return count == BLOCK && back[0] == block[0] && back[1] == block[1] && back[2] == block[2] ? CVEC_DONE : CVEC_DAMAGED;
+}
+
+static void *run(void *work) {
+    struct job *job = work;
+    for (uint64_t turn = 0; turn < job->growths && job->status == CVEC_DONE; turn++) job->status = grow_once(job, turn);
+    return NULL;
+}
+
+/* Runs all threads to their ends, and answers the first refusal. */
+static uint32_t run_all(cvec_vector *vector, unsigned threads, uint64_t growths) {
+    static struct job jobs[MOST_THREADS];
+    static pthread_t ids[MOST_THREADS];
+    uint32_t status = CVEC_DONE;
+    for (unsigned k = 0; k < threads && status == CVEC_DONE; k++) {
+        jobs[k] = (struct job){NULL, k, growths, CVEC_DONE};
+        status = cvec_vector_take_seat(vector, &jobs[k].seat);
+    }
+    if (status != CVEC_DONE) return status;
+    for (unsigned k = 0; k < threads; k++) pthread_create(&ids[k], NULL, run, &jobs[k]);
+    for (unsigned k = 0; k < threads; k++) {
+        pthread_join(ids[k], NULL);
+        if (status == CVEC_DONE) status = jobs[k].status;
+        cvec_vector_close_seat(jobs[k].seat);
+    }
+    return status;
+}
+
+int main(int argc, char **argv) {
+    cvec_vector *vector;
+    if (argc != 4) return 2;
+    unsigned threads = (unsigned)atoi(argv[2]);
+    if (threads == 0 || threads > MOST_THREADS) return 2;
+    uint32_t status = cvec_vector_create(&vector, argv[1], 1, (uint16_t)threads); /* cvec_vector_open: a file that is there */
+    if (status == CVEC_EXISTS) status = cvec_vector_open(&vector, argv[1], (uint16_t)threads);
+    if (status == CVEC_DONE) {
+        status = run_all(vector, threads, strtoull(argv[3], NULL, 10));
+        uint32_t closed = cvec_vector_close(vector);
+        if (status == CVEC_DONE) status = closed;
+    }
+    printf("%" PRIu32 "\n", status);
+    return status == CVEC_DONE ? 0 : 1;
+}

@@ -1,0 +1,868 @@
+// cvec::concurrent_vector<T>: a durable vector that the threads of one process grow, in the manner of oneTBB's, for C++17.
+//
+// It stands on cvec_vector.h, which is C, and is not proved; docs/use/cpp.md has its rules. In the file a row, which is one T,
+// is sizeof(T) / 8 records of 8 bytes, one behind the other.
+#ifndef CVEC_CONCURRENT_VECTOR_HPP
+#define CVEC_CONCURRENT_VECTOR_HPP
+
+#include "cvec_vector.h"
+
+#include <algorithm>
+#include <array>
+#include <atomic>
+#include <cerrno>
+#include <chrono>
+#include <cstddef>
+#include <cstdint>
+#include <cstdlib>
+#include <cstring>
+#include <initializer_list>
+#include <iterator>
+#include <memory>
+#include <mutex>
+#include <new>
+#include <optional>
+#include <stdexcept>
+#include <string>
+#include <system_error>
+#include <thread>
+#include <type_traits>
+#include <unistd.h>
+#include <utility>
+#include <vector>
+
+namespace cvec {
+
+// ---- refusals
+
+namespace detail {
+
+inline const char *text_of(std::uint32_t status) noexcept {
+    switch (status) {
+    case CVEC_DONE: return "done";
+    case CVEC_UNBORN: return "no vector was begun in it";
+    case CVEC_NOT_SEGMENT: return "not a segment file";
+    case CVEC_VERSION: return "a version that isn't known";
+    case CVEC_WIDTH: return "its records are no rows of this type";
+    case CVEC_DAMAGED: return "a frame of it is damaged";
+    case CVEC_MEMORY: return "memory was refused";
+    case CVEC_EMPTY: return "a growth without a row";
+    case CVEC_OUT_OF_RANGE: return "past the greatest length of a vector, or no such growth";
+    case CVEC_TOO_LARGE: return "more rows than one growth may have";
+    case CVEC_FILE_FULL: return "the file is full";
+    case CVEC_EXISTS: return "something is there already";
+    case CVEC_IN_USE: return "in use";
+    case CVEC_BROKEN: return "broken by an earlier write or sync that failed: open it again";
+    case CVEC_DISK_OPEN: return "it can't be opened";
+    case CVEC_DISK_LENGTH: return "its length can't be found";
+    case CVEC_DISK_READ: return "a read failed";
+    case CVEC_DISK_WRITE: return "a write failed";
+    case CVEC_DISK_SYNC: return "a sync failed: restart the system before it is opened again";
+    case CVEC_FORKED: return "a forked process may not use it";
+    case CVEC_NOT_FILE: return "not a file";
+    case CVEC_NOT_SO: return "no such version, or no such number of seats";
+    case CVEC_FULL: return "no more growths until it is opened again";
+    case CVEC_BUSY: return "another thread is inside a call";
+    default: return "refused";
+    }
+}
+
+inline bool is_of_the_system(std::uint32_t status) noexcept { return status >= CVEC_DISK_OPEN && status <= CVEC_DISK_SYNC; }
+
+inline std::string sentence(const std::string &path, const std::string &text, int system) {
+    return "cvec: " + path + ": " + text + (system == 0 ? "" : ": " + std::generic_category().message(system));
+}
+
+} // namespace detail
+
+// A call that was refused: why, as a status of cvec.h or cvec_vector.h, and in words.
+class error : public std::runtime_error {
+  public:
+    error(std::uint32_t status, const std::string &path, const std::string &text, int system)
+        : std::runtime_error(detail::sentence(path, text, system)), status_(status), system_(system) {}
+
+    [[nodiscard]] std::uint32_t status() const noexcept { return status_; }
+
+    // What errno was, where a call of the system failed; else 0.
+    [[nodiscard]] int system_error() const noexcept { return system_; }
+
+  private:
+    std::uint32_t status_;
+    int system_;
+};
+
+// ---- how a vector begins, and what a growth is told
+
+enum class opening { open_or_create, open, create };
+
+struct options {
+    opening how = opening::open_or_create;
+    std::uint8_t version = 1; // of a file that is created: 1 or 2
+    std::uint16_t seats = 64; // so many threads may be inside calls at once, 1 to 64: more wait for one another
+};
+
+// Where a growth stands.
+struct growth {
+    std::uint64_t number; // how many growths were made before it, since the vector was opened
+    std::size_t first;    // the position of its first row
+    std::size_t length;   // how many rows it has
+};
+
+// ---- a file of words
+
+namespace detail {
+
+constexpr std::size_t word_bytes = sizeof(std::uint64_t);
+constexpr std::size_t most_seats = 64;
+// What one growth may have: 2^20 bytes of payload, with 8 of its own.
+constexpr std::size_t most_words = ((std::size_t{1} << 20) - 8) / word_bytes;
+constexpr std::uint64_t most_records = std::uint64_t{1} << 32;
+constexpr std::size_t cache_line = 64;
+// For a file that is opened again, and that another process has meanwhile.
+constexpr std::chrono::seconds longest_wait{2};
+
+// A number for each thread: threads begin their search for a seat at different ones.
+inline std::size_t number_of_thread() noexcept {
+    static std::atomic<std::size_t> next{0};
+    thread_local const std::size_t mine = next.fetch_add(1, std::memory_order_relaxed);
+    return mine;
+}
+
+// Sleeps between looks for what another thread has: each time longer.
+class patience {
+  public:
+    void wait() {
+        std::this_thread::sleep_for(nap_);
+        nap_ = std::min(nap_ * 2, longest_nap);
+    }
+
+  private:
+    static constexpr std::chrono::microseconds longest_nap{200};
+    std::chrono::microseconds nap_{2};
+};
+
+// A file of words that any thread may use. A call of cvec_vector.h wants a seat that no other call has, so each call here
+// borrows one: the one that its thread had before, where nobody has it. There come to be as many seats as there were calls at
+// once. No code of the user runs while a seat is lent, so no call waits for a seat that its own thread has.
+class word_file {
+  public:
+    word_file(const std::string &path, const options &wanted) : limit_(wanted.seats), process_(::getpid()), path_(path) {
+        if (limit_ == 0 || limit_ > most_seats) refuse(CVEC_NOT_SO);
+        begin(wanted);
+        remember_path();
+        if (!seat_another()) abandon(CVEC_MEMORY);
+    }
+
+    word_file(const word_file &) = delete;
+    word_file &operator=(const word_file &) = delete;
+
+    // A destructor reports nothing: who wants to know calls close.
+    ~word_file() { give_up(); }
+
+    // Waits until each call under way has ended. Later ones are refused, and to close again does nothing.
+    void close() { require(give_up()); }
+
+    // Some words as one growth. The receipt counts growths from when the file was opened first.
+    cvec_receipt grow(const std::uint64_t *words, std::size_t count) {
+        for (;;) {
+            std::uint64_t openings = 0;
+            cvec_receipt receipt{};
+            const std::uint32_t status = try_grow(words, count, receipt, openings);
+            if (status != CVEC_FULL) {
+                require(status);
+                return receipt;
+            }
+            open_again(openings);
+        }
+    }
+
+    // Waits until the growth of this number, and each before it, is durable.
+    void await(std::uint64_t number) {
+        const lease lent(*this);
+        if (number >= base_) require(cvec_vector_await(lent.seat(), number - base_));
+    }
+
+    // Waits for all growths that have returned.
+    void await_all() {
+        const std::uint64_t grown = grown_.load(std::memory_order_acquire);
+        if (grown > 0) await(grown - 1);
+    }
+
+    std::uint64_t settled() {
+        const lease lent(*this);
+        std::uint64_t count = 0;
+        require(cvec_vector_settled(lent.seat(), &count));
+        return base_ + count;
+    }
+
+    std::uint64_t size() {
+        const lease lent(*this);
+        std::uint64_t count = 0;
+        require(cvec_vector_size(lent.seat(), &count));
+        return count;
+    }
+
+    // Copies words from this place on, and answers how many there were.
+    std::size_t read(std::uint64_t from, std::uint64_t *out, std::size_t room) {
+        const lease lent(*this);
+        std::uint64_t count = 0;
+        require(cvec_vector_read(lent.seat(), from, out, room, &count));
+        return static_cast<std::size_t>(count);
+    }
+
+    // For who looks at a length before it grows: one at a time.
+    std::mutex &turn() noexcept { return turn_; }
+
+    [[noreturn]] void refuse(std::uint32_t status) const { refuse(status, text_of(status)); }
+
+    [[noreturn]] void refuse(std::uint32_t status, const std::string &text) const {
+        throw error(status, path_, text, is_of_the_system(status) ? errno : 0);
+    }
+
+    // Gives the file up in a constructor, and refuses.
+    [[noreturn]] void abandon(std::uint32_t status) {
+        const int why = errno;
+        give_up();
+        errno = why;
+        refuse(status);
+    }
+
+  private:
+    // A seat of its own cache line, for one call at a time.
+    struct alignas(cache_line) slot {
+        std::atomic<bool> is_lent{false};
+        cvec_vector_seat *seat = nullptr;
+
+        bool try_take() noexcept {
+            return !is_lent.load(std::memory_order_relaxed) && !is_lent.exchange(true, std::memory_order_acquire);
+        }
+        void give_back() noexcept { is_lent.store(false, std::memory_order_release); }
+    };
+
+    // A seat for one call.
+    class lease {
+      public:
+        explicit lease(word_file &file) : slot_(file.borrow()) {}
+        lease(const lease &) = delete;
+        lease &operator=(const lease &) = delete;
+        ~lease() { slot_.give_back(); }
+        [[nodiscard]] cvec_vector_seat *seat() const noexcept { return slot_.seat; }
+
+      private:
+        slot &slot_;
+    };
+
+    void require(std::uint32_t status) const {
+        if (status != CVEC_DONE) refuse(status);
+    }
+
+    // -- beginning
+
+    void begin(const options &wanted) {
+        require(wanted.how == opening::open     ? open()
+                : wanted.how == opening::create ? create(wanted.version)
+                                                : open_or_create(wanted.version));
+    }
+
+    std::uint32_t open() { return cvec_vector_open(&vector_, path_.c_str(), limit_); }
+    std::uint32_t create(std::uint8_t version) { return cvec_vector_create(&vector_, path_.c_str(), version, limit_); }
+
+    // What a stopped creation has left isn't opened, but created over, as a file that isn't there.
+    std::uint32_t open_or_create(std::uint8_t version) {
+        const std::uint32_t opened = open();
+        const bool is_missing = opened == CVEC_DISK_OPEN && errno == ENOENT;
+        if (!is_missing && opened != CVEC_UNBORN) return opened;
+        const std::uint32_t created = create(version);
+        return created == CVEC_EXISTS ? open() : created;
+    }
+
+    // The file is opened again by its whole path: the process may have gone to another folder.
+    void remember_path() {
+        char *whole = ::realpath(path_.c_str(), nullptr);
+        if (whole == nullptr) abandon(CVEC_DISK_OPEN);
+        path_ = whole;
+        std::free(whole);
+    }
+
+    // -- seats
+
+    slot &borrow() {
+        for (patience turn;; turn.wait()) {
+            if (closed_.load(std::memory_order_acquire)) refuse(CVEC_NOT_SO, "it was closed");
+            if (slot *found = find_idle()) return *found;
+            // Who had a seat when this process was forked gives it back in the other process alone.
+            if (process_ != ::getpid()) refuse(CVEC_FORKED);
+            if (slot *fresh = find_or_seat()) return *fresh;
+        }
+    }
+
+    slot *find_idle() noexcept {
+        const std::size_t count = seated_.load(std::memory_order_acquire);
+        for (std::size_t k = 0; k < count; ++k) {
+            slot &one = slots_[(number_of_thread() + k) % count];
+            if (one.try_take()) return &one;
+        }
+        return nullptr;
+    }
+
+    // One more seat, for who has found none idle; or none, where there are as many as there may be.
+    slot *find_or_seat() {
+        if (seated_.load(std::memory_order_relaxed) == limit_) return nullptr;
+        const std::lock_guard<std::mutex> lock(seating_);
+        if (slot *found = find_idle()) return found;
+        if (closed_.load(std::memory_order_acquire) || !seat_another()) return nullptr;
+        return find_idle();
+    }
+
+    // With the mutex, or before other threads are there.
+    bool seat_another() {
+        const std::size_t count = seated_.load(std::memory_order_relaxed);
+        if (count == limit_ || cvec_vector_take_seat(vector_, &slots_[count].seat) != CVEC_DONE) return false;
+        seated_.store(count + 1, std::memory_order_release);
+        return true;
+    }
+
+    // With the mutex: has all seats, so that no call is under way.
+    void take_all_seats() {
+        patience turn;
+        for (std::size_t k = 0; k < seated_.load(std::memory_order_relaxed); ++k)
+            while (!slots_[k].try_take()) turn.wait();
+    }
+
+    void give_all_seats_back() noexcept {
+        for (std::size_t k = 0; k < seated_.load(std::memory_order_relaxed); ++k) slots_[k].give_back();
+    }
+
+    // -- growing, and opening again
+
+    std::uint32_t try_grow(const std::uint64_t *words, std::size_t count, cvec_receipt &receipt, std::uint64_t &openings) {
+        const lease lent(*this);
+        openings = openings_;
+        const std::uint32_t status = cvec_vector_grow(lent.seat(), words, count, &receipt);
+        if (status != CVEC_DONE) return status;
+        receipt.number += base_;
+        raise_grown(receipt.number + 1);
+        return status;
+    }
+
+    void raise_grown(std::uint64_t count) noexcept {
+        std::uint64_t known = grown_.load(std::memory_order_relaxed);
+        while (known < count && !grown_.compare_exchange_weak(known, count, std::memory_order_acq_rel)) {}
+    }
+
+    // An open vector takes a limited number of growths (CVEC_FULL). The first thread that is told so opens it again, while
+    // nobody else is inside a call.
+    void open_again(std::uint64_t openings) {
+        const std::lock_guard<std::mutex> lock(seating_);
+        if (closed_.load(std::memory_order_acquire) || openings != openings_) return;
+        take_all_seats();
+        std::uint64_t size = 0;
+        std::uint32_t status = settle_all(&size);
+        if (status == CVEC_DONE) {
+            status = close_and_open(size);
+            closed_.store(status != CVEC_DONE, std::memory_order_release);
+        }
+        if (!closed_.load(std::memory_order_acquire)) give_all_seats_back();
+        require(status);
+    }
+
+    // With all seats. Where it is refused nothing has changed, and the file stays open.
+    std::uint32_t settle_all(std::uint64_t *size) {
+        const std::uint64_t grown = grown_.load(std::memory_order_acquire);
+        const std::uint32_t status = cvec_vector_await(slots_[0].seat, grown - 1 - base_);
+        return status == CVEC_DONE ? cvec_vector_size(slots_[0].seat, size) : status;
+    }
+
+    // With all seats. Where it is refused the file is closed.
+    std::uint32_t close_and_open(std::uint64_t size) {
+        std::uint32_t status = close_all();
+        if (status == CVEC_DONE) status = open_patiently();
+        if (status == CVEC_DONE) status = take_seats_again(size);
+        if (status != CVEC_DONE) return status;
+        base_ = grown_.load(std::memory_order_acquire);
+        ++openings_;
+        return status;
+    }
+
+    // A forked process that is about to run another program has the lock until then.
+    std::uint32_t open_patiently() {
+        const auto end = std::chrono::steady_clock::now() + longest_wait;
+        for (patience turn;; turn.wait()) {
+            const std::uint32_t status = open();
+            if (status != CVEC_IN_USE || std::chrono::steady_clock::now() > end) return status;
+        }
+    }
+
+    // As many seats as before, of a file that is as long as before: another process may have had it for a moment.
+    std::uint32_t take_seats_again(std::uint64_t size) {
+        std::uint64_t found = 0;
+        std::uint32_t status = CVEC_DONE;
+        for (std::size_t k = 0; k < seated_.load(std::memory_order_relaxed) && status == CVEC_DONE; ++k)
+            status = cvec_vector_take_seat(vector_, &slots_[k].seat);
+        if (status == CVEC_DONE) status = cvec_vector_size(slots_[0].seat, &found);
+        if (status == CVEC_DONE && found != size) status = CVEC_IN_USE;
+        if (status != CVEC_DONE) close_all();
+        return status;
+    }
+
+    // -- ending
+
+    std::uint32_t close_all() noexcept {
+        for (std::size_t k = 0; k < seated_.load(std::memory_order_relaxed); ++k) {
+            if (slots_[k].seat != nullptr) cvec_vector_close_seat(slots_[k].seat);
+            slots_[k].seat = nullptr;
+        }
+        cvec_vector *vector = std::exchange(vector_, nullptr);
+        return vector == nullptr ? std::uint32_t{CVEC_DONE} : cvec_vector_close(vector);
+    }
+
+    std::uint32_t give_up() {
+        if (process_ != ::getpid()) return leave();
+        const std::lock_guard<std::mutex> lock(seating_);
+        if (closed_.exchange(true, std::memory_order_acq_rel)) return CVEC_DONE;
+        take_all_seats();
+        return close_all();
+    }
+
+    // A forked process closes the file alone: threads that it hasn't got may have had the mutex, and seats.
+    std::uint32_t leave() noexcept {
+        closed_.store(true, std::memory_order_release);
+        cvec_vector *vector = std::exchange(vector_, nullptr);
+        if (vector != nullptr) cvec_vector_close(vector);
+        return CVEC_FORKED;
+    }
+
+    std::array<slot, most_seats> slots_;
+    std::atomic<std::size_t> seated_{0}; // so many slots have a seat
+    std::uint16_t limit_;
+    pid_t process_;
+    cvec_vector *vector_ = nullptr;
+    std::string path_;
+    std::atomic<bool> closed_{false};
+    std::mutex seating_; // who takes further seats, or all
+    std::mutex turn_;
+    std::atomic<std::uint64_t> grown_{0}; // so many growths have returned since the file was opened first
+    // Read with a seat, and written with all of them.
+    std::uint64_t base_ = 0; // of the growths so many were made before the file was opened last
+    std::uint64_t openings_ = 0;
+};
+
+// ---- rows
+
+template <class T> struct row {
+    static_assert(std::is_trivially_copyable_v<T> && std::is_copy_constructible_v<T> && !std::is_const_v<T> &&
+                      !std::is_volatile_v<T>,
+                  "cvec::concurrent_vector<T>: T is copied to a file byte by byte, so it is trivially copyable, and not const");
+    static_assert(sizeof(T) % word_bytes == 0 && sizeof(T) <= 256,
+                  "cvec::concurrent_vector<T>: T has a multiple of 8 bytes, from 8 to 256: add a field that fills it");
+
+    static constexpr std::size_t words = sizeof(T) / word_bytes;
+    static constexpr std::size_t most_in_growth = most_words / words;
+
+    // Copies, since a T may be aligned to less than a word, or be no row of words to the compiler.
+    static void store(const T &value, std::uint64_t *out) noexcept { std::memcpy(out, &value, sizeof(T)); }
+
+    static T load(const std::uint64_t *from) noexcept {
+        alignas(T) unsigned char bytes[sizeof(T)];
+        std::memcpy(bytes, from, sizeof(T));
+        return *std::launder(reinterpret_cast<T *>(bytes));
+    }
+
+    static void add(std::vector<std::uint64_t> &out, const T &value) {
+        const std::size_t end = out.size();
+        out.resize(end + words);
+        store(value, out.data() + end);
+    }
+
+    // The rows of a range. No seat is lent meanwhile, so the range may be one of the same vector.
+    template <class Iterator> static std::vector<std::uint64_t> words_of(Iterator first, Iterator last) {
+        std::vector<std::uint64_t> found;
+        for (; first != last; ++first) add(found, *first);
+        return found;
+    }
+
+    static std::vector<std::uint64_t> copies_of(const T &value, std::size_t count) {
+        std::vector<std::uint64_t> found(count * words);
+        for (std::size_t k = 0; k < count; ++k) store(value, found.data() + k * words);
+        return found;
+    }
+
+    static void refuse_too_many(const word_file &file, std::size_t rows) {
+        if (rows > most_in_growth) file.refuse(CVEC_TOO_LARGE);
+    }
+
+    static growth grow(word_file &file, const std::uint64_t *from, std::size_t rows) {
+        refuse_too_many(file, rows);
+        const cvec_receipt made = file.grow(from, rows * words);
+        return {made.number, static_cast<std::size_t>(made.start / words), rows};
+    }
+
+    static growth grow(word_file &file, const std::vector<std::uint64_t> &all) {
+        return grow(file, all.data(), all.size() / words);
+    }
+
+    // The row at a position, or nothing where the vector isn't as long.
+    static std::optional<T> read(word_file &file, std::size_t position) {
+        std::array<std::uint64_t, words> found;
+        if (position >= most_records / words) return std::nullopt;
+        if (file.read(std::uint64_t{position} * words, found.data(), words) < words) return std::nullopt;
+        return load(found.data());
+    }
+};
+
+// Rows that stand one behind the other, copied once. It doesn't change, so any number of iterators may share it. It begins at
+// a multiple of its greatest length, so that iterators find it again in both directions.
+template <class T> class piece {
+  public:
+    static constexpr std::size_t most_rows = 4096 / sizeof(T);
+
+    piece(word_file &file, std::size_t position) : first_(position - position % most_rows) {
+        rows_ = file.read(std::uint64_t{first_} * row<T>::words, words_.data(), words_.size()) / row<T>::words;
+    }
+
+    [[nodiscard]] bool has(std::size_t position) const noexcept { return position >= first_ && position - first_ < rows_; }
+    [[nodiscard]] T operator[](std::size_t position) const noexcept {
+        return row<T>::load(words_.data() + (position - first_) * row<T>::words);
+    }
+
+  private:
+    std::size_t first_, rows_;
+    std::array<std::uint64_t, most_rows * row<T>::words> words_;
+};
+
+// What `->` of an iterator answers: it holds the row that it points to.
+template <class T> class arrow {
+  public:
+    explicit arrow(const T &value) : value_(value) {}
+    const T *operator->() const noexcept { return &value_; }
+
+  private:
+    T value_;
+};
+
+[[noreturn]] inline void refuse_position(std::size_t position) {
+    throw std::out_of_range("cvec: no row at position " + std::to_string(position));
+}
+
+// Goes through the rows of a vector, and reads copies of them. To move it copies the piece of the file where it comes to, if it
+// hasn't got it: so a loop makes a call of the vector for each piece, and not for each row. What is const changes nothing.
+template <class T> class iterator {
+  public:
+    using iterator_category = std::random_access_iterator_tag;
+    using value_type = T;
+    using difference_type = std::ptrdiff_t;
+    using pointer = arrow<T>;
+    using reference = T;
+
+    iterator() = default;
+    iterator(word_file *file, std::size_t position) noexcept : file_(file), position_(position) {}
+
+    [[nodiscard]] T operator*() const { return row_at(position_); }
+    [[nodiscard]] arrow<T> operator->() const { return arrow<T>(row_at(position_)); }
+    [[nodiscard]] T operator[](difference_type k) const { return row_at(moved(k)); }
+
+    // The position in the vector.
+    [[nodiscard]] std::size_t position() const noexcept { return position_; }
+
+    iterator &operator+=(difference_type k) noexcept {
+        position_ = moved(k);
+        fetch();
+        return *this;
+    }
+    iterator &operator-=(difference_type k) noexcept { return *this += -k; }
+    iterator &operator++() noexcept { return *this += 1; }
+    iterator &operator--() noexcept { return *this += -1; }
+    iterator operator++(int) noexcept { return std::exchange(*this, *this + 1); }
+    iterator operator--(int) noexcept { return std::exchange(*this, *this - 1); }
+
+    friend iterator operator+(iterator from, difference_type k) noexcept { return from += k; }
+    friend iterator operator+(difference_type k, iterator from) noexcept { return from += k; }
+    friend iterator operator-(iterator from, difference_type k) noexcept { return from -= k; }
+    friend difference_type operator-(const iterator &a, const iterator &b) noexcept {
+        return static_cast<difference_type>(a.position_) - static_cast<difference_type>(b.position_);
+    }
+
+    friend bool operator==(const iterator &a, const iterator &b) noexcept { return a.position_ == b.position_; }
+    friend bool operator!=(const iterator &a, const iterator &b) noexcept { return a.position_ != b.position_; }
+    friend bool operator<(const iterator &a, const iterator &b) noexcept { return a.position_ < b.position_; }
+    friend bool operator>(const iterator &a, const iterator &b) noexcept { return a.position_ > b.position_; }
+    friend bool operator<=(const iterator &a, const iterator &b) noexcept { return a.position_ <= b.position_; }
+    friend bool operator>=(const iterator &a, const iterator &b) noexcept { return a.position_ >= b.position_; }
+
+  private:
+    [[nodiscard]] std::size_t moved(difference_type k) const noexcept { return position_ + static_cast<std::size_t>(k); }
+
+    [[nodiscard]] T row_at(std::size_t position) const {
+        if (piece_ && piece_->has(position)) return (*piece_)[position];
+        const std::optional<T> found = row<T>::read(*file_, position);
+        if (!found) refuse_position(position);
+        return *found;
+    }
+
+    // What can't be fetched isn't held: to read it is refused.
+    void fetch() noexcept {
+        if (piece_ && piece_->has(position_)) return;
+        if (position_ >= most_records / row<T>::words) return;
+        try {
+            auto found = std::make_shared<const piece<T>>(*file_, position_);
+            if (found->has(position_)) piece_ = std::move(found);
+        } catch (...) {
+        }
+    }
+
+    word_file *file_ = nullptr;
+    std::size_t position_ = 0;
+    std::shared_ptr<const piece<T>> piece_;
+};
+
+// Positions from one to another, which can be split in two: what oneTBB calls a Range, without its headers.
+template <class T> class range {
+  public:
+    using const_iterator = detail::iterator<T>;
+    using iterator = const_iterator;
+    using value_type = T;
+    using reference = T;
+    using const_reference = T;
+    using size_type = std::size_t;
+    using difference_type = std::ptrdiff_t;
+
+    range(word_file *file, size_type first, size_type last, size_type grainsize) noexcept
+        : file_(file), first_(first), last_(last), grainsize_(std::max<size_type>(grainsize, 1)) {}
+
+    // Takes the second half of the other one. A tag is oneTBB's split or proportional_split, or any class.
+    template <class Tag, class = std::enable_if_t<std::is_class_v<Tag>>>
+    range(range &other, const Tag &) noexcept : range(other.file_, other.middle(), other.last_, other.grainsize_) {
+        other.last_ = first_;
+    }
+
+    [[nodiscard]] bool empty() const noexcept { return first_ == last_; }
+    [[nodiscard]] size_type size() const noexcept { return last_ - first_; }
+    [[nodiscard]] size_type grainsize() const noexcept { return grainsize_; }
+    [[nodiscard]] bool is_divisible() const noexcept { return size() > grainsize_; }
+    [[nodiscard]] const_iterator begin() const noexcept { return const_iterator(file_, first_); }
+    [[nodiscard]] const_iterator end() const noexcept { return const_iterator(file_, last_); }
+
+  private:
+    [[nodiscard]] size_type middle() const noexcept { return first_ + (last_ - first_) / 2; }
+
+    word_file *file_;
+    size_type first_, last_, grainsize_;
+};
+
+template <class Iterator> using category_of = typename std::iterator_traits<Iterator>::iterator_category;
+
+// Structs without a constructor are made of their fields.
+template <class T, class... Args> T made_of(Args &&...args) {
+    if constexpr (std::is_constructible_v<T, Args...>)
+        return T(std::forward<Args>(args)...);
+    else
+        return T{std::forward<Args>(args)...};
+}
+
+} // namespace detail
+
+// ---- the vector
+
+// Any number of threads may call its const members, and those that grow it, at once.
+template <class T> class concurrent_vector {
+    using row = detail::row<T>;
+
+  public:
+    using value_type = T;
+    using size_type = std::size_t;
+    using difference_type = std::ptrdiff_t;
+    using reference = T; // rows are read as copies: none is changed once it was grown
+    using const_reference = T;
+    using const_iterator = detail::iterator<T>;
+    using iterator = const_iterator;
+    using const_reverse_iterator = std::reverse_iterator<const_iterator>;
+    using reverse_iterator = const_reverse_iterator;
+    using const_range_type = detail::range<T>;
+    using range_type = const_range_type;
+
+    // Opens the file, and makes it where there is none; or as wanted.how asks.
+    explicit concurrent_vector(const std::string &path, const options &wanted = {})
+        : file_(std::make_unique<detail::word_file>(path, wanted)) {
+        if (file_->size() % row::words != 0) refuse_length();
+    }
+
+    concurrent_vector(concurrent_vector &&) noexcept = default;
+    concurrent_vector &operator=(concurrent_vector &&) noexcept = default;
+
+    // Commits what was grown, and closes the file. After it all calls are refused. The destructor does so too, but can't
+    // report what fails.
+    void close() { file_->close(); }
+
+    // -- growing: each call is one growth, whose rows stand in a row, and none of which a crash can take alone
+
+    iterator push_back(const T &value) { return iterator_to(append(value)); }
+
+    template <class... Args> iterator emplace_back(Args &&...args) {
+        return push_back(detail::made_of<T>(std::forward<Args>(args)...));
+    }
+
+    iterator grow_by(size_type count) { return grow_by(count, T()); }
+
+    iterator grow_by(size_type count, const T &value) {
+        row::refuse_too_many(*file_, count);
+        return grow_or_end(row::copies_of(value, count));
+    }
+
+    template <class Iterator, class = detail::category_of<Iterator>> iterator grow_by(Iterator first, Iterator last) {
+        return grow_or_end(row::words_of(first, last));
+    }
+
+    iterator grow_by(std::initializer_list<T> rows) { return grow_by(rows.begin(), rows.end()); }
+
+    // Grows until there are so many rows. Calls of it take turns; beside other growths there may come to be more.
+    iterator grow_to_at_least(size_type count) { return grow_to_at_least(count, T()); }
+
+    iterator grow_to_at_least(size_type count, const T &value) {
+        const std::lock_guard<std::mutex> lock(file_->turn());
+        std::optional<iterator> first;
+        for (size_type length = size(); length < count; length = size()) {
+            const iterator grown = grow_by(std::min(count - length, max_growth()), value);
+            if (!first) first = grown;
+        }
+        return first ? *first : end();
+    }
+
+    // -- growing with a receipt, by which a growth is awaited
+
+    growth append(const T &value) {
+        std::array<std::uint64_t, row::words> words;
+        row::store(value, words.data());
+        return row::grow(*file_, words.data(), 1);
+    }
+
+    template <class Iterator, class = detail::category_of<Iterator>> growth append(Iterator first, Iterator last) {
+        return row::grow(*file_, row::words_of(first, last));
+    }
+
+    growth append(std::initializer_list<T> rows) { return append(rows.begin(), rows.end()); }
+
+    // Waits until each growth that has returned before, of whichever thread, is durable.
+    void settle() { file_->await_all(); }
+
+    // Waits until this growth, and each before it, is durable.
+    void settle(const growth &made) { file_->await(made.number); }
+
+    // How many growths are durable: the first ones are. It doesn't wait.
+    [[nodiscard]] std::uint64_t settled() const { return file_->settled(); }
+
+    [[nodiscard]] bool is_settled(const growth &made) const { return made.number < settled(); }
+
+    // -- reading, what is durable and what isn't yet
+
+    [[nodiscard]] T at(size_type position) const {
+        const std::optional<T> found = row::read(*file_, position);
+        if (!found) detail::refuse_position(position);
+        return *found;
+    }
+
+    [[nodiscard]] T operator[](size_type position) const { return at(position); }
+    [[nodiscard]] T front() const { return at(0); }
+    [[nodiscard]] T back() const { return at(size() - 1); }
+
+    [[nodiscard]] size_type size() const { return static_cast<size_type>(file_->size()) / row::words; }
+    [[nodiscard]] bool empty() const { return size() == 0; }
+    [[nodiscard]] static constexpr size_type max_size() noexcept {
+        return static_cast<size_type>(detail::most_records / row::words);
+    }
+
+    // So many rows one growth may have.
+    [[nodiscard]] static constexpr size_type max_growth() noexcept { return row::most_in_growth; }
+
+    [[nodiscard]] const_iterator begin() const noexcept { return const_iterator(file_.get(), 0); }
+    [[nodiscard]] const_iterator end() const { return const_iterator(file_.get(), size()); }
+    [[nodiscard]] const_iterator cbegin() const noexcept { return begin(); }
+    [[nodiscard]] const_iterator cend() const { return end(); }
+    [[nodiscard]] const_reverse_iterator rbegin() const { return const_reverse_iterator(end()); }
+    [[nodiscard]] const_reverse_iterator rend() const { return const_reverse_iterator(begin()); }
+    [[nodiscard]] const_reverse_iterator crbegin() const { return rbegin(); }
+    [[nodiscard]] const_reverse_iterator crend() const { return rend(); }
+
+    [[nodiscard]] const_range_type range(size_type grainsize = 1) const {
+        return const_range_type(file_.get(), 0, size(), grainsize);
+    }
+
+    void swap(concurrent_vector &other) noexcept { file_.swap(other.file_); }
+    friend void swap(concurrent_vector &a, concurrent_vector &b) noexcept { a.swap(b); }
+
+  private:
+    template <class> friend class appender;
+
+    [[noreturn]] void refuse_length() const {
+        file_->refuse(CVEC_WIDTH, "its records are no whole rows of " + std::to_string(sizeof(T)) + " bytes");
+    }
+
+    // No rows are no growth.
+    iterator grow_or_end(const std::vector<std::uint64_t> &words) {
+        return words.empty() ? end() : iterator_to(row::grow(*file_, words));
+    }
+
+    iterator iterator_to(const growth &made) const noexcept { return iterator(file_.get(), made.first); }
+
+    std::unique_ptr<detail::word_file> file_;
+};
+
+// ---- rows gathered into blocks
+
+// Gathers the rows that one thread pushes, and grows by many at once. Others see them once they are flushed. The destructor
+// flushes too, but can't report what fails: who wants to know calls flush or settle before.
+template <class T> class appender {
+    using row = detail::row<T>;
+
+  public:
+    using size_type = std::size_t;
+
+    explicit appender(concurrent_vector<T> &vector, size_type rows = 1024)
+        : file_(vector.file_.get()), rows_(std::clamp<size_type>(rows, 1, row::most_in_growth)) {
+        words_.reserve(rows_ * row::words);
+    }
+
+    appender(appender &&) noexcept = default;
+    appender &operator=(appender &&) = delete;
+
+    ~appender() {
+        try {
+            flush();
+        } catch (...) {
+        }
+    }
+
+    // Where it throws, this row isn't taken, and those from before are kept.
+    void push_back(const T &value) {
+        if (buffered() == rows_) flush();
+        row::add(words_, value);
+    }
+
+    template <class... Args> void emplace_back(Args &&...args) { push_back(detail::made_of<T>(std::forward<Args>(args)...)); }
+
+    // Grows by what was gathered, if anything was.
+    std::optional<growth> flush() {
+        if (words_.empty()) return std::nullopt;
+        last_ = row::grow(*file_, words_);
+        words_.clear();
+        return last_;
+    }
+
+    // Flushes, and waits until all that this appender grew is durable.
+    void settle() {
+        flush();
+        if (last_) file_->await(last_->number);
+    }
+
+    // How many rows are gathered, which are not in the vector yet.
+    [[nodiscard]] size_type buffered() const noexcept { return words_.size() / row::words; }
+
+  private:
+    detail::word_file *file_;
+    size_type rows_;
+    std::vector<std::uint64_t> words_;
+    std::optional<growth> last_;
+};
+
+} // namespace cvec
+
+#endif

@@ -1,0 +1,501 @@
+"""A durable vector of uint64 that threads of this process grow, by ctypes over libcvec_vector.so (docs/use/threads.md says how
+that is built).
+
+    with Vector.create("numbers.cvec") as vector:
+        receipt = vector.grow([5, 7, 11])      # in the vector, in one row: each thread reads it
+        vector.settle()                        # durable when it returns
+        print(len(vector), vector[0], vector[receipt.start:])
+
+Each thread that calls a vector has a seat of its own, which it takes with its first call and leaves to others when it ends. A
+call lets other threads run meanwhile. The library is found by the environment's CVEC_VECTOR_LIBRARY, and else beside this
+module. With numpy records are arrays, without it those of `array`. No call comes from a signal's handler."""
+from __future__ import annotations
+
+import array
+import collections
+import ctypes
+import enum
+import os
+import threading
+from ctypes import POINTER, byref, c_size_t, c_uint8, c_uint16, c_uint32, c_uint64, c_void_p
+from typing import Any, Iterable, Iterator, NamedTuple
+
+from cvec_records import IN_C, numpy
+
+MOST_SEATS = 64
+GREATEST_ROW = 256
+
+
+class Status(enum.IntEnum):
+    """Why a call was refused, by the names of cvec.h and cvec_vector.h."""
+
+    UNBORN = 1
+    NOT_SEGMENT = 2
+    VERSION = 3
+    WIDTH = 4
+    DAMAGED = 5
+    MEMORY = 6
+    EMPTY = 7
+    OUT_OF_RANGE = 8
+    TOO_LARGE = 9
+    FILE_FULL = 10
+    EXISTS = 32
+    IN_USE = 33
+    BROKEN = 34
+    DISK_OPEN = 35
+    DISK_LENGTH = 36
+    DISK_READ = 37
+    DISK_WRITE = 38
+    DISK_SYNC = 39
+    FORKED = 40
+    NOT_FILE = 41
+    NOT_SO = 64
+    FULL = 66
+    BUSY = 67
+
+
+# The statuses of which errno says why.
+_OF_SYSTEM = range(Status.DISK_OPEN, Status.DISK_SYNC + 1)
+
+
+class _Receipt(ctypes.Structure):
+    _fields_ = [("number", c_uint64), ("start", c_uint64), ("len", c_uint64), ("serial", c_uint64), ("seat", c_uint16)]
+
+
+def _library() -> ctypes.CDLL:
+    beside = os.path.join(os.path.dirname(os.path.abspath(__file__)), "libcvec_vector.so")
+    lib = ctypes.CDLL(os.environ.get("CVEC_VECTOR_LIBRARY", beside), use_errno=True)
+    answers = {
+        "create": [POINTER(c_void_p), ctypes.c_char_p, c_uint8, c_uint16],
+        "open": [POINTER(c_void_p), ctypes.c_char_p, c_uint16],
+        "close": [c_void_p],
+        "take_seat": [c_void_p, POINTER(c_void_p)],
+        "close_seat": [c_void_p],
+        "grow": [c_void_p, c_void_p, c_size_t, POINTER(_Receipt)],
+        "await": [c_void_p, c_uint64],
+        "settled": [c_void_p, POINTER(c_uint64)],
+        "size": [c_void_p, POINTER(c_uint64)],
+        "read": [c_void_p, c_uint64, c_void_p, c_size_t, POINTER(c_uint64)],
+    }
+    for name, words in answers.items():
+        call = getattr(lib, "cvec_vector_" + name)
+        call.argtypes, call.restype = words, c_uint32
+    return lib
+
+
+_LIB = _library()
+_AWAIT = getattr(_LIB, "cvec_vector_await")
+
+
+class Error(Exception):
+    """A refusal: its `status`, and the `errno` of the system's call that failed, else 0. Nothing was grown."""
+
+    def __init__(self, status: int, text: str = "", errno: int = 0) -> None:
+        known = status in Status._value2member_map_
+        self.status, self.errno = Status(status) if known else status, errno
+        if not text:
+            text = Status(status).name.lower().replace("_", " ") if known else f"status {status}"
+        super().__init__(f"{text}: {os.strerror(errno)}" if errno else text)
+
+
+def _pass(status: int) -> None:
+    """To be asked right behind the call that answered it."""
+    if status != 0:
+        raise Error(status, errno=ctypes.get_errno() if status in _OF_SYSTEM else 0)
+
+
+def _closed() -> Error:
+    return Error(Status.NOT_SO, "closed")
+
+
+def _name_of(path: Any) -> bytes:
+    """The path as C has it."""
+    name = os.fsencode(path)
+    if b"\0" in name:
+        raise ValueError("a path has a zero byte")
+    return name
+
+
+class _Numbers:
+    """Records that are numbers: each is a word of the file."""
+
+    words = 1
+
+    def lend(self, records: Any) -> tuple[Any, Any, int]:
+        """What has to live while C reads the records, where they stand, and how many words they are. No copy is made of an
+        array of u64 in one row."""
+        if numpy is not None and isinstance(records, numpy.ndarray):
+            flags = records.flags
+            if records.dtype == numpy.uint64 and records.ndim == 1 and flags.c_contiguous and flags.aligned:
+                return records, records.__array_interface__["data"][0], len(records)
+        elif isinstance(records, array.array) and records.typecode == "Q" and records:
+            seen = c_uint64.from_buffer(records)
+            return seen, ctypes.addressof(seen), len(records)
+        elif isinstance(records, (bytes, bytearray, memoryview)):
+            raise ValueError("no records of the type: bytes")
+        packed = IN_C["u64"].pack(records)
+        return packed, packed, len(packed) // 8
+
+    def room(self, count: int) -> Any:
+        """An array of so many records to be written."""
+        return array.array("Q", bytes(8 * count)) if numpy is None else numpy.empty(count, dtype=numpy.uint64)
+
+    def put(self, room: Any, at: int, record: Any) -> None:
+        """Writes a record of such an array."""
+        packed = IN_C["u64"].pack([record])
+        room[at] = int.from_bytes(packed, "little")
+
+    def one(self, rows: Any) -> Any:
+        return int(rows[0])
+
+    def each(self, rows: Any) -> Iterable[Any]:
+        return rows.tolist()
+
+
+class _Rows:
+    """Records of a type of numpy: each is a row of words, with the bytes that it has in memory."""
+
+    def __init__(self, dtype: Any) -> None:
+        if numpy is None:
+            raise ValueError("a dtype needs numpy")
+        self.dtype = numpy.dtype(dtype)
+        width = self.dtype.itemsize
+        if self.dtype.hasobject or self.dtype.subdtype is not None:
+            raise ValueError(f"no records of {self.dtype} can be kept")
+        if width % 8 != 0 or not 8 <= width <= GREATEST_ROW:
+            raise ValueError(f"a record takes {width} bytes: it has to be a multiple of 8 up to {GREATEST_ROW}")
+        self.words = width // 8
+
+    def lend(self, records: Any) -> tuple[Any, Any, int]:
+        if not isinstance(records, numpy.ndarray) or records.dtype != self.dtype or records.ndim != 1:
+            raise ValueError(f"no records of the type: not an array of {self.dtype} with one dimension")
+        row = numpy.require(records, requirements=["C", "A"])
+        return row, row.__array_interface__["data"][0], len(row) * self.words
+
+    def room(self, count: int) -> Any:
+        return numpy.empty(count, dtype=self.dtype)
+
+    def put(self, room: Any, at: int, record: Any) -> None:
+        if not isinstance(record, numpy.generic) or record.dtype != self.dtype:
+            raise ValueError(f"no record of the type: not one of {self.dtype}")
+        room[at] = record
+
+    def one(self, rows: Any) -> Any:
+        return rows[0]
+
+    def each(self, rows: Any) -> Iterable[Any]:
+        return rows
+
+
+def _address_of(room: Any) -> int:
+    return room.buffer_info()[0] if isinstance(room, array.array) else room.__array_interface__["data"][0]
+
+
+class Receipt(NamedTuple):
+    """Where a growth stands. It holds as long as the vector is open."""
+
+    number: int
+    """How many growths since the vector was opened stand before it."""
+    start: int
+    """The position of its first record."""
+    length: int
+    """How many records it has."""
+
+
+class Seat:
+    """What one thread calls. `Vector.seat` gives it; a second thread that calls it meanwhile is refused (BUSY)."""
+
+    def __init__(self, vector: Vector, handle: c_void_p) -> None:
+        self._vector, self._handle, self._form = vector, handle, vector._form
+        # Who has the turn, and whether no other comes.
+        self._turn, self._thread, self._ends = threading.Lock(), 0, False
+        self._last = -1
+
+    @property
+    def closed(self) -> bool:
+        """Whether it, or its vector, is closed."""
+        return self._ends
+
+    def _call(self, function: Any, *words: Any) -> None:
+        """Calls the library by the seat, alone."""
+        self._vector._check_process()
+        if not self._turn.acquire(blocking=False):
+            raise _closed() if self._ends else Error(Status.BUSY)
+        try:
+            self._thread = threading.get_ident()
+            if self._ends:
+                raise _closed()
+            _pass(function(self._handle, *words))
+        finally:
+            self._thread = 0
+            self._turn.release()
+
+    def grow(self, records: Any) -> Receipt:
+        """Grows the vector by these records, as one block behind all that was grown before: all of them or none. Other threads
+        read them when it returns; they are durable once they are settled. Nobody changes an array meanwhile. ValueError: not
+        all are records of the vector. Error EMPTY: none; TOO_LARGE: more than 131,071 words; FULL: open the vector again;
+        BROKEN."""
+        held, at, count = self._form.lend(records)
+        receipt = _Receipt()
+        try:
+            self._call(_LIB.cvec_vector_grow, at, count, byref(receipt))
+        finally:
+            # A traceback must not keep an array from being resized.
+            del held
+        self._last = receipt.number
+        return Receipt(receipt.number, receipt.start // self._form.words, receipt.len // self._form.words)
+
+    def settle(self, receipt: Receipt | None = None) -> None:
+        """Waits until this growth and each before it is durable; without one, all that this seat grew. Who finds that nobody
+        commits commits for all that wait. Error OUT_OF_RANGE: there is no such growth; DISK_WRITE, DISK_SYNC: the file refused
+        it, and from then on all is BROKEN."""
+        number = self._last if receipt is None else receipt.number
+        if number >= 0:
+            self._call(_AWAIT, number)
+        else:
+            self.settled()
+
+    def settled(self) -> int:
+        """How many growths are durable: those with a lower number are. It doesn't wait."""
+        count = c_uint64()
+        self._call(_LIB.cvec_vector_settled, byref(count))
+        return count.value
+
+    def _words(self) -> int:
+        size = c_uint64()
+        self._call(_LIB.cvec_vector_size, byref(size))
+        return size.value
+
+    def size(self) -> int:
+        """How many records there are, durable or not."""
+        return self._words() // self._form.words
+
+    def read(self, start: int, stop: int) -> Any:
+        """A copy of the records from position `start` to before `stop`, as far as the vector reaches."""
+        if start < 0:
+            raise ValueError("a position is below 0")
+        words, done = self._form.words, c_uint64()
+        room = self._form.room(max(0, min(stop, self.size()) - start))
+        if len(room) > 0:
+            self._call(_LIB.cvec_vector_read, start * words, _address_of(room), len(room) * words, byref(done))
+        return room[:done.value // words]
+
+    def appender(self, capacity: int = 4096) -> Appender:
+        """Gathers single records for this seat."""
+        return Appender(self, capacity)
+
+    def _give_up(self) -> None:
+        """Closes it when the call that is under way has ended."""
+        if self._thread == threading.get_ident():
+            raise Error(Status.BUSY)
+        self._ends = True
+        with self._turn:
+            handle, self._handle = self._handle, None
+            if handle is not None:
+                _LIB.cvec_vector_close_seat(handle)
+
+    def close(self) -> None:
+        """Gives it up for good: what it grew stays, and its number isn't given again until the vector is opened again."""
+        self._vector._check_process()
+        self._give_up()
+
+
+class Appender:
+    """Single records, kept until there are as many as one block has: then the vector grows by them. Nobody reads what is kept.
+    A `with` block grows by the rest at its end."""
+
+    def __init__(self, seat: Seat, capacity: int) -> None:
+        if capacity < 1:
+            raise ValueError("an appender keeps at least one record")
+        self._seat, self._form = seat, seat._form
+        self._room, self._kept = self._form.room(capacity), 0
+
+    def __enter__(self) -> Appender:
+        return self
+
+    def __exit__(self, *_: Any) -> None:
+        self.flush()
+
+    @property
+    def kept(self) -> int:
+        """How many records are kept."""
+        return self._kept
+
+    def push(self, record: Any) -> Receipt | None:
+        """Keeps the record. Where as many are kept as fit, it grows by those first, and answers their receipt; where that is
+        refused the record isn't kept, and the others stay. ValueError: it is no record of the vector."""
+        receipt = self.flush() if self._kept == len(self._room) else None
+        self._form.put(self._room, self._kept, record)
+        self._kept += 1
+        return receipt
+
+    def flush(self) -> Receipt | None:
+        """Grows by what is kept, as one block; None where that is nothing. Refused, all of it stays kept."""
+        if self._kept == 0:
+            return None
+        receipt = self._seat.grow(self._room[:self._kept])
+        self._kept = 0
+        return receipt
+
+
+class _Lease:
+    """The seat of a thread, as long as that lives: then it is the next thread's."""
+
+    def __init__(self, seat: Seat, free: collections.deque[Seat]) -> None:
+        self.seat, self._free = seat, free
+
+    def __del__(self) -> None:
+        self._free.append(self.seat)
+
+
+class Vector:
+    """A durable vector of a file, which is locked until it is closed; `create` and `open` make one. Threads may share it: each
+    call goes by the seat of its thread. A process that is forked may only close it (FORKED)."""
+
+    _handle: c_void_p | None = None
+
+    def __init__(self, handle: c_void_p, form: _Numbers | _Rows) -> None:
+        """Not to be called: `create` and `open` do."""
+        self._handle, self._form, self._process = handle, form, os.getpid()
+        self._lock, self._local = threading.Lock(), threading.local()
+        self._seats: list[Seat] = []
+        self._free: collections.deque[Seat] = collections.deque()
+
+    @classmethod
+    def create(cls, path: Any, seats: int = MOST_SEATS, dtype: Any = None, version: int = 1) -> Vector:
+        """Makes a file of version 1 or 2, for so many threads at a time: 1 to 64. Its records are numbers of u64, or of a type
+        of numpy whose width is a multiple of 8 bytes up to 256: the file has their bytes, and doesn't say which type. Error
+        EXISTS: something is there, and stays."""
+        if version not in (1, 2):
+            raise ValueError("a file has version 1 or 2")
+        return cls._begin(_LIB.cvec_vector_create, path, seats, dtype, version)
+
+    @classmethod
+    def open(cls, path: Any, seats: int = MOST_SEATS, dtype: Any = None) -> Vector:
+        """Opens a file that is there, and reads it. Error IN_USE: it is open, here or elsewhere; UNBORN, NOT_SEGMENT, VERSION,
+        WIDTH or DAMAGED: it has no vector of u64. ValueError: its words are no whole records of that type."""
+        vector = cls._begin(_LIB.cvec_vector_open, path, seats, dtype)
+        seat = vector._take()
+        words = seat._words()
+        vector._free.append(seat)
+        if words % vector._form.words != 0:
+            vector.close()
+            raise ValueError(f"{words} words are no whole records of {vector._form.words}")
+        return vector
+
+    @classmethod
+    def _begin(cls, call: Any, path: Any, seats: int, dtype: Any, *version: int) -> Vector:
+        if not 1 <= seats <= MOST_SEATS:
+            raise ValueError(f"a vector has 1 to {MOST_SEATS} seats")
+        form = _Numbers() if dtype is None else _Rows(dtype)
+        handle = c_void_p()
+        _pass(call(byref(handle), _name_of(path), *version, seats))
+        return cls(handle, form)
+
+    def __enter__(self) -> Vector:
+        return self
+
+    def __exit__(self, *_: Any) -> None:
+        self.close()
+
+    def _check_process(self) -> None:
+        """A thread that had a lock when this process was forked never lets go of it here."""
+        if self._process != os.getpid():
+            raise Error(Status.FORKED)
+
+    def seat(self) -> Seat:
+        """The seat of the calling thread, until that ends. Error NOT_SO: every seat is taken."""
+        self._check_process()
+        lease = getattr(self._local, "lease", None)
+        if lease is None or lease.seat.closed:
+            lease = self._local.lease = _Lease(self._take(), self._free)
+        return lease.seat
+
+    def _take(self) -> Seat:
+        """A seat that a thread has left, or a new one."""
+        while self._free:
+            try:
+                seat = self._free.popleft()
+            except IndexError:
+                break
+            if not seat.closed:
+                return seat
+        with self._lock:
+            if self._handle is None:
+                raise _closed()
+            handle = c_void_p()
+            status = _LIB.cvec_vector_take_seat(self._handle, byref(handle))
+            if status == Status.NOT_SO:
+                raise Error(status, "every seat is taken")
+            _pass(status)
+            self._seats.append(Seat(self, handle))
+            return self._seats[-1]
+
+    def grow(self, records: Any) -> Receipt:
+        """As `Seat.grow`."""
+        return self.seat().grow(records)
+
+    def settle(self, receipt: Receipt | None = None) -> None:
+        """Waits until this growth and each before it is durable; without one, all that any thread has grown till now. Refusals
+        as of `Seat.settle`."""
+        last = max((seat._last for seat in list(self._seats)), default=-1)
+        self.seat().settle(receipt or (Receipt(last, 0, 0) if last >= 0 else None))
+
+    def settled(self) -> int:
+        """How many growths are durable. It doesn't wait."""
+        return self.seat().settled()
+
+    def appender(self, capacity: int = 4096) -> Appender:
+        """Gathers single records for the calling thread."""
+        return self.seat().appender(capacity)
+
+    def __len__(self) -> int:
+        """How many records there are, durable or not."""
+        return self.seat().size()
+
+    def __getitem__(self, key: int | slice) -> Any:
+        """The record at a position, or a copy of a slice."""
+        seat = self.seat()
+        size = seat.size()
+        if isinstance(key, slice):
+            positions = range(size)[key]
+            if not positions:
+                return self._form.room(0)
+            first, last = min(positions[0], positions[-1]), max(positions[0], positions[-1])
+            return seat.read(first, last + 1)[::positions.step]
+        try:
+            at = range(size)[key]
+        except IndexError:
+            raise IndexError(f"there is no position {key} of {size}") from None
+        return self._form.one(seat.read(at, at + 1))
+
+    def pieces(self, length: int = 65536) -> Iterator[Any]:
+        """The records that there are now, in copies of so many."""
+        if length < 1:
+            raise ValueError("a piece has at least one record")
+        size = len(self)
+        return (self.seat().read(at, min(at + length, size)) for at in range(0, size, length))
+
+    def __iter__(self) -> Iterator[Any]:
+        """The records that there are now, one by one."""
+        for piece in self.pieces():
+            yield from self._form.each(piece)
+
+    def close(self) -> None:
+        """Commits what was grown, waits for the calls that are under way, and closes the file. An Error says that growths nobody
+        has settled may be lost; the vector is closed then too. A forked process lets go of the file alone."""
+        if self._handle is None:
+            return
+        if self._process != os.getpid():
+            handle, self._handle = self._handle, None
+            _LIB.cvec_vector_close(handle)
+            return
+        with self._lock:
+            for seat in self._seats:
+                seat._give_up()
+            handle, self._handle = self._handle, None
+        if handle is not None:
+            _pass(_LIB.cvec_vector_close(handle))
+
+    # Who is inside a call holds the vector, so none is here.
+    __del__ = close

@@ -1,0 +1,447 @@
+//! A durable vector of `u64` that threads of this process grow, over cvec_vector.c and libcvec_threads.a (docs/use/threads.md
+//! says how they are built and linked). `std` alone is used, and no function of this module is called back by C.
+//!
+//! ```no_run
+//! let vector = cvec_vector::Vector::create("numbers.cvec".as_ref(), 8)?;
+//! std::thread::scope(|threads| {
+//!     for name in 0..4 {
+//!         let vector = &vector;
+//!         threads.spawn(move || {
+//!             let seat = vector.seat()?; // one for each thread
+//!             let receipt = seat.grow(&[name, name + 1])?; // in the vector, in one row
+//!             seat.settle(&receipt) // durable when it returns
+//!         });
+//!     }
+//! });
+//! vector.close()?;
+//! # Ok::<(), cvec_vector::Error>(())
+//! ```
+#![deny(unsafe_op_in_unsafe_fn)]
+#![warn(missing_docs)]
+
+use std::cell::Cell;
+use std::ffi::{CString, c_char};
+use std::fmt;
+use std::io;
+use std::marker::PhantomData;
+use std::ops::{Bound, RangeBounds};
+use std::os::unix::ffi::OsStrExt;
+use std::path::Path;
+use std::ptr::{self, NonNull};
+
+/// A vector has at most so many seats.
+pub const MOST_SEATS: u16 = 64;
+
+/// Why a call was refused. It grew nothing. Where a call of the system failed, the system's number says why.
+#[derive(Clone, Copy, Debug, PartialEq, Eq)]
+#[non_exhaustive]
+pub enum Error {
+    /// No vector was begun in the file.
+    Unborn,
+    /// The file's bytes aren't those of a segment file.
+    NotSegment,
+    /// The file has a version that isn't known.
+    Version,
+    /// The file's records aren't of 8 bytes.
+    Width,
+    /// A frame of the file is damaged.
+    Damaged,
+    /// Memory was refused. The call may be made again.
+    Memory,
+    /// A growth without a record.
+    Empty,
+    /// The vector would have more than 2^32 records; or of `settle`, there is no such growth.
+    OutOfRange,
+    /// A growth of more than 131,071 records.
+    TooLarge,
+    /// The file would become longer than 2^48 bytes.
+    FileFull,
+    /// Something is there already, and stays.
+    Exists,
+    /// The file is open, in this process or another.
+    InUse,
+    /// A write or a sync has failed before. Open the file again; after a sync, restart the system first.
+    Broken,
+    /// It couldn't be opened or locked.
+    DiskOpen(i32),
+    /// Its length couldn't be asked.
+    DiskLength(i32),
+    /// It couldn't be read.
+    DiskRead(i32),
+    /// It couldn't be written: the device may be full.
+    DiskWrite(i32),
+    /// It couldn't be put on the device. Restart the system before the file is opened again.
+    DiskSync(i32),
+    /// The process from which this one was forked has opened it.
+    Forked,
+    /// A folder, a pipe or a device has that name.
+    NotFile,
+    /// Every seat is taken.
+    NoSeat,
+    /// The vector was grown 1,048,568 times since it was opened: close it, and open it again.
+    Full,
+    /// A seat was forgotten (`std::mem::forget`): the vector stays open.
+    Busy,
+    /// A vector has 1 to 64 seats.
+    Seats,
+    /// A path has a zero byte.
+    Path,
+    /// A number that this module doesn't know.
+    Unknown(u32),
+}
+
+impl fmt::Display for Error {
+    fn fmt(&self, f: &mut fmt::Formatter<'_>) -> fmt::Result {
+        f.write_str(match self {
+            Error::Unborn => "unborn",
+            Error::NotSegment => "not a segment",
+            Error::Version => "version",
+            Error::Width => "width",
+            Error::Damaged => "damaged",
+            Error::Memory => "memory",
+            Error::Empty => "empty",
+            Error::OutOfRange => "out of range",
+            Error::TooLarge => "too large",
+            Error::FileFull => "file full",
+            Error::Exists => "exists",
+            Error::InUse => "in use",
+            Error::Broken => "broken",
+            Error::DiskOpen(_) => "disk open",
+            Error::DiskLength(_) => "disk length",
+            Error::DiskRead(_) => "disk read",
+            Error::DiskWrite(_) => "disk write",
+            Error::DiskSync(_) => "disk sync",
+            Error::Forked => "forked",
+            Error::NotFile => "not a file",
+            Error::NoSeat => "every seat is taken",
+            Error::Full => "full",
+            Error::Busy => "busy",
+            Error::Seats => "a vector has 1 to 64 seats",
+            Error::Path => "a path has a zero byte",
+            Error::Unknown(status) => return write!(f, "status {status}"),
+        })?;
+        match self.errno() {
+            Some(errno) => write!(f, ": {}", io::Error::from_raw_os_error(errno)),
+            None => Ok(()),
+        }
+    }
+}
+
+impl std::error::Error for Error {}
+
+impl Error {
+    /// The system's number of why a call of the system failed, where one did.
+    pub fn errno(&self) -> Option<i32> {
+        match *self {
+            Error::DiskOpen(errno) | Error::DiskLength(errno) | Error::DiskRead(errno) | Error::DiskWrite(errno) | Error::DiskSync(errno) => {
+                Some(errno)
+            }
+            _ => None,
+        }
+    }
+}
+
+/// To be asked right behind the call that answered it.
+fn told(status: u32) -> Result<(), Error> {
+    let errno = io::Error::last_os_error().raw_os_error().unwrap_or(0);
+    Err(match status {
+        0 => return Ok(()),
+        1 => Error::Unborn,
+        2 => Error::NotSegment,
+        3 => Error::Version,
+        4 => Error::Width,
+        5 => Error::Damaged,
+        6 => Error::Memory,
+        7 => Error::Empty,
+        8 => Error::OutOfRange,
+        9 => Error::TooLarge,
+        10 => Error::FileFull,
+        32 => Error::Exists,
+        33 => Error::InUse,
+        34 => Error::Broken,
+        35 => Error::DiskOpen(errno),
+        36 => Error::DiskLength(errno),
+        37 => Error::DiskRead(errno),
+        38 => Error::DiskWrite(errno),
+        39 => Error::DiskSync(errno),
+        40 => Error::Forked,
+        41 => Error::NotFile,
+        64 => Error::NoSeat,
+        66 => Error::Full,
+        67 => Error::Busy,
+        _ => Error::Unknown(status),
+    })
+}
+
+/// What C has behind a vector's pointer.
+#[repr(C)]
+struct RawVector {
+    hidden: [u8; 0],
+}
+
+/// What C has behind a seat's pointer.
+#[repr(C)]
+struct RawSeat {
+    hidden: [u8; 0],
+}
+
+#[repr(C)]
+#[derive(Default)]
+struct RawReceipt {
+    number: u64,
+    start: u64,
+    len: u64,
+    serial: u64,
+    seat: u16,
+}
+
+unsafe extern "C" {
+    fn cvec_vector_create(vector: *mut *mut RawVector, path: *const c_char, version: u8, seats: u16) -> u32;
+    fn cvec_vector_open(vector: *mut *mut RawVector, path: *const c_char, seats: u16) -> u32;
+    fn cvec_vector_close(vector: *mut RawVector) -> u32;
+    fn cvec_vector_take_seat(vector: *mut RawVector, seat: *mut *mut RawSeat) -> u32;
+    fn cvec_vector_close_seat(seat: *mut RawSeat) -> u32;
+    fn cvec_vector_grow(seat: *mut RawSeat, records: *const u64, count: usize, receipt: *mut RawReceipt) -> u32;
+    fn cvec_vector_await(seat: *mut RawSeat, number: u64) -> u32;
+    fn cvec_vector_settled(seat: *mut RawSeat, count: *mut u64) -> u32;
+    fn cvec_vector_size(seat: *mut RawSeat, size: *mut u64) -> u32;
+    fn cvec_vector_read(seat: *mut RawSeat, from: u64, out: *mut u64, room: usize, count: *mut u64) -> u32;
+}
+
+/// A path with a zero byte is none that the system has a name for.
+fn name_of(path: &Path) -> Result<CString, Error> {
+    CString::new(path.as_os_str().as_bytes()).map_err(|_| Error::Path)
+}
+
+fn check_seats(seats: u16) -> Result<(), Error> {
+    if (1..=MOST_SEATS).contains(&seats) { Ok(()) } else { Err(Error::Seats) }
+}
+
+/// The version of a new file, which sets how much one commit puts into a frame.
+#[derive(Clone, Copy, Debug, Default, PartialEq, Eq)]
+pub enum Version {
+    /// At most 2^20 bytes.
+    #[default]
+    One,
+    /// At most 2^24 bytes.
+    Two,
+}
+
+/// A durable vector of a file, which is locked until the vector is closed. Threads share it, and each takes a seat. A drop closes
+/// it, and can't report what fails: `close` does.
+#[derive(Debug)]
+pub struct Vector {
+    raw: NonNull<RawVector>,
+}
+
+// SAFETY: C guards all that its calls on a vector have in common by a mutex, and any thread may make them.
+unsafe impl Send for Vector {}
+// SAFETY: as above; the one call that wants the vector alone, the close, takes it by value or on its drop.
+unsafe impl Sync for Vector {}
+
+impl Vector {
+    /// Makes a file of version 1, and a vector for so many seats: 1 to 64.
+    pub fn create(path: &Path, seats: u16) -> Result<Vector, Error> {
+        Vector::create_as(path, seats, Version::One)
+    }
+
+    /// Makes a file of that version. Something that is there stays: `Exists`.
+    pub fn create_as(path: &Path, seats: u16, version: Version) -> Result<Vector, Error> {
+        let number = match version {
+            Version::One => 1,
+            Version::Two => 2,
+        };
+        check_seats(seats)?;
+        let (name, mut raw) = (name_of(path)?, ptr::null_mut());
+        // SAFETY: the name ends with a zero, and lasts for the call, as does the place for the pointer.
+        told(unsafe { cvec_vector_create(&mut raw, name.as_ptr(), number, seats) })?;
+        Vector::over(raw)
+    }
+
+    /// Opens a file that is there, and reads it.
+    pub fn open(path: &Path, seats: u16) -> Result<Vector, Error> {
+        check_seats(seats)?;
+        let (name, mut raw) = (name_of(path)?, ptr::null_mut());
+        // SAFETY: as above.
+        told(unsafe { cvec_vector_open(&mut raw, name.as_ptr(), seats) })?;
+        Vector::over(raw)
+    }
+
+    fn over(raw: *mut RawVector) -> Result<Vector, Error> {
+        NonNull::new(raw).map(|raw| Vector { raw }).ok_or(Error::Memory)
+    }
+
+    /// A seat, for one thread at a time. When it is dropped its number isn't given again until the file is opened again, so a
+    /// thread keeps its seat. `NoSeat`: every seat was taken.
+    pub fn seat(&self) -> Result<Seat<'_>, Error> {
+        let mut raw = ptr::null_mut();
+        // SAFETY: the vector is open as long as `self` is there; C takes seats one at a time.
+        told(unsafe { cvec_vector_take_seat(self.raw.as_ptr(), &mut raw) })?;
+        NonNull::new(raw).map(|raw| Seat { raw, of: PhantomData, alone: PhantomData }).ok_or(Error::Memory)
+    }
+
+    /// Commits what was grown, and closes the file. An error says that growths nobody has settled may be lost; the vector is gone
+    /// then too, but for `Busy`. In a forked process it lets go of the file alone, and is `Forked`.
+    pub fn close(self) -> Result<(), Error> {
+        let raw = self.raw;
+        std::mem::forget(self);
+        // SAFETY: it is closed once: here, where no drop follows. No seat is there, since each borrows the vector.
+        told(unsafe { cvec_vector_close(raw.as_ptr()) })
+    }
+}
+
+impl Drop for Vector {
+    fn drop(&mut self) {
+        // SAFETY: it is closed once: here, since `close` leaves nothing to drop. No seat is there, since each borrows the vector.
+        unsafe { cvec_vector_close(self.raw.as_ptr()) };
+    }
+}
+
+/// Where a growth stands. It holds as long as the vector is open.
+#[derive(Clone, Copy, Debug, PartialEq, Eq)]
+pub struct Receipt {
+    /// How many growths since the vector was opened stand before it.
+    pub number: u64,
+    /// The position of its first record.
+    pub start: u64,
+    /// How many records it has.
+    pub length: u64,
+}
+
+/// What one thread grows, waits and reads by. It may go to another thread, but two can't share it.
+#[derive(Debug)]
+pub struct Seat<'v> {
+    raw: NonNull<RawSeat>,
+    of: PhantomData<&'v Vector>,
+    /// A `Cell` is in one thread at a time.
+    alone: PhantomData<Cell<()>>,
+}
+
+// SAFETY: C keeps nothing of the thread that took it: its memory is malloc's, and its calls are those of any one thread.
+unsafe impl Send for Seat<'_> {}
+
+impl<'v> Seat<'v> {
+    /// Grows by copies of these records, as one block behind all that was grown before: all of them are in the vector, in a row,
+    /// or none. Others read them when it returns; they are durable once they are settled.
+    pub fn grow(&self, records: &[u64]) -> Result<Receipt, Error> {
+        let mut receipt = RawReceipt::default();
+        // SAFETY: the seat is open as long as `self` is there, and in one call; the pointer and the length are those of one slice.
+        told(unsafe { cvec_vector_grow(self.raw.as_ptr(), records.as_ptr(), records.len(), &mut receipt) })?;
+        Ok(Receipt { number: receipt.number, start: receipt.start, length: receipt.len })
+    }
+
+    /// Waits until this growth, and each before it, is durable. Who finds that nobody commits commits for all that wait.
+    pub fn settle(&self, receipt: &Receipt) -> Result<(), Error> {
+        // SAFETY: as above.
+        told(unsafe { cvec_vector_await(self.raw.as_ptr(), receipt.number) })
+    }
+
+    /// How many growths are durable: those with a lower number are. It doesn't wait.
+    pub fn settled(&self) -> Result<u64, Error> {
+        let mut count = 0;
+        // SAFETY: as above.
+        told(unsafe { cvec_vector_settled(self.raw.as_ptr(), &mut count) })?;
+        Ok(count)
+    }
+
+    /// How many records there are, durable or not.
+    pub fn len(&self) -> Result<u64, Error> {
+        let mut size = 0;
+        // SAFETY: as above.
+        told(unsafe { cvec_vector_size(self.raw.as_ptr(), &mut size) })?;
+        Ok(size)
+    }
+
+    /// Whether there is no record.
+    pub fn is_empty(&self) -> Result<bool, Error> {
+        Ok(self.len()? == 0)
+    }
+
+    /// Copies the records of these positions, as far as the vector reaches.
+    pub fn read(&self, range: impl RangeBounds<u64>) -> Result<Vec<u64>, Error> {
+        let from = match range.start_bound() {
+            Bound::Included(&at) => at,
+            Bound::Excluded(&at) => at.saturating_add(1),
+            Bound::Unbounded => 0,
+        };
+        let len = self.len()?;
+        let to = match range.end_bound() {
+            Bound::Included(&at) => at.saturating_add(1).min(len),
+            Bound::Excluded(&at) => at.min(len),
+            Bound::Unbounded => len,
+        };
+        let room = usize::try_from(to.saturating_sub(from)).map_err(|_| Error::Memory)?;
+        let mut out = Vec::new();
+        out.try_reserve_exact(room).map_err(|_| Error::Memory)?;
+        out.resize(room, 0);
+        let count = self.read_into(from, &mut out)?;
+        out.truncate(count);
+        Ok(out)
+    }
+
+    /// Copies the records from a position on over the front of `out`, as far as it and the vector reach, and answers how many.
+    pub fn read_into(&self, from: u64, out: &mut [u64]) -> Result<usize, Error> {
+        let mut count = 0;
+        // SAFETY: as above; `out` is this call's alone.
+        told(unsafe { cvec_vector_read(self.raw.as_ptr(), from, out.as_mut_ptr(), out.len(), &mut count) })?;
+        // No more than `out` has.
+        Ok(count as usize)
+    }
+
+    /// Gathers single records into blocks of so many. `Empty`: 0 are none; `Memory`.
+    pub fn appender(&self, capacity: usize) -> Result<Appender<'_, 'v>, Error> {
+        if capacity == 0 {
+            return Err(Error::Empty);
+        }
+        let mut kept = Vec::new();
+        kept.try_reserve_exact(capacity).map_err(|_| Error::Memory)?;
+        Ok(Appender { seat: self, kept, capacity })
+    }
+}
+
+impl Drop for Seat<'_> {
+    fn drop(&mut self) {
+        // SAFETY: it is closed once, here, while its vector is open.
+        unsafe { cvec_vector_close_seat(self.raw.as_ptr()) };
+    }
+}
+
+/// Single records, kept until there are as many as a block has: then the vector grows by them. Nobody reads what is kept. A drop
+/// grows by the rest, and can't report what fails: `flush` does.
+#[derive(Debug)]
+pub struct Appender<'s, 'v> {
+    seat: &'s Seat<'v>,
+    kept: Vec<u64>,
+    capacity: usize,
+}
+
+impl Appender<'_, '_> {
+    /// Keeps the record. Where as many are kept as fit, it grows by those first, and answers their receipt; where that is refused
+    /// the record isn't kept, and the others stay.
+    pub fn push(&mut self, record: u64) -> Result<Option<Receipt>, Error> {
+        let receipt = if self.kept.len() == self.capacity { self.flush()? } else { None };
+        self.kept.push(record);
+        Ok(receipt)
+    }
+
+    /// Grows by what is kept, as one block; `None` where that is nothing. Refused, all of it stays kept.
+    pub fn flush(&mut self) -> Result<Option<Receipt>, Error> {
+        if self.kept.is_empty() {
+            return Ok(None);
+        }
+        let receipt = self.seat.grow(&self.kept)?;
+        self.kept.clear();
+        Ok(Some(receipt))
+    }
+
+    /// What is kept, in order.
+    pub fn kept(&self) -> &[u64] {
+        &self.kept
+    }
+}
+
+impl Drop for Appender<'_, '_> {
+    fn drop(&mut self) {
+        let _ = self.flush();
+    }
+}
