@@ -138,6 +138,53 @@ run_with() {
     env "$does" LD_PRELOAD="$work/calls.so" "$program" "$@" <"$in" >"$out" 2>"$err" || status=$?
 }
 
+# ---- a command beside one that has its file
+
+# What the first command asks waits in a pipe: its answer in one that is full, or its input in one that gives nothing.
+pipe() {
+    rm -f "$work/pipe"
+    mkfifo "$work/pipe"
+    exec 8<>"$work/pipe"
+}
+
+# Waits until this file is locked for reading (READ) or alone (WRITE), as the system has it. Nothing is locked for that.
+until_locked() {
+    for _ in $(seq 1000); do
+        if grep -q "FLOCK .* $1 .*:$(stat -c %i "$2" 2>/dev/null || echo none) " /proc/locks; then return 0; fi
+        sleep 0.01
+    done
+    echo "no command has $2 ($1)"
+    return 1
+}
+
+has_locks_listed() { [ -r /proc/locks ] || lacks 'there is no /proc/locks to see which files are locked'; }
+
+# Runs a second command, which has 20 seconds, with pipes for a client.
+second() {
+    status=0
+    timeout 20 "$program" "$@" <"$in" >"$out" 2>"$err" 3</dev/null 4>/dev/null || status=$?
+}
+
+# Two files of the records 5 and 6, one that was changed since, and the input that a second command would take.
+two_files() {
+    for name in t other; do # of 64 bytes
+        run create u64 "$work/$name.cv"
+        given '5 6\n'
+        run load u64 "$work/$name.cv"
+        run set u64 "$work/$name.cv" 1 --records=7
+        did 'ok\n'
+    done
+    given '8\n'
+}
+
+# An `append` has the file until its pipe ends.
+is_taken_by_an_append() {
+    pipe
+    "$program" append u64 "$1" <"$work/pipe" >"$work/first_out" 2>"$work/first_err" 8>&- &
+    first=$!
+    until_locked WRITE "$1"
+}
+
 # ---- pages that show programs
 
 # The lines of this page between the fences of this language.
@@ -172,6 +219,28 @@ is_shown_as_written() {
     run show "$1"
     [ "$status" -eq 0 ]
     cmp "$work/lines" "$out"
+}
+
+# ---- the library for threads of C, built as docs/use/threads.md says
+
+threads_library=$top/crates/cvec_threads/out/libcvec_threads.a
+
+# Compiles this program of the folder over the library, with these words to the compiler.
+compile_threads() {
+    program_file=$1
+    shift
+    cc -std=c99 -O2 -Wall -Wextra -Werror -pedantic "-I$c" "$@" "$program_file" "$threads_library" "$kit_library" -lpthread
+}
+
+make_threads_library() {
+    [ -e "$threads_library" ] || (cd "$top/crates/cvec_threads" && rt lib >/dev/null)
+    kit_library=$(dirname "$(rt doc)")/c/liblibc_c.a
+}
+
+# Whether programs with this sanitizer are built and run here.
+has_sanitizer() {
+    printf 'int main(void) { return 0; }\n' >"$work/empty.c"
+    cc "-fsanitize=$1" -o "$work/empty" "$work/empty.c" 2>/dev/null && "$work/empty" || lacks "cc has no -fsanitize=$1"
 }
 
 # ---- the program that measures

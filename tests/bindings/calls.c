@@ -1,9 +1,10 @@
-/* To be preloaded: what a caller asks of the system on its segment files (those opened for writing, by names that end with
- * .cv), on their folders, and on pipes. By CALLS:
+/* To be preloaded: what a caller asks of the system on its segment files (those that `open` opens by names that end with .cv,
+ * for writing or not), on their folders, and on pipes. By CALLS:
  *
  *   part   each call is interrupted once (EINTR), then a read does a part (at most 7 bytes) and a write at most 5. A call
  *          that closes leaves another errno. A wait for a child is interrupted as well.
- *   plan   each call that writes, syncs or locks is noted in the file `calls`, reads that follow one another as one. The file
+ *   plan   each call that writes, syncs or locks is noted in the file `calls`, reads that follow one another as one, and
+ *          `back` where one begins in front of where the last one ended. The file
  *          `plan` is `KIND N ERRNO [BYTES]`: the call of that kind with number N from now on fails by this number, having
  *          written so many bytes. Where ERRNO is 0 it answers that it did nothing. The KIND `memory` is a request of just BYTES
  *          bytes, which isn't noted; of less than 4,096 none is looked at.
@@ -34,7 +35,8 @@ static unsigned char pauses[LIMIT]; /* whether the next call is interrupted */
 static char planned[16];
 static int left, why;
 static size_t before;
-static int was_read; /* the last call that was noted is a read */
+static int was_read;   /* the last call that was noted is a read */
+static off_t read_end; /* and ended here */
 
 __attribute__((constructor)) static void begin(void) {
     const char *mode = getenv("CALLS");
@@ -116,12 +118,16 @@ void *realloc(void *bytes, size_t len) { return is_memory_refused(len) ? NULL : 
 
 #define REAL(name) __typeof__(&name) real = (__typeof__(&name))dlsym(RTLD_NEXT, #name)
 
-static int opened(const char *path, int flags, int fd) {
+static int is_segment(const char *path) {
     size_t len = strlen(path);
+    return len > 3 && !strcmp(path + len - 3, ".cv");
+}
+
+static int opened(const char *path, int flags, int fd) {
     const char *last = strrchr(path, '/');
     if (fd < 0 || fd >= LIMIT) return fd;
     kinds[fd] = OTHER;
-    if ((flags & O_ACCMODE) == O_RDWR && len > 3 && !strcmp(path + len - 3, ".cv")) kinds[fd] = SEGMENT;
+    if (is_segment(path)) kinds[fd] = SEGMENT;
     if (flags & O_DIRECTORY) {
         kinds[fd] = FOLDER;
         snprintf(folders[fd], sizeof folders[fd], "%.60s", last ? last + 1 : path);
@@ -136,7 +142,7 @@ int open(const char *path, int flags, ...) {
     va_start(more, flags);
     mode_t mode = flags & (O_CREAT | O_TMPFILE) ? va_arg(more, mode_t) : 0;
     va_end(more);
-    if (is_part && ((flags & O_ACCMODE) == O_RDWR || flags & O_DIRECTORY) && (pause = !pause) == 0) {
+    if (is_part && (is_segment(path) || flags & O_DIRECTORY) && (pause = !pause) == 0) {
         errno = EINTR;
         return -1;
     }
@@ -161,10 +167,14 @@ ssize_t pread(int fd, void *bytes, size_t len, off_t at) {
     REAL(pread);
     if (kind_of(fd) != SEGMENT) return real(fd, bytes, len, at);
     if (is_interrupted(fd)) return -1;
+    if (is_plan && was_read && at < read_end) note("calls", "back\n");
     if (fails("read", "")) return why == 0 ? 0 : -1;
+    read_end = at;
     /* A long file is read by calls that do more and more, so that it takes no minutes, but by some past 2 GiB too. */
     size_t most = PART_READ + (size_t)at / 4;
-    return real(fd, bytes, part(len, most < MOST_READ ? most : MOST_READ), at);
+    ssize_t done = real(fd, bytes, part(len, most < MOST_READ ? most : MOST_READ), at);
+    if (done > 0) read_end = at + done;
+    return done;
 }
 
 ssize_t pwrite(int fd, const void *bytes, size_t len, off_t at) {

@@ -99,6 +99,7 @@ static void tell(uint32_t status, const cvec_fault *fault) {
     }
     printf("refused %" PRIu32 " %s", status, cvec_status_text(status));
     if (status == CVEC_DAMAGED) printf(" at %" PRIu64 ": %s", fault->at, cvec_cause_text(fault->cause));
+    if (status == CVEC_NO_RECORD) printf(" at position %" PRIu64, fault->at);
     if (why != 0) printf(": %s", strerror(why));
     printf("; at %" PRIu64 " cause %" PRIu32 " found %" PRIu32 " errno %d\n", fault->at, fault->cause, fault->found, why);
 }
@@ -122,7 +123,8 @@ static void read_copy(void) {
     cvec_file *file = handle();
     uint64_t from = number(), count = 0;
     char *most = next_word();
-    size_t room = most ? strtoul(most, NULL, 10) : file->stat.size > from ? file->stat.size - from : 0;
+    size_t left = file->stat.size > from ? file->stat.size - from : 0;
+    size_t room = most ? strtoul(most, NULL, 10) : file->read_only ? MOST : left;
     cvec_fault fault;
     memset(&fault, guard, sizeof fault);
     memset(records.bytes, guard, sizeof records.bytes);
@@ -215,14 +217,21 @@ static void tell_bytes(void) {
     free(bytes);
 }
 
-static void open_file(int is_new) {
+static void make_file(void) {
     cvec_file *file = handle();
     cvec_type type = type_of();
-    cvec_fault fault = {0, 0, 0};
+    cvec_fault none = {0, 0, 0};
     memset(file, guard, sizeof *file);
-    if (!is_new) memset(&fault, guard, sizeof fault);
-    char *path = path_word();
-    tell(is_new ? cvec_create(file, path, type) : cvec_open(file, path, type, &fault), &fault);
+    tell(cvec_create(file, path_word(), type), &none);
+}
+
+static void open_file(uint32_t (*call)(cvec_file *, const char *, cvec_type, cvec_fault *)) {
+    cvec_file *file = handle();
+    cvec_type type = type_of();
+    cvec_fault fault;
+    memset(file, guard, sizeof *file);
+    memset(&fault, guard, sizeof fault);
+    tell(call(file, path_word(), type, &fault), &fault);
 }
 
 /* Opens a file so many times, and closes it. */
@@ -260,8 +269,9 @@ static void suppose(void) {
 
 static void follow(char *line) {
     char *word = strtok(line, " ");
-    if (!strcmp(word, "create")) open_file(1);
-    else if (!strcmp(word, "open")) open_file(0);
+    if (!strcmp(word, "create")) make_file();
+    else if (!strcmp(word, "open")) open_file(cvec_open);
+    else if (!strcmp(word, "open-to-read")) open_file(cvec_open_to_read);
     else if (!strcmp(word, "append")) append();
     else if (!strcmp(word, "read")) read_copy();
     else if (!strcmp(word, "stat")) tell_stat(&handle()->stat);

@@ -11,7 +11,7 @@ handles = {}
 def open_file(call, name, kind, path):
     """In the path \\xHH stands for a byte: a file is made by a text of that name, and opened by its bytes."""
     path = path.encode().decode("unicode_escape").encode("latin-1")
-    handles[name] = call(path if call is cvec.open else os.fsdecode(path), kind), kind
+    handles[name] = call(os.fsdecode(path) if call is cvec.create else path, kind), kind
 
 
 def append(name, *words):
@@ -69,6 +69,7 @@ def shell(*words):
 
 COMMANDS = {
     "create": lambda *words: open_file(cvec.create, *words), "open": lambda *words: open_file(cvec.open, *words),
+    "open-to-read": lambda *words: open_file(cvec.open_to_read, *words),
     "append": append, "read": read, "stat": lambda name: stat_text(handles[name][0].stat), "close": close,
     "frames": frames, "map": read_map, "put": put, "bytes": bytes_of, "sh": shell,
 }

@@ -74,19 +74,23 @@ fn path_of(word: &str) -> OsString {
     OsString::from_vec(bytes)
 }
 
-fn opened<R: Word + 'static>(is_new: bool, path: &str) -> Result<Box<dyn Handle>, Error> {
+fn opened<R: Word + 'static>(how: &str, path: &str) -> Result<Box<dyn Handle>, Error> {
     let path = path_of(path);
     let path = Path::new(&path);
-    Ok(Box::new(if is_new { File::<R>::create(path)? } else { File::<R>::open(path)? }))
+    Ok(Box::new(match how {
+        "create" => File::<R>::create(path)?,
+        "open" => File::<R>::open(path)?,
+        _ => File::<R>::open_to_read(path)?,
+    }))
 }
 
-fn open(is_new: bool, kind: &str, path: &str) -> Result<Box<dyn Handle>, Error> {
+fn open(how: &str, kind: &str, path: &str) -> Result<Box<dyn Handle>, Error> {
     match kind {
-        "u32" => opened::<u32>(is_new, path),
-        "u64" => opened::<u64>(is_new, path),
-        "i64" => opened::<i64>(is_new, path),
-        "pair" => opened::<Pair>(is_new, path),
-        "flagged" => opened::<Flagged>(is_new, path),
+        "u32" => opened::<u32>(how, path),
+        "u64" => opened::<u64>(how, path),
+        "i64" => opened::<i64>(how, path),
+        "pair" => opened::<Pair>(how, path),
+        "flagged" => opened::<Flagged>(how, path),
         _ => panic!("{kind}"),
     }
 }
@@ -142,8 +146,8 @@ fn shell(command: &str) {
 fn follow(handles: &mut HashMap<String, Box<dyn Handle>>, line: &str) -> Result<String, Error> {
     let words: Vec<&str> = line.split(' ').collect();
     match words[0] {
-        "create" | "open" => {
-            let file = open(words[0] == "create", words[2], words[3])?;
+        "create" | "open" | "open-to-read" => {
+            let file = open(words[0], words[2], words[3])?;
             handles.insert(words[1].to_string(), file);
         }
         "append" => handles.get_mut(words[1]).unwrap().append(&words[2..])?,

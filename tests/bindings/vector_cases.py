@@ -1,0 +1,479 @@
+"""Tests of cvec_vector.py: vector_cases.py FOLDER NAME [plain]. NAME is that of a test below. With 'plain' it runs without
+numpy. What a file holds is read by the reader in tests/fuzz, which shares nothing with the library."""
+import array
+import errno
+import gc
+import os
+import resource
+import signal
+import subprocess
+import sys
+import threading
+import time
+
+if sys.argv[3:] == ["plain"]:
+    sys.modules["numpy"] = None
+from cvec_vector import Error, Status, Vector, numpy
+from vector_blocks import block, places_of, records_of
+
+FOLDER = sys.argv[1]
+PATH = os.path.join(FOLDER, "vector.cvec")
+GREATEST = 2 ** 64 - 1
+THREADS = 8
+
+
+def records():
+    return records_of(PATH)
+
+
+def refusal(call, *words, **named):
+    """The status and the text of a call that is refused."""
+    try:
+        call(*words, **named)
+    except Error as it:
+        return it.status, str(it)
+    raise AssertionError("not refused")
+
+
+def has_no(kind, call, *words, **named):
+    """Such an exception ends the call."""
+    try:
+        call(*words, **named)
+    except kind:
+        return
+    raise AssertionError(f"not refused: {words!r} {named!r}")
+
+
+def run_all(jobs):
+    """Runs these in threads of their own, and raises what the first of them raised."""
+    faults = []
+
+    def run(job):
+        try:
+            job()
+        except BaseException as fault:
+            faults.append(fault)
+
+    threads = [threading.Thread(target=run, args=(job,)) for job in jobs]
+    for thread in threads:
+        thread.start()
+    for thread in threads:
+        thread.join()
+    if faults:
+        raise faults[0]
+
+
+# ---- what a vector is
+
+def grows_and_reads():
+    with Vector.create(PATH, seats=2) as vector:
+        assert len(vector) == 0 and list(vector) == [] and list(vector[:]) == [] and vector.settled() == 0
+        vector.settle()
+        first, second = vector.grow([5, 7]), vector.grow(it for it in (11, GREATEST, 0))
+        assert (first, second) == ((0, 0, 2), (1, 2, 3)) and second.start == 2
+        assert len(vector) == 5 and vector.settled() == 0 and records() == []
+        vector.settle(first)
+        assert vector.settled() >= 1 and records()[:2] == [5, 7]
+        vector.settle()
+        assert vector.settled() == 2 and records() == [5, 7, 11, GREATEST, 0]
+        vector.grow([13])
+    assert records() == [5, 7, 11, GREATEST, 0, 13]
+    with Vector.open(PATH, seats=1) as vector:
+        assert vector.grow([17]) == (0, 6, 1)
+        # The first and only seat is still the thread's that runs.
+        assert list(vector) == [5, 7, 11, GREATEST, 0, 13, 17]
+    assert records()[-1] == 17
+    os.remove(PATH)
+    with Vector.create(os.fsencode(PATH), version=2) as vector:
+        vector.grow(range(131071))
+        assert refusal(vector.grow, range(131072))[0] == Status.TOO_LARGE
+    with open(PATH, "rb") as file:
+        assert file.read(9)[8] == 2
+    assert records() == list(range(131071))
+
+
+def indices_and_slices():
+    row = [3 * it for it in range(100)]
+    with Vector.create(PATH) as vector:
+        for at in range(0, 100, 10):
+            vector.grow(row[at:at + 10])
+        for at in (0, 1, 99, -1, -100):
+            assert vector[at] == row[at] and isinstance(vector[at], int)
+        for at in (100, -101, 2 ** 70):
+            has_no(IndexError, lambda: vector[at])
+        has_no(TypeError, lambda: vector["1"])
+        ends = (None, 0, 1, 15, 99, 100, 1000, -1, -15, -1000)
+        for start in ends:
+            for stop in ends:
+                for step in (None, 1, 2, 7, -1, -3):
+                    assert list(vector[start:stop:step]) == row[start:stop:step], (start, stop, step)
+        assert list(vector) == row
+        assert [list(it) for it in vector.pieces(33)] == [row[:33], row[33:66], row[66:99], row[99:]]
+        has_no(ValueError, vector.pieces, 0)
+        has_no(ValueError, vector.seat().read, -1, 5)
+        assert isinstance(vector[2:4], array.array if numpy is None else numpy.ndarray)
+        assert list(vector.seat().read(98, 500)) == row[98:] and len(vector.seat().read(500, 600)) == 0
+        # What begins to be read has an end, also where the vector grows meanwhile.
+        pieces, seen = vector.pieces(33), iter(vector)
+        next(pieces), next(seen)
+        vector.grow([1])
+        assert [len(it) for it in pieces] == [33, 33, 1] and len(list(seen)) == 99
+
+
+def what_is_no_record():
+    bad = [[-1], [2 ** 64], [1.0], ["1"], [None], [[1, 2]], 5, None, "12", [1, 2, GREATEST + 1], b"12345678", bytearray(8),
+           memoryview(bytes(8)), array.array("q", [-1]), array.array("d", [1.0])]
+    with Vector.create(PATH) as vector, vector.appender() as out:
+        for row in bad:
+            has_no(ValueError, vector.grow, row)
+        for record in (-1, 2 ** 64, 1.0, "1", None, [1]):
+            has_no(ValueError, out.push, record)
+        assert out.kept == 0 and len(vector) == 0
+        held = array.array("Q", bytes(8 * 200000))
+        try:
+            vector.grow(held)
+        except Error as fault:
+            assert fault.status == Status.TOO_LARGE
+            held.append(3)  # neither a call nor a traceback keeps it
+        vector.grow(array.array("Q", [1, 2]))
+        vector.grow(array.array("q", [2 ** 63 - 1]))
+        vector.grow(array.array("B", [4]))
+        assert list(vector) == [1, 2, 2 ** 63 - 1, 4]
+    for seats in (0, 65, -1, 65537):
+        has_no(ValueError, Vector.open, PATH, seats=seats)
+    has_no(ValueError, Vector.create, PATH + "2", version=3)
+    has_no(ValueError, Vector.create, PATH + "2", seats=0)
+    has_no(ValueError, Vector.create, PATH + "\0")
+    assert os.listdir(FOLDER) == ["vector.cvec"] and records() == [1, 2, 2 ** 63 - 1, 4]
+
+
+def arrays():
+    array_of = numpy.array
+    bad = [array_of([-1]), array_of([1.0]), array_of([[1, 2]]), array_of(5), array_of(["1"]), array_of([2 ** 64], dtype=object),
+           numpy.zeros(1, dtype=[("key", "<u8")]), array_of([1], dtype="m8[s]")]
+    unaligned = numpy.frombuffer(bytes(3) + (9).to_bytes(8, "little"), dtype="<u8", offset=3)
+    frozen = array_of([GREATEST], dtype="u8")
+    frozen.flags.writeable = False
+    good = [array_of([5, 7], dtype="u8"), array_of([8, 9], dtype="i8"), numpy.arange(6, dtype="u8")[::2],
+            array_of([1, 2], dtype=">u8"), unaligned, frozen, array_of([3], dtype="u1"), [numpy.uint64(GREATEST), numpy.int64(4)], array_of([1], dtype=object)]
+    with Vector.create(PATH) as vector:
+        for row in bad:
+            has_no(ValueError, vector.grow, row)
+        for row in good:
+            vector.grow(row)
+        assert vector[:].dtype == numpy.uint64
+        # A row is lent as it stands, but where C can't read it there.
+        lent = [it for it in good if vector.seat()._form.lend(it)[0] is it]
+        assert [id(it) for it in lent] == [id(good[0]), id(frozen)]
+        with vector.appender() as out:
+            out.push(numpy.uint64(GREATEST))
+    assert records() == [5, 7, 8, 9, 0, 2, 4, 1, 2, 9, GREATEST, 3, GREATEST, 4, 1, GREATEST]
+
+
+def rows_of_a_dtype():
+    point = numpy.dtype([("key", "<u8"), ("place", "<f8", 2), ("flag", "?"), ("rest", "V7")])
+    rows = numpy.zeros(50, dtype=point)
+    rows["key"], rows["place"], rows["flag"] = range(50), [(it, -it) for it in range(50)], [it % 2 for it in range(50)]
+    with Vector.create(PATH, dtype=point) as vector:
+        assert vector.grow(rows[:20]) == (0, 0, 20) and vector.grow(rows[20:50:3]) == (1, 20, 10)
+        assert vector.grow(rows[:0:-1]) == (2, 30, 49)
+        assert len(vector) == 79 and vector[20]["place"][1] == -20 and vector[-1] == rows[1]
+        assert (vector[30:] == rows[:0:-1]).all() and [it["key"] for it in vector][:3] == [0, 1, 2]
+        assert [len(it) for it in vector.pieces(50)] == [50, 29]
+        with vector.appender(2) as out:
+            out.push(rows[5])
+            for record in ((1, (2, 3), 4, b""), 5, numpy.uint64(1)):
+                has_no(ValueError, out.push, record)
+        for row in (rows["key"], rows.reshape(5, 10), [rows[0]], rows["place"], rows[0]):
+            has_no(ValueError, vector.grow, row)
+    wanted = b"".join(it.tobytes() for it in (rows[:20], rows[20:50:3], rows[:0:-1], rows[5:6]))
+    assert b"".join(it.to_bytes(8, "little") for it in records()) == wanted
+    with Vector.open(PATH, dtype=point) as vector:
+        assert vector[:].tobytes() == wanted
+    with Vector.open(PATH) as vector:
+        vector.grow([1])
+    has_no(ValueError, Vector.open, PATH, dtype=point)
+    Vector.open(PATH).close()
+    for bad in ("u4", "V12", "V264", "O", [("a", "O")], ("u8", 2), [("a", "u4"), ("b", "u8")]):
+        has_no(ValueError, Vector.open, PATH, dtype=bad)
+    for good, row in (("i8", [-1, 2 ** 63 - 1]), ("f8", [0.5, float("-inf")]), ("V256", [bytes(range(256))]), (">u8", [1])):
+        os.remove(PATH)
+        values = numpy.array(row, dtype=good)
+        with Vector.create(PATH, dtype=good) as vector:
+            vector.grow(values)
+            assert vector[:].dtype == values.dtype and vector[0] == values[0]
+            has_no(ValueError, vector.grow, row)
+        assert b"".join(it.to_bytes(8, "little") for it in records()) == values.tobytes()
+
+
+def dtype_without_numpy():
+    has_no(ValueError, Vector.create, PATH, dtype="i8")
+    assert not os.path.exists(PATH)
+
+
+def appenders():
+    with Vector.create(PATH) as vector:
+        with vector.appender(3) as out:
+            told = [out.push(it) for it in range(8)]
+            assert out.kept == 2 and told[3] == (0, 0, 3) and told[6] == (1, 3, 3) and told.count(None) == 6
+            assert len(vector) == 6
+        assert len(vector) == 8 and out.flush() is None
+        has_no(ValueError, vector.appender, 0)
+        # What is refused is kept, and nothing more.
+        out = vector.appender(150000)
+        for it in range(150000):
+            out.push(it)
+        for call in (lambda: out.push(5), out.flush):
+            assert refusal(call)[0] == Status.TOO_LARGE and out.kept == 150000 and len(vector) == 8
+    assert records() == list(range(8))
+
+
+# ---- refusals
+
+def each_refusal():
+    assert refusal(Vector.open, PATH) == (Status.DISK_OPEN, "disk open: No such file or directory")
+    assert refusal(Vector.open, FOLDER)[0] == refusal(Vector.create, "/dev/null")[0] == Status.NOT_FILE
+    vector = Vector.create(PATH, seats=2)
+    assert refusal(Vector.open, PATH) == (Status.IN_USE, "in use") and refusal(Vector.create, PATH)[0] == Status.IN_USE
+    assert refusal(vector.grow, []) == (Status.EMPTY, "empty")
+    assert refusal(vector.grow, [1] * 131072) == (Status.TOO_LARGE, "too large")
+    receipt = vector.grow([1] * 131071)
+    assert refusal(vector.settle, receipt._replace(number=1)) == (Status.OUT_OF_RANGE, "out of range")
+    has_no(IndexError, lambda: vector[131071])
+    seat = vector.seat()
+    seat.close()
+    seat.close()
+    for call in (seat.settle, seat.settled, seat.size, lambda: seat.grow([1]), lambda: seat.read(0, 1)):
+        assert refusal(call) == (Status.NOT_SO, "closed")
+    # The thread has another, of which what it grew is still known; then there is none.
+    vector.settle()
+    assert vector.settled() == 1
+    vector.seat().close()
+    assert refusal(vector.settled) == (Status.NOT_SO, "every seat is taken")
+    vector.close()
+    vector.close()
+    for call in (vector.settled, vector.settle, vector.seat, lambda: vector[0], lambda: vector.grow([1]), lambda: len(vector)):
+        assert refusal(call) == (Status.NOT_SO, "closed")
+    assert refusal(Vector.create, PATH) == (Status.EXISTS, "exists")
+    assert records() == [1] * 131071
+    Vector.open(PATH).grow([2])  # nobody holds the vector
+    gc.collect()
+    assert records()[-1] == 2
+    others = [(b"", Status.UNBORN, "unborn"), (b"\1other than ours", Status.NOT_SEGMENT, "not segment"),
+              (b"\1CVECSEG\7\10\0\0", Status.VERSION, "version"), (b"\1CVECSEG\1\4\0\0", Status.WIDTH, "width"),
+              (b"\1CVECSEG\1\10\0\1\11", Status.DAMAGED, "damaged")]
+    for there, status, text in others:
+        with open(PATH, "wb") as file:
+            file.write(there)
+        assert refusal(Vector.open, PATH) == (status, text)
+        with open(PATH, "rb") as file:
+            assert file.read() == there
+
+
+def is_locked_by_another():
+    assert refusal(Vector.open, PATH)[0] == Status.IN_USE
+
+
+# ---- threads
+
+def threads_grow_whole_blocks():
+    told = {}
+
+    def run(vector, name):
+        for turn in range(200):
+            receipt = vector.grow(block(0, name, turn))
+            told[0, name, turn] = receipt.start
+            assert list(vector[receipt.start:receipt.start + receipt.length]) == block(0, name, turn)
+            if turn % 10 == 0:
+                vector.settle(receipt)
+                assert vector.settled() > receipt.number
+
+    with Vector.create(PATH, seats=THREADS) as vector:
+        run_all([lambda name=name: run(vector, name) for name in range(THREADS)])
+        gc.collect()
+        vector.settle()
+        assert places_of(records()) == told
+    assert places_of(records()) == told
+
+
+def a_seat_goes_to_the_next_thread():
+    """Two seats serve 40 threads, two at a time; a third at a time is refused."""
+    with Vector.create(PATH, seats=2) as vector:
+        for name in range(0, 40, 2):
+            run_all([lambda name=name: vector.grow([name]), lambda name=name: vector.grow([name + 1])])
+        vector.grow([40])
+        asked, goes_on = threading.Event(), threading.Event()
+
+        def hold():
+            vector.settled()
+            asked.set()
+            goes_on.wait()
+
+        thread = threading.Thread(target=hold)
+        thread.start()
+        asked.wait()
+        try:
+            run_all([vector.settled])
+            raise AssertionError("a third seat")
+        except Error as fault:
+            assert fault.status == Status.NOT_SO and str(fault) == "every seat is taken"
+        goes_on.set()
+        thread.join()
+    assert sorted(records()) == list(range(41))
+
+
+def another_thread_by_the_same_seat_is_refused():
+    """A thread waits for the device again and again, and another calls by its seat meanwhile: then the call lets it run."""
+    seats, busy, asked, end = [], threading.Event(), threading.Event(), time.monotonic() + 20
+
+    def settle():
+        seats.append(vector.seat())
+        while not busy.is_set() and time.monotonic() < end:
+            try:
+                seats[0].settle(seats[0].grow([1]))
+            except Error as fault:
+                assert fault.status == Status.BUSY
+            asked.set()
+
+    def ask():
+        asked.wait()
+        while not busy.is_set() and time.monotonic() < end:
+            try:
+                seats[0].size()
+            except Error as fault:
+                assert (fault.status, str(fault)) == (Status.BUSY, "busy")
+                busy.set()
+
+    with Vector.create(PATH) as vector:
+        run_all([settle, ask])
+    assert busy.is_set() and set(records()) == {1}
+
+
+def a_call_lets_other_threads_run():
+    """Where each sync takes a second (LD_PRELOAD), a thread that doesn't wait for it goes on."""
+    with Vector.create(PATH) as vector:
+        vector.grow([5])
+        thread = threading.Thread(target=vector.settle)
+        begun = before = time.monotonic()
+        thread.start()
+        longest = 0
+        while thread.is_alive():
+            now = time.monotonic()
+            longest, before = max(longest, now - before), now
+        assert before - begun > 1.5 and longest < 0.7, (before - begun, longest)
+
+
+def a_close_waits_for_calls():
+    """Threads grow and settle until the vector is closed under them."""
+    told = {}
+    begun = threading.Barrier(THREADS + 1)
+
+    def run(vector, name):
+        turn = 0
+        vector.settled()
+        begun.wait()
+        while True:
+            try:
+                receipt = vector.grow(block(0, name, turn))
+            except Error as fault:
+                assert (fault.status, str(fault)) == (Status.NOT_SO, "closed")
+                return
+            told[0, name, turn] = receipt.start
+            turn += 1
+            if turn % 3 == 0:
+                try:
+                    vector.settle(receipt)
+                except Error as fault:
+                    assert fault.status == Status.NOT_SO
+
+    def end(vector):
+        begun.wait()
+        while len(told) < 300:
+            time.sleep(0.001)
+        vector.close()
+
+    vector = Vector.create(PATH, seats=THREADS)
+    run_all([lambda name=name: run(vector, name) for name in range(THREADS)] + [lambda: end(vector)])
+    assert places_of(records()) == told
+
+
+def a_program_ends_beside_a_thread():
+    """A thread that nobody waits for is inside a call when the program ends."""
+    text = """
+import threading, sys
+from cvec_vector import Vector
+vector = Vector.create(sys.argv[1])
+begun = threading.Event()
+def run():
+    while True:
+        vector.settle(vector.grow([5]))
+        begun.set()
+threading.Thread(target=run, daemon=True).start()
+begun.wait()
+"""
+    for _ in range(10):
+        ended = subprocess.run([sys.executable, "-c", text, PATH], timeout=20, stderr=subprocess.PIPE)
+        assert ended.returncode == 0 and ended.stderr == b"", ended
+        assert set(records()) == {5}
+        os.remove(PATH)
+
+
+# ---- a process that is forked, and a device that is full
+
+def a_forked_process_is_refused():
+    told, goes_on = os.pipe(), os.pipe()
+    vector = Vector.create(PATH, seats=2)
+    seat = vector.seat()
+    seat.grow([5])
+    vector._lock.acquire()  # as a thread that has it at the fork
+    child = os.fork()
+    if child == 0:
+        signal.alarm(20)
+        calls = (vector.seat, vector.settle, vector.settled, lambda: vector.grow([6]), lambda: len(vector), lambda: vector[0],
+                 seat.settle, seat.size, lambda: seat.grow([7]), seat.close)
+        refused = all(refusal(call) == (Status.FORKED, "forked") for call in calls)
+        vector.close()
+        vector.close()
+        os.write(told[1], b"1" if refused else b"0")
+        os.close(goes_on[1])
+        os.read(goes_on[0], 1)
+        os._exit(0)
+    vector._lock.release()
+    assert os.read(told[0], 1) == b"1", "a forked process isn't refused"
+    vector.grow([8])
+    vector.close()
+    # The child has let go of the file, and lives.
+    with Vector.open(PATH) as again:
+        again.grow([9])
+    os.close(goes_on[1])
+    assert os.waitpid(child, 0)[1] == 0
+    assert records() == [5, 8, 9]
+
+
+def a_full_device_leaves_what_is_settled():
+    vector = Vector.create(PATH)
+    _, hard = resource.getrlimit(resource.RLIMIT_FSIZE)
+    resource.setrlimit(resource.RLIMIT_FSIZE, (4096, hard))
+    settled = 0
+    try:
+        while True:
+            vector.grow(block(0, 1, settled))
+            vector.settle()
+            settled += 1
+    except Error as fault:
+        assert (fault.status, fault.errno, str(fault)) == (Status.DISK_WRITE, errno.EFBIG, "disk write: File too large")
+    assert vector.settled() == settled > 3
+    for call in (lambda: vector.grow([1]), vector.settle, vector.close):
+        assert refusal(call) == (Status.BROKEN, "broken")
+    assert refusal(vector.settled) == (Status.NOT_SO, "closed")
+    resource.setrlimit(resource.RLIMIT_FSIZE, (hard, hard))
+    kept = [it for turn in range(settled) for it in block(0, 1, turn)]
+    assert records() == kept
+    with Vector.open(PATH) as again:
+        again.grow([1])
+    assert records() == kept + [1]
+
+
+TESTS = {name: it for name, it in globals().items() if callable(it) and getattr(it, "__module__", "") == "__main__"}
+TESTS[sys.argv[2]]()
+print("with numpy" if numpy else "without numpy")

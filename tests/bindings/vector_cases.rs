@@ -1,0 +1,243 @@
+//! Tests of cvec_vector.rs: vector_cases NAME FILE, where NAME is that of a test below; and a writer that vector_killed.py
+//! kills: vector_cases write FILE ROUND THREADS TURNS. What a file holds is read by others.
+use cvec_vector::{Error, MOST_SEATS, Receipt, Seat, Vector, Version};
+use std::fmt::Debug;
+use std::fs;
+use std::io::{Write, stdout};
+use std::path::Path;
+use std::sync::atomic::{AtomicU64, Ordering};
+use std::thread;
+
+unsafe extern "C" {
+    fn fork() -> i32;
+    fn _exit(status: i32) -> !;
+    fn waitpid(process: i32, status: *mut i32, options: i32) -> i32;
+}
+
+fn is_send<T: Send>() {}
+fn is_shared<T: Send + Sync>() {}
+
+/// A block of a thread: its first record says whose it is, and how long. The others follow from it.
+fn block(round: u64, name: u64, turn: u64) -> Vec<u64> {
+    let length = 1 + (name * 7 + turn * 13 + round * 29) % 60;
+    let head = round << 48 | name << 40 | turn << 8 | length;
+    std::iter::once(head).chain((1..length).map(|at| head.wrapping_mul(31).wrapping_add(at))).collect()
+}
+
+fn refused<T: Debug>(answer: Result<T, Error>, text: &str) -> Error {
+    let error = answer.expect_err(text);
+    assert_eq!(error.to_string(), text);
+    let _: &dyn std::error::Error = &error;
+    error
+}
+
+fn grows_and_reads(path: &Path) -> Result<(), Error> {
+    is_shared::<Vector>();
+    is_send::<Seat<'static>>();
+    let vector = Vector::create_as(path, 2, Version::Two)?;
+    let seat = vector.seat()?;
+    assert!(seat.is_empty()? && seat.read(..)?.is_empty());
+    let first = seat.grow(&[5, 7])?;
+    let second = thread::scope(|scope| scope.spawn(|| vector.seat()?.grow(&[11, u64::MAX, 0])).join().unwrap())?;
+    assert_eq!((first, second), (Receipt { number: 0, start: 0, length: 2 }, Receipt { number: 1, start: 2, length: 3 }));
+    assert_eq!((seat.len()?, seat.settled()?, seat.is_empty()?), (5, 0, false));
+    seat.settle(&first)?;
+    assert!(seat.settled()? >= 1);
+    seat.settle(&second)?;
+    assert_eq!(seat.settled()?, 2);
+    let all = [5, 7, 11, u64::MAX, 0];
+    assert_eq!(seat.read(..)?, all);
+    assert_eq!(seat.read(1..=3)?, all[1..=3]);
+    assert_eq!(seat.read(..2)?, all[..2]);
+    assert_eq!(seat.read((std::ops::Bound::Excluded(1), std::ops::Bound::Included(u64::MAX)))?, all[2..]);
+    #[allow(clippy::reversed_empty_ranges)]
+    let backwards = 3..1;
+    assert!(seat.read(backwards)?.is_empty() && seat.read(5..)?.is_empty() && seat.read(u64::MAX..)?.is_empty());
+    let mut out = [9; 4];
+    assert_eq!((seat.read_into(2, &mut out)?, out), (3, [11, u64::MAX, 0, 9]));
+    assert_eq!((seat.read_into(0, &mut out[1..3])?, out), (2, [11, 5, 7, 9]));
+    assert_eq!((seat.read_into(0, &mut [])?, seat.read_into(9, &mut out)?), (0, 0));
+    seat.grow(&[13])?;
+    // A seat may go to another thread; the vector's drop commits what nobody has settled.
+    thread::scope(|scope| scope.spawn(move || seat.grow(&[17])).join().unwrap())?;
+    Ok(())
+}
+
+fn appends(path: &Path) -> Result<(), Error> {
+    let vector = Vector::create(path, 2)?;
+    let seat = vector.seat()?;
+    let mut out = seat.appender(3)?;
+    let told: Vec<_> = (0..8).map(|it| out.push(it)).collect::<Result<_, _>>()?;
+    let starts: Vec<_> = told.iter().map(|it| it.map(|it| (it.number, it.start, it.length))).collect();
+    assert_eq!(starts, [None, None, None, Some((0, 0, 3)), None, None, Some((1, 3, 3)), None]);
+    assert_eq!((out.kept(), seat.len()?), (&[6, 7][..], 6));
+    drop(out);
+    assert_eq!((seat.len()?, seat.appender(1)?.flush()?), (8, None));
+    refused(seat.appender(0), "empty");
+    refused(seat.appender(usize::MAX), "memory");
+    // What is refused is kept, and nothing more.
+    let mut out = seat.appender(150_000)?;
+    for it in 0..150_000 {
+        out.push(it)?;
+    }
+    refused(out.push(5), "too large");
+    refused(out.flush(), "too large");
+    assert_eq!((out.kept().len(), seat.len()?), (150_000, 8));
+    drop(out);
+    drop(seat);
+    vector.close()
+}
+
+fn each_refusal(path: &Path) -> Result<(), Error> {
+    assert_eq!(refused(Vector::open(path, 1), "disk open: No such file or directory (os error 2)"), Error::DiskOpen(2));
+    refused(Vector::open(path.parent().unwrap(), 1), "not a file");
+    refused(Vector::create(Path::new("a\0b"), 1), "a path has a zero byte");
+    for seats in [0, MOST_SEATS + 1, u16::MAX] {
+        refused(Vector::create(path, seats), "a vector has 1 to 64 seats");
+        refused(Vector::open(path, seats), "a vector has 1 to 64 seats");
+    }
+    assert!(!path.exists());
+    let vector = Vector::create(path, 2)?;
+    assert_eq!(refused(Vector::open(path, 2), "in use"), Error::InUse);
+    assert_eq!(refused(Vector::create(path, 2), "in use").errno(), None);
+    let seat = vector.seat()?;
+    refused(seat.grow(&[]), "empty");
+    refused(seat.grow(&[1; 131_072]), "too large");
+    let receipt = seat.grow(&[1; 131_071])?;
+    refused(seat.settle(&Receipt { number: 1, ..receipt }), "out of range");
+    refused(seat.settle(&Receipt { number: u64::MAX, ..receipt }), "out of range");
+    // The number of a seat that is dropped isn't given again.
+    drop(vector.seat()?);
+    assert_eq!(refused(vector.seat(), "every seat is taken"), Error::NoSeat);
+    drop(seat);
+    vector.close()?;
+    refused(Vector::create(path, 2), "exists");
+    // A seat that is forgotten keeps the vector open.
+    let vector = Vector::open(path, 1)?;
+    std::mem::forget(vector.seat()?);
+    refused(vector.close(), "busy");
+    refused(Vector::open(path, 1), "in use");
+    let other = path.with_extension("other");
+    let others: [(&[u8], Error, &str); 5] = [
+        (b"", Error::Unborn, "unborn"),
+        (b"\x01other bytes than those of a file", Error::NotSegment, "not a segment"),
+        (b"\x01CVECSEG\x07\x08\0\0", Error::Version, "version"),
+        (b"\x01CVECSEG\x01\x04\0\0", Error::Width, "width"),
+        (b"\x01CVECSEG\x01\x08\0\x01\x09", Error::Damaged, "damaged"),
+    ];
+    for (there, error, text) in others {
+        fs::write(&other, there).unwrap();
+        assert_eq!(refused(Vector::open(&other, 1), text), error);
+        assert_eq!(fs::read(&other).unwrap(), there);
+    }
+    Ok(())
+}
+
+/// It takes no more growths until it is opened again.
+fn is_full(path: &Path) -> Result<(), Error> {
+    let vector = Vector::create(path, 1)?;
+    let seat = vector.seat()?;
+    let mut out = seat.appender(1)?;
+    for number in 0..=1_048_568 {
+        out.push(number)?;
+    }
+    assert_eq!((refused(out.push(5), "full"), out.kept(), seat.len()?), (Error::Full, &[1_048_568][..], 1_048_568));
+    refused(out.flush(), "full");
+    drop(out);
+    drop(seat);
+    vector.close()?;
+    let vector = Vector::open(path, 1)?;
+    let seat = vector.seat()?;
+    assert_eq!(seat.grow(&[9])?, Receipt { number: 0, start: 1_048_568, length: 1 });
+    drop(seat);
+    vector.close()
+}
+
+/// The forked process is refused, and its parent goes on.
+fn forks(path: &Path) -> Result<(), Error> {
+    let vector = Vector::create(path, 2)?;
+    let seat = vector.seat()?;
+    let receipt = seat.grow(&[5])?;
+    // SAFETY: no other thread runs, and the child calls nothing but what it tries.
+    let child = unsafe { fork() };
+    if child == 0 {
+        let looks = [seat.settled().map(drop), seat.len().map(drop), seat.read(..).map(drop), seat.read_into(0, &mut [1]).map(drop)];
+        let answers = [seat.grow(&[6]).map(drop), seat.settle(&receipt), vector.seat().map(drop)];
+        drop(seat);
+        let refused = looks.iter().chain(&answers).chain([&vector.close()]).all(|it| *it == Err(Error::Forked));
+        // SAFETY: it ends the child, with none of the parent's buffers.
+        unsafe { _exit(if refused { 0 } else { 1 }) };
+    }
+    let mut status = 1;
+    // SAFETY: the place for the status lasts for the call.
+    assert_eq!((unsafe { waitpid(child, &mut status, 0) }, status), (child, 0));
+    seat.settle(&seat.grow(&[7])?)?;
+    drop(seat);
+    vector.close()
+}
+
+/// Grows until the device is full, and tells how many growths are settled.
+fn fills(path: &Path) -> Result<(), Error> {
+    let vector = Vector::create(path, 1)?;
+    let seat = vector.seat()?;
+    let mut turn = 0;
+    let error = loop {
+        match seat.grow(&block(0, 1, turn)).and_then(|it| seat.settle(&it)) {
+            Ok(()) => turn += 1,
+            Err(error) => break error,
+        }
+    };
+    assert_eq!(error, Error::DiskWrite(27));
+    assert_eq!(error.to_string(), "disk write: File too large (os error 27)");
+    assert_eq!(seat.settled()?, turn);
+    refused(seat.grow(&[1]), "broken");
+    refused(seat.settle(&Receipt { number: turn, start: 0, length: 1 }), "broken");
+    drop(seat);
+    refused(vector.close(), "broken");
+    println!("{turn}");
+    Ok(())
+}
+
+fn write(words: &[String]) -> Result<(), Error> {
+    let (path, numbers) = (Path::new(&words[0]), words[1..].iter().map(|it| it.parse().unwrap()).collect::<Vec<u64>>());
+    let (round, threads, turns) = (numbers[0], numbers[1], numbers[2]);
+    let vector = match Vector::create(path, threads as u16) {
+        Err(Error::Exists) => Vector::open(path, threads as u16)?,
+        it => it?,
+    };
+    let names = AtomicU64::new(0);
+    let run = || -> Result<(), Error> {
+        let (seat, name, mut untold) = (vector.seat()?, names.fetch_add(1, Ordering::Relaxed), Vec::new());
+        for turn in 0..turns {
+            let receipt = seat.grow(&block(round, name, turn))?;
+            writeln!(untold, "{name} {turn} {}", receipt.start).unwrap();
+            if turn % 3 == 2 || turn + 1 == turns {
+                seat.settle(&receipt)?;
+                stdout().lock().write_all(&untold).unwrap();
+                untold.clear();
+            }
+        }
+        Ok(())
+    };
+    thread::scope(|scope| {
+        let running: Vec<_> = (0..threads).map(|_| scope.spawn(run)).collect();
+        running.into_iter().try_for_each(|it| it.join().unwrap())
+    })?;
+    vector.close()
+}
+
+fn main() {
+    let words: Vec<_> = std::env::args().skip(1).collect();
+    let path = Path::new(&words[1]);
+    match words[0].as_str() {
+        "grows_and_reads" => grows_and_reads(path),
+        "appends" => appends(path),
+        "each_refusal" => each_refusal(path),
+        "is_full" => is_full(path),
+        "forks" => forks(path),
+        "fills" => fills(path),
+        "write" => write(&words[1..]),
+        name => panic!("no test {name}"),
+    }
+    .unwrap();
+}

@@ -1,0 +1,573 @@
+// Behaviours of cvec::concurrent_vector, each by its name: behaviours NAME FILE. The status is 0 where it is as promised; else
+// a line says what isn't.
+#define cvec_vector_read counted_read
+#include "told.hpp"
+#undef cvec_vector_read
+
+#include <algorithm>
+#include <csignal>
+#include <fstream>
+#include <map>
+#include <numeric>
+#include <sys/resource.h>
+#include <sys/stat.h>
+#include <sys/wait.h>
+#include <unistd.h>
+
+// How often the vector was asked for records.
+static std::atomic<int> reads{0};
+
+extern "C" std::uint32_t cvec_vector_read(cvec_vector_seat *, std::uint64_t, std::uint64_t *, std::size_t, std::uint64_t *);
+extern "C" std::uint32_t counted_read(cvec_vector_seat *seat, std::uint64_t from, std::uint64_t *out, std::size_t room,
+                                      std::uint64_t *count) {
+    ++reads;
+    return cvec_vector_read(seat, from, out, room, count);
+}
+
+using numbers = cvec::concurrent_vector<std::uint64_t>;
+using list = std::vector<std::uint64_t>;
+
+struct sample {
+    std::uint64_t thread, turn;
+    double value;
+};
+
+static bool operator==(const sample &a, const sample &b) {
+    return a.thread == b.thread && a.turn == b.turn && a.value == b.value;
+}
+
+using samples = cvec::concurrent_vector<sample>;
+
+static list rows_of(const numbers &vector) { return list(vector.begin(), vector.end()); }
+
+static void in_threads(std::uint64_t count, const std::function<void(std::uint64_t)> &work) {
+    std::vector<std::thread> all;
+    for (std::uint64_t k = 0; k < count; ++k) all.emplace_back(work, k);
+    for (auto &one : all) one.join();
+}
+
+// ---- growing
+
+static void growing(const std::string &path) {
+    numbers vector(path);
+    HOLDS(vector.empty() && vector.size() == 0);
+    HOLDS(vector.push_back(5).position() == 0);
+    HOLDS(*vector.emplace_back(7) == 7);
+    HOLDS(vector.size() == 2 && !vector.empty());
+    HOLDS(vector.grow_by(2) - vector.begin() == 2);
+    HOLDS(*vector.grow_by(3, 9) == 9);
+    const list more = {20, 21, 22};
+    HOLDS(vector.grow_by(more.begin(), more.end()).position() == 7);
+    HOLDS(vector.grow_by({30, 31}).position() == 10);
+    HOLDS(rows_of(vector) == list({5, 7, 0, 0, 9, 9, 9, 20, 21, 22, 30, 31}));
+    // A range of its own, and nothing at all.
+    HOLDS(vector.grow_by(vector.begin() + 10, vector.end()).position() == 12);
+    HOLDS(vector.grow_by(0) == vector.end() && vector.grow_by(more.begin(), more.begin()) == vector.end());
+    HOLDS(vector.size() == 14 && vector[13] == 31);
+    HOLDS(status_of([&] { vector.append(more.begin(), more.begin()); }) == CVEC_EMPTY);
+    HOLDS(vector.grow_to_at_least(3).position() == 14 && vector.size() == 14);
+    HOLDS(vector.grow_to_at_least(17, 8).position() == 14);
+    HOLDS(vector.grow_to_at_least(18).position() == 17);
+    HOLDS(list(vector.begin() + 14, vector.end()) == list({8, 8, 8, 0}));
+}
+
+static void greatest_growth(const std::string &path) {
+    numbers vector(path);
+    // 2^20 bytes of payload, with 8 of its own.
+    HOLDS(numbers::max_growth() == 131071 && samples::max_growth() == 43690);
+    HOLDS(numbers::max_size() == 4294967296 && samples::max_size() == 1431655765);
+    HOLDS(status_of([&] { vector.grow_by(131072, 1); }) == CVEC_TOO_LARGE);
+    HOLDS(vector.empty());
+    HOLDS(vector.grow_by(131071, 1).position() == 0);
+    HOLDS(vector.grow_to_at_least(400000).position() == 131071 && vector.size() == 400000);
+    vector.settle();
+}
+
+static void structs(const std::string &path) {
+    {
+        samples vector(path);
+        vector.push_back({1, 2, 0.5});
+        vector.emplace_back(std::uint64_t{3}, std::uint64_t{4}, -1.25);
+        vector.grow_by(2);
+        vector.grow_by({{5, 6, 7}});
+        HOLDS(vector.size() == 5);
+        vector.close();
+    }
+    samples again(path, {cvec::opening::open});
+    HOLDS(again.size() == 5);
+    HOLDS(again[0] == (sample{1, 2, 0.5}) && again[1] == (sample{3, 4, -1.25}) && again[3] == (sample{0, 0, 0}));
+    HOLDS(again.back() == (sample{5, 6, 7}) && again.begin()->turn == 2);
+    // Thrice this position is 2, where numbers have 64 bits.
+    HOLDS(is_out_of_range([&] { static_cast<void>(again.at(0x5555555555555556)); }));
+}
+
+// Of 4 bytes' alignment, without a default; and as long as may be.
+struct small {
+    small(float a, float b) : x(a), y(b) {}
+    float x, y;
+};
+struct large {
+    std::uint64_t words[32];
+};
+
+static void other_types(const std::string &path) {
+    {
+        cvec::concurrent_vector<small> vector(path);
+        for (int k = 0; k < 2000; ++k) vector.emplace_back(static_cast<float>(k), 0.5F);
+        HOLDS(vector[1999].x == 1999.0F && vector.begin()[1234].x == 1234.0F && (vector.begin() + 77)->y == 0.5F);
+        vector.close();
+        ::unlink(path.c_str());
+    }
+    cvec::concurrent_vector<large> vector(path);
+    large one{};
+    one.words[31] = 4;
+    vector.grow_by(40, one);
+    HOLDS(vector.size() == 40 && vector[39].words[31] == 4 && vector[39].words[30] == 0);
+    HOLDS(std::count_if(vector.begin(), vector.end(), [](const large &it) { return it.words[31] == 4; }) == 40);
+}
+
+// ---- reading
+
+static void reading(const std::string &path) {
+    numbers vector(path);
+    HOLDS(is_out_of_range([&] { static_cast<void>(vector.at(0)); }) && is_out_of_range([&] { static_cast<void>(vector.back()); }));
+    vector.grow_by({4, 5, 6});
+    HOLDS(vector.at(2) == 6 && vector[0] == 4 && vector.front() == 4 && vector.back() == 6);
+    HOLDS(is_out_of_range([&] { static_cast<void>(vector.at(3)); }) && is_out_of_range([&] { static_cast<void>(vector[3]); }));
+    HOLDS(is_out_of_range([&] { static_cast<void>(*vector.end()); }));
+    HOLDS(is_out_of_range([&] { static_cast<void>(vector.at(static_cast<std::size_t>(-1))); }));
+    HOLDS(is_out_of_range([&] { static_cast<void>(vector.at(std::size_t{1} << 61)); }));
+}
+
+// Rows of growths of different lengths, past several pieces of iterators.
+static list long_list(numbers &vector) {
+    list rows(3000);
+    std::iota(rows.begin(), rows.end(), std::uint64_t{1000});
+    for (std::size_t at = 0, step = 1; at < rows.size(); at += step, step = step % 97 + 1) {
+        const std::size_t end = std::min(at + step, rows.size());
+        vector.grow_by(rows.begin() + static_cast<std::ptrdiff_t>(at), rows.begin() + static_cast<std::ptrdiff_t>(end));
+        step = end - at;
+    }
+    return rows;
+}
+
+static void iterators(const std::string &path) {
+    numbers vector(path);
+    const list rows = long_list(vector);
+    HOLDS(rows_of(vector) == rows && vector.end() - vector.begin() == 3000);
+    HOLDS(list(vector.rbegin(), vector.rend()) == list(rows.rbegin(), rows.rend()));
+    HOLDS(std::equal(vector.cbegin(), vector.cend(), rows.begin(), rows.end()));
+    HOLDS(std::equal(vector.crbegin(), vector.crend(), rows.rbegin(), rows.rend()));
+    HOLDS(*std::lower_bound(vector.begin(), vector.end(), std::uint64_t{2345}) == 2345);
+    HOLDS(std::accumulate(vector.begin(), vector.end(), std::uint64_t{0}) == 3000 * 1000 + 3000 * 2999 / 2);
+    auto one = vector.begin();
+    HOLDS(*one++ == 1000 && *one == 1001 && *++one == 1002 && *one-- == 1002 && *--one == 1000);
+    one += 600;
+    HOLDS(*one == 1600 && one[-600] == 1000 && one[2000] == 3600 && *(one - 100) == 1500 && *(5 + one) == 1605);
+    one -= 599;
+    HOLDS(*one == 1001 && one > vector.begin() && one >= one && one < vector.end() && one <= one && one != vector.end());
+    // What comes after the end that was asked for.
+    const auto end = vector.end();
+    vector.push_back(1);
+    HOLDS(*end == 1 && vector.end() - end == 1);
+    auto last = end - 1;
+    HOLDS(*last == 3999 && *++last == 1 && is_out_of_range([&] { static_cast<void>(*++last); }));
+    HOLDS(numbers::iterator() == numbers::iterator());
+    using traits = std::iterator_traits<numbers::iterator>;
+    static_assert(std::is_same_v<traits::iterator_category, std::random_access_iterator_tag>);
+    static_assert(std::is_same_v<traits::value_type, std::uint64_t>);
+}
+
+// A loop reads 4 KiB at a time, in both directions: here six pieces of 512 rows. There are a look at the first row and one at
+// the end besides; backwards a piece is read a second time, by the copy that a reverse iterator makes to look.
+static void pieces(const std::string &path) {
+    numbers vector(path);
+    const list rows = long_list(vector);
+    reads = 0;
+    HOLDS(rows_of(vector) == rows && reads > 0 && reads <= 8);
+    reads = 0;
+    HOLDS(list(vector.rbegin(), vector.rend()) == list(rows.rbegin(), rows.rend()) && reads > 0 && reads <= 14);
+}
+
+// One iterator that all threads read by, as a body of parallel_for that has captured it.
+static void shared_iterator(const std::string &path) {
+    numbers vector(path);
+    const list rows = long_list(vector);
+    const auto first = vector.begin() + 1;
+    std::atomic<bool> is_right{true};
+    in_threads(8, [&](std::uint64_t k) {
+        for (std::size_t at = k; at + 1 < rows.size(); at += 8)
+            if (first[static_cast<std::ptrdiff_t>(at)] != rows[at + 1] || *first != rows[1]) is_right = false;
+    });
+    HOLDS(is_right);
+}
+
+struct split_tag {};
+
+static void ranges(const std::string &path) {
+    numbers vector(path);
+    vector.grow_by({1, 2, 3, 4, 5});
+    auto whole = vector.range(2);
+    HOLDS(whole.size() == 5 && whole.is_divisible() && !whole.empty() && whole.grainsize() == 2);
+    numbers::range_type half(whole, split_tag{});
+    HOLDS(list(whole.begin(), whole.end()) == list({1, 2}) && list(half.begin(), half.end()) == list({3, 4, 5}));
+    HOLDS(!whole.is_divisible() && half.is_divisible() && half.grainsize() == 2);
+    HOLDS(vector.range(0).grainsize() == 1 && vector.range().grainsize() == 1);
+    const numbers &only_read = vector;
+    numbers::const_range_type part = only_read.range(5);
+    HOLDS(!part.is_divisible());
+}
+
+// ---- what is durable
+
+static void receipts(const std::string &path) {
+    numbers vector(path);
+    HOLDS(vector.settled() == 0);
+    vector.settle();
+    const cvec::growth first = vector.append(4), second = vector.append({5, 6});
+    const list more = {7};
+    const cvec::growth third = vector.append(more.begin(), more.end());
+    HOLDS(first.number == 0 && first.first == 0 && first.length == 1);
+    HOLDS(second.number == 1 && second.first == 1 && second.length == 2);
+    HOLDS(third.number == 2 && third.first == 3 && third.length == 1);
+    HOLDS(!vector.is_settled(first));
+    vector.settle(second);
+    HOLDS(vector.is_settled(first) && vector.is_settled(second) && vector.settled() >= 2);
+    vector.push_back(8);
+    vector.settle();
+    HOLDS(vector.settled() == 4 && vector.is_settled(third));
+    HOLDS(status_of([&] { vector.settle({4, 0, 1}); }) == CVEC_OUT_OF_RANGE);
+    vector.settle();
+    // Without an end of the process's own, what was settled stands.
+    if (wrong == 0) ::kill(::getpid(), SIGKILL);
+}
+
+static void appenders(const std::string &path) {
+    samples vector(path);
+    {
+        cvec::appender<sample> rows(vector, 3);
+        for (std::uint64_t k = 0; k < 8; ++k) rows.emplace_back(k, k, 0.5);
+        HOLDS(vector.size() == 6 && rows.buffered() == 2);
+        const auto made = rows.flush();
+        HOLDS(made && made->first == 6 && made->length == 2 && made->number == 2 && !rows.flush());
+        HOLDS(rows.buffered() == 0 && vector.size() == 8);
+        rows.push_back({9, 9, 9});
+        rows.settle();
+        HOLDS(vector.settled() == 4 && vector.size() == 9);
+        rows.push_back({10, 10, 10});
+        cvec::appender<sample> moved(std::move(rows));
+        moved.push_back({11, 11, 11});
+        HOLDS(vector.size() == 9);
+    }
+    HOLDS(vector.size() == 11 && vector[10].thread == 11);
+    // Where a flush is refused, the rows are kept, and the one that was pushed isn't taken. The destructor is silent.
+    cvec::appender<sample> late(vector, 2);
+    late.push_back({1, 1, 1});
+    late.push_back({2, 2, 2});
+    vector.close();
+    HOLDS(status_of([&] { late.push_back({3, 3, 3}); }) == CVEC_NOT_SO && late.buffered() == 2);
+    HOLDS(status_of([&] { late.settle(); }) == CVEC_NOT_SO);
+}
+
+// ---- opening, closing, and refusals
+
+static void closing(const std::string &path) {
+    numbers vector(path);
+    vector.push_back(5);
+    const auto first = vector.begin();
+    vector.close();
+    vector.close();
+    HOLDS(status_of([&] { vector.push_back(6); }) == CVEC_NOT_SO);
+    HOLDS(status_of([&] { static_cast<void>(vector.size()); }) == CVEC_NOT_SO);
+    HOLDS(status_of([&] { static_cast<void>(*first); }) == CVEC_NOT_SO);
+    HOLDS(status_of([&] { vector.settle(); }) == CVEC_NOT_SO);
+    numbers again(path, {cvec::opening::open}), other(path + ".other");
+    HOLDS(rows_of(again) == list({5}));
+    numbers moved(std::move(again));
+    const auto kept = moved.begin();
+    moved.push_back(6);
+    swap(moved, other);
+    HOLDS(moved.empty() && rows_of(other) == list({5, 6}) && *kept == 5);
+    // What is assigned over is closed: it may be opened again.
+    moved = std::move(other);
+    HOLDS(moved.size() == 2 && numbers(path + ".other").empty());
+}
+
+// Threads grow while one closes: each growth is there or was refused.
+static void closing_meanwhile(const std::string &path) {
+    std::atomic<std::uint64_t> grown{0}, refused{0};
+    {
+        numbers vector(path);
+        std::atomic<bool> is_closed{false};
+        in_threads(9, [&](std::uint64_t k) {
+            if (k == 8) {
+                std::this_thread::sleep_for(std::chrono::milliseconds(50));
+                HOLDS(status_of([&] { vector.close(); }) == CVEC_DONE);
+                is_closed = true;
+                return;
+            }
+            while (status_of([&] { vector.push_back(k); }) == CVEC_DONE) ++grown;
+            ++refused;
+        });
+        HOLDS(is_closed && refused == 8 && grown > 0);
+    }
+    HOLDS(numbers(path).size() == grown);
+}
+
+static void write_file(const std::string &path, const std::string &bytes) { std::ofstream(path, std::ios::binary) << bytes; }
+
+static std::string bytes_of(const std::string &path) {
+    std::ifstream file(path, std::ios::binary);
+    return std::string(std::istreambuf_iterator<char>(file), {});
+}
+
+template <class T> static std::uint32_t opens(const std::string &path, const cvec::options &wanted = {}) {
+    return status_of([&] { cvec::concurrent_vector<T> vector(path, wanted); });
+}
+
+static void refusals(const std::string &path) {
+    const cvec::options open{cvec::opening::open}, create{cvec::opening::create};
+    try {
+        numbers vector(path, open);
+        HOLDS(vector.empty() && false);
+    } catch (const cvec::error &refusal) {
+        HOLDS(refusal.status() == CVEC_DISK_OPEN && refusal.system_error() == ENOENT);
+        HOLDS(std::string(refusal.what()) == "cvec: " + path + ": it can't be opened: No such file or directory");
+    }
+    HOLDS(opens<std::uint64_t>(path, {cvec::opening::create, 3}) == CVEC_NOT_SO);
+    HOLDS(opens<std::uint64_t>(path, {cvec::opening::create, 1, 0}) == CVEC_NOT_SO);
+    HOLDS(opens<std::uint64_t>(path, {cvec::opening::create, 1, 65}) == CVEC_NOT_SO);
+    HOLDS(::access(path.c_str(), F_OK) != 0);
+    {
+        numbers vector(path, create);
+        vector.grow_by({1, 2, 3});
+        HOLDS(opens<std::uint64_t>(path) == CVEC_IN_USE && opens<std::uint64_t>(path, create) == CVEC_IN_USE);
+    }
+    const std::string before = bytes_of(path);
+    HOLDS(opens<std::uint64_t>(path, create) == CVEC_EXISTS);
+    // Three words are no rows of two or of four, but one of three.
+    HOLDS((opens<std::array<std::uint64_t, 2>>(path) == CVEC_WIDTH && opens<std::array<double, 4>>(path, open) == CVEC_WIDTH));
+    HOLDS(opens<sample>(path, open) == CVEC_DONE && bytes_of(path) == before);
+    HOLDS(opens<std::uint64_t>("/tmp") == CVEC_NOT_FILE && opens<std::uint64_t>("/dev/null") == CVEC_NOT_FILE);
+    // What a stopped creation leaves is begun again, but not where the file is to be there.
+    write_file(path, "");
+    HOLDS(opens<std::uint64_t>(path, open) == CVEC_UNBORN);
+    HOLDS(opens<std::uint64_t>(path) == CVEC_DONE && bytes_of(path) == std::string("\1CVECSEG\1\10\0\0", 12));
+    const std::pair<std::string, std::uint32_t> others[] = {{std::string("\1CVECSEG\1\4\0\0", 12), CVEC_WIDTH},
+                                                            {std::string("\1CVECSEG\7\10\0\0", 12), CVEC_VERSION},
+                                                            {std::string("\1CVECSEG\1\10\0\1\1", 13), CVEC_DAMAGED},
+                                                            {"\1 is no file of ours", CVEC_NOT_SEGMENT},
+                                                            {"a text of somebody else's", CVEC_UNBORN}};
+    for (const auto &[bytes, refusal] : others) {
+        write_file(path, bytes);
+        HOLDS(opens<std::uint64_t>(path) == refusal && opens<std::uint64_t>(path, open) == refusal);
+        HOLDS(opens<std::uint64_t>(path, create) == CVEC_EXISTS && bytes_of(path) == bytes);
+    }
+}
+
+// Another process has the file.
+static void locked(const std::string &path) {
+    for (const auto how : {cvec::opening::open_or_create, cvec::opening::open, cvec::opening::create})
+        HOLDS(opens<std::uint64_t>(path, {how}) == CVEC_IN_USE);
+}
+
+static void versions(const std::string &path) {
+    numbers(path, {cvec::opening::create, 2}).push_back(5);
+    HOLDS(bytes_of(path)[8] == 2);
+    numbers vector(path);
+    HOLDS(vector.back() == 5);
+}
+
+static void forking(const std::string &path) {
+    numbers vector(path, {cvec::opening::create, 1, 1});
+    vector.push_back(5);
+    cvec::appender<std::uint64_t> rows(vector);
+    rows.push_back(6);
+    const pid_t child = ::fork();
+    if (child == 0) {
+        HOLDS(status_of([&] { vector.push_back(9); }) == CVEC_FORKED);
+        HOLDS(status_of([&] { vector.settle(); }) == CVEC_FORKED && status_of([&] { rows.flush(); }) == CVEC_FORKED);
+        HOLDS(status_of([&] { vector.close(); }) == CVEC_FORKED);
+        std::fflush(stdout);
+        ::_exit(wrong);
+    }
+    int ended = 1;
+    ::waitpid(child, &ended, 0);
+    HOLDS(ended == 0);
+    rows.settle();
+    vector.push_back(7);
+    HOLDS(rows_of(vector) == list({5, 6, 7}));
+}
+
+// At the fork the only seat is lent: the child is refused, and waits for nobody.
+static void forking_meanwhile(const std::string &path) {
+    numbers vector(path, {cvec::opening::create, 1, 1});
+    std::atomic<bool> is_over{false};
+    std::thread other([&] {
+        while (!is_over) vector.push_back(1);
+    });
+    for (int turn = 0; turn < 200; ++turn) {
+        const pid_t child = ::fork();
+        if (child == 0) {
+            ::alarm(10);
+            const bool is_refused = status_of([&] { vector.push_back(2); }) == CVEC_FORKED;
+            const bool is_closed = status_of([&] { vector.close(); }) == CVEC_FORKED;
+            ::_exit(is_refused && is_closed ? 0 : 1);
+        }
+        int ended = 1;
+        ::waitpid(child, &ended, 0);
+        HOLDS(ended == 0);
+    }
+    is_over = true;
+    other.join();
+    HOLDS(std::all_of(vector.begin(), vector.end(), [](std::uint64_t it) { return it == 1; }));
+}
+
+// Past the greatest size of a file.
+static void breaking(const std::string &path) {
+    numbers vector(path);
+    vector.grow_by({1, 2, 3});
+    vector.settle();
+    const rlimit most{4096, 4096};
+    ::setrlimit(RLIMIT_FSIZE, &most);
+    const cvec::growth made = vector.append(numbers::value_type{4});
+    vector.settle(made);
+    vector.grow_by(1000, 5);
+    try {
+        vector.settle();
+        HOLDS(vector.empty());
+    } catch (const cvec::error &refusal) {
+        HOLDS(refusal.status() == CVEC_DISK_WRITE && refusal.system_error() == EFBIG);
+    }
+    HOLDS(status_of([&] { vector.push_back(6); }) == CVEC_BROKEN && status_of([&] { vector.settle(); }) == CVEC_BROKEN);
+    // What was settled is so still, and all is read.
+    HOLDS(status_of([&] { vector.settle(made); }) == CVEC_DONE && vector.settled() == 2 && vector.size() == 1004);
+    {
+        cvec::appender<std::uint64_t> rows(vector);
+        rows.push_back(7);
+    }
+    HOLDS(status_of([&] { vector.close(); }) == CVEC_BROKEN);
+    numbers again(path, {cvec::opening::open});
+    HOLDS(rows_of(again) == list({1, 2, 3, 4}));
+}
+
+// ---- seats and turns
+
+// Threads have one seat, and each waits for its rows too.
+static void few_seats(const std::string &path) {
+    numbers vector(path, {cvec::opening::create, 1, 1});
+    std::atomic<bool> is_right{true};
+    in_threads(8, [&](std::uint64_t k) {
+        for (std::uint64_t turn = 0; turn < 20; ++turn) {
+            const cvec::growth made = vector.append(k);
+            vector.settle(made);
+            if (vector[made.first] != k || !vector.is_settled(made)) is_right = false;
+        }
+    });
+    HOLDS(is_right && vector.size() == 160);
+}
+
+// Threads come and go, more than there are seats.
+static void many_threads(const std::string &path) {
+    numbers vector(path);
+    for (std::uint64_t turn = 0; turn < 40; ++turn) in_threads(8, [&](std::uint64_t k) { vector.push_back(turn * 8 + k); });
+    list found = rows_of(vector), wanted(320);
+    std::iota(wanted.begin(), wanted.end(), std::uint64_t{0});
+    std::sort(found.begin(), found.end());
+    HOLDS(found == wanted);
+}
+
+static void turns(const std::string &path) {
+    numbers vector(path);
+    in_threads(8, [&](std::uint64_t k) {
+        for (std::size_t length = 1; length <= 200; ++length) {
+            vector.grow_to_at_least(length, k);
+            HOLDS(vector.size() >= length);
+        }
+    });
+    HOLDS(vector.size() == 200);
+}
+
+// ---- more growths than an open vector takes
+
+static void renewing(const std::string &path) {
+    const std::uint64_t threads = 4, each = 300000;
+    // By a path that leads elsewhere when the file is opened again.
+    const std::size_t slash = path.rfind('/');
+    HOLDS(::chdir(path.substr(0, slash).c_str()) == 0);
+    numbers vector(path.substr(slash + 1));
+    HOLDS(::chdir("/") == 0);
+    const cvec::growth early = vector.append(std::uint64_t{7});
+    std::vector<cvec::growth> last(threads);
+    in_threads(threads, [&](std::uint64_t k) {
+        for (std::uint64_t turn = 0; turn < each; ++turn) last[k] = vector.append(k * each + turn);
+    });
+    HOLDS(vector.size() == threads * each + 1 && vector.is_settled(early));
+    vector.settle(early);
+    HOLDS(std::max_element(last.begin(), last.end(), [](auto &a, auto &b) { return a.number < b.number; })->number ==
+          threads * each);
+    for (std::uint64_t k = 0; k < threads; ++k) HOLDS(vector[last[k].first] == (k + 1) * each - 1);
+    vector.settle();
+    HOLDS(vector.settled() == threads * each + 1);
+    // Each thread's numbers in order, each once.
+    std::vector<std::uint64_t> next(threads, 0);
+    for (auto row = vector.begin() + 1, end = vector.end(); row != end; ++row) {
+        const std::uint64_t found = *row;
+        HOLDS(found % each == next[found / each]++);
+        if (wrong != 0) return;
+    }
+}
+
+// Where the file is gone by its name, growths end there; what was grown is durable.
+static void renewing_elsewhere(const std::string &path) {
+    numbers vector(path);
+    const std::string other = path + ".other";
+    vector.push_back(0);
+    HOLDS(std::rename(path.c_str(), other.c_str()) == 0);
+    std::uint64_t grown = 1;
+    const std::uint32_t status = status_of([&] {
+        for (; grown < 1100000; ++grown) vector.push_back(grown);
+    });
+    HOLDS(status == CVEC_DISK_OPEN && grown == 1048568);
+    HOLDS(status_of([&] { vector.push_back(1); }) == CVEC_NOT_SO);
+    numbers again(other);
+    HOLDS(again.size() == 1048568 && again.back() == 1048567);
+}
+
+int main(int argc, char **argv) {
+    static const std::map<std::string, void (*)(const std::string &)> behaviours = {
+        {"growing", growing},
+        {"greatest_growth", greatest_growth},
+        {"structs", structs},
+        {"other_types", other_types},
+        {"reading", reading},
+        {"iterators", iterators},
+        {"pieces", pieces},
+        {"shared_iterator", shared_iterator},
+        {"ranges", ranges},
+        {"receipts", receipts},
+        {"appenders", appenders},
+        {"closing", closing},
+        {"closing_meanwhile", closing_meanwhile},
+        {"refusals", refusals},
+        {"locked", locked},
+        {"versions", versions},
+        {"forking", forking},
+        {"forking_meanwhile", forking_meanwhile},
+        {"breaking", breaking},
+        {"few_seats", few_seats},
+        {"many_threads", many_threads},
+        {"turns", turns},
+        {"renewing", renewing},
+        {"renewing_elsewhere", renewing_elsewhere},
+    };
+    const auto found = argc == 3 ? behaviours.find(argv[1]) : behaviours.end();
+    if (found == behaviours.end()) return 2;
+    try {
+        found->second(argv[2]);
+    } catch (const std::exception &refusal) {
+        std::printf("thrown: %s\n", refusal.what());
+        wrong = 1;
+    }
+    return wrong;
+}

@@ -1,0 +1,293 @@
+# cvec::concurrent_vector for C++ (examples/cpp), over examples/c/cvec_vector.c and cvec_threads.
+
+cpp=$top/examples/cpp
+cpp_tests=$top/tests/cpp
+
+# ---- programs in C++, each built once, beside the folder of a test's files
+
+built=$work-built
+
+has_cpp() { has_c && has c++ 'the vector for C++'; }
+
+# Compiles a file of C++ with these words to the compiler, which say what is made of it.
+compile_cpp() {
+    "${compiler-c++}" -std=c++17 -O1 -Wall -Wextra -Wpedantic -Wconversion -Werror "-I$cpp" "-I$c" "$@"
+}
+
+# Links what is compiled with the calls of the system, the library and these words.
+link_cpp() {
+    compile_cpp "$@" "$built/cvec_vector.o" "$threads_library" "$kit_library" -lpthread
+}
+
+make_cpp() {
+    make_threads_library
+    mkdir -p "$built"
+    [ -e "$built/cvec_vector.o" ] || cc -std=c99 -O2 -c "$c/cvec_vector.c" -o "$built/cvec_vector.o"
+    for name; do
+        [ -e "$built/$name" ] || link_cpp -o "$built/$name" "$cpp_tests/$name.cc"
+    done
+}
+
+# Each of these behaviours is as it is promised, on a new file.
+behaves() {
+    has_cpp || exit $is_skipped
+    make_cpp behaviours
+    for name; do
+        rm -f "$work"/t.cv*
+        echo "behaviour: $name"
+        timeout 300 "$built/behaviours" "$name" "$work/t.cv"
+    done
+}
+
+# ---- the header
+
+compiles_without_a_warning() {
+    has_c && has "$1" 'the vector for C++' || exit $is_skipped
+    compiler=$1
+    compile_cpp -O2 -Wshadow -Wnon-virtual-dtor -fsyntax-only "$cpp_tests/behaviours.cc"
+    compile_cpp -O2 -fsyntax-only "$cpp_tests/threads.cc"
+}
+
+the_header_for_cpp_is_clean_by_gcc() (
+    compiles_without_a_warning g++
+)
+
+the_header_for_cpp_is_clean_by_clang() (
+    compiles_without_a_warning clang++
+)
+
+# Two files of a program may have it, and need no other header before it.
+the_header_for_cpp_is_in_many_files() (
+    has_cpp || exit $is_skipped
+    make_cpp
+    cat >"$work/other.cc" <<'END'
+#include "cvec/concurrent_vector.hpp"
+std::size_t length_of(const char *path) { return cvec::concurrent_vector<double>(path).size(); }
+END
+    cat >"$work/main.cc" <<'END'
+#include "cvec/concurrent_vector.hpp"
+std::size_t length_of(const char *path);
+int main(int, char **argv) {
+    cvec::concurrent_vector<double>(argv[1]).push_back(0.5);
+    return length_of(argv[1]) == 1 ? 0 : 1;
+}
+END
+    link_cpp -o "$work/program" "$work/other.cc" "$work/main.cc"
+    "$work/program" "$work/t.cv"
+)
+
+# A vector of this type isn't compiled, and the compiler says why.
+is_refused_as() {
+    printf '#include "cvec/concurrent_vector.hpp"\n%s\nint main() { cvec::concurrent_vector<%s> vector("t.cv"); }\n' \
+        'template <int N> struct bytes { char all[N]; };' "$2" >"$work/other.cc"
+    status=0
+    compile_cpp -fsyntax-only "$work/other.cc" >"$out" 2>"$err" || status=$?
+    [ "$status" -ne 0 ]
+    tells "$1"
+}
+
+a_type_without_rows_is_refused_with_its_reason() (
+    has_cpp || exit $is_skipped
+    for type in 'bytes<4>' 'bytes<12>' 'bytes<264>' 'std::uint32_t' 'char'; do
+        is_refused_as 'T has a multiple of 8 bytes, from 8 to 256' "$type"
+    done
+    for type in std::string 'std::vector<int>' 'const double' 'volatile double' 'std::unique_ptr<int>'; do
+        is_refused_as 'T is copied to a file byte by byte' "$type"
+    done
+    printf '#include "cvec/concurrent_vector.hpp"\nstruct bytes { char all[256]; };\n%s\n' \
+        'int main() { cvec::concurrent_vector<bytes> vector("t.cv"); }' >"$work/other.cc"
+    compile_cpp -fsyntax-only "$work/other.cc"
+)
+
+# ---- members
+
+rows_are_grown_in_cpp() (
+    behaves greatest_growth structs other_types growing
+    run list u64 "$work/t.cv"
+    did '5\n7\n0\n0\n9\n9\n9\n20\n21\n22\n30\n31\n30\n31\n8\n8\n8\n0\n'
+)
+
+rows_are_read_in_cpp() (
+    behaves reading iterators pieces shared_iterator ranges
+)
+
+# The process ends by a kill, behind what it has settled.
+growths_have_receipts_in_cpp() (
+    has_cpp || exit $is_skipped
+    make_cpp behaviours
+    status=0
+    "$built/behaviours" receipts "$work/t.cv" >"$out" || status=$?
+    cat "$out"
+    [ "$status" -eq 137 ]
+    [ ! -s "$out" ]
+    run list u64 "$work/t.cv"
+    did '4\n5\n6\n7\n8\n'
+)
+
+an_appender_gathers_rows_in_cpp() (
+    behaves appenders
+)
+
+a_vector_is_closed_in_cpp() (
+    behaves closing closing_meanwhile
+)
+
+a_refusal_has_its_reason_in_cpp() (
+    behaves refusals versions forking forking_meanwhile breaking
+    : >"$work/t.cv"
+    flock "$work/t.cv" "$built/behaviours" locked "$work/t.cv"
+)
+
+threads_share_seats_in_cpp() (
+    behaves few_seats many_threads turns
+)
+
+# Past the growths that an open vector takes, the file is opened again.
+growths_have_no_end_in_cpp() (
+    behaves renewing renewing_elsewhere
+)
+
+# ---- threads
+
+threads_grow_and_read_whole_rows_in_cpp() (
+    has_cpp && has python3 'the rows of threads' || exit $is_skipped
+    make_cpp threads
+    timeout 60 "$built/threads" "$work/t.cv" 8 2000 2 >"$work/durable"
+    [ "$(python3 "$cpp_tests/rows.py" "$work/t.cv" 8 "$work/durable")" -gt 1000 ]
+    grep -q '^durable 7 ' "$work/durable"
+    run check u64 "$work/t.cv"
+    [ "$status" -eq 0 ]
+)
+
+# What was told to be durable stands, at whatever moment the process is killed.
+rows_of_killed_threads_stand_in_cpp() (
+    has_cpp && has python3 'the rows of threads' || exit $is_skipped
+    make_cpp threads
+    told=0
+    for moment in 02 05 09 2 35 5 8; do
+        rm -f "$work/t.cv"
+        "$built/threads" "$work/t.cv" 8 20000 1 >"$work/durable" &
+        child=$!
+        sleep "0.$moment"
+        kill -9 $child
+        wait $child 2>/dev/null || :
+        grep -q . "$work/durable" || continue
+        told=$((told + 1))
+        python3 "$cpp_tests/rows.py" "$work/t.cv" 8 "$work/durable"
+        run check u64 "$work/t.cv"
+        [ "$status" -eq 0 ]
+    done
+    [ "$told" -gt 3 ]
+)
+
+# ---- sanitizers
+
+# Whether programs with this sanitizer are built and run here.
+has_cpp_sanitizer() {
+    echo 'int main() {}' >"$work/empty.cc"
+    c++ "-fsanitize=$1" -o "$work/empty" "$work/empty.cc" 2>/dev/null && "$work/empty" || lacks "c++ has no -fsanitize=$1"
+}
+
+# These behaviours, and threads over some seconds with so many readers besides, without a complaint.
+no_complaint_of() {
+    sanitizer=$1 readers=$2
+    shift 2
+    has_cpp || exit $is_skipped
+    has_cpp_sanitizer "$sanitizer" || exit $is_skipped
+    make_threads_library
+    cc -std=c99 -O1 -g "-fsanitize=$sanitizer" -c "$c/cvec_vector.c" -o "$work/cvec_vector.o"
+    for name in behaviours threads; do
+        compile_cpp -g "-fsanitize=$sanitizer" -fno-sanitize-recover=undefined -o "$work/$name" "$cpp_tests/$name.cc" \
+            "$work/cvec_vector.o" "$threads_library" "$kit_library" -lpthread
+    done
+    timeout 120 "$work/threads" "$work/t.cv" 8 3000 "$readers" >/dev/null
+    for name; do
+        rm -f "$work"/t.cv*
+        echo "behaviour: $name"
+        timeout 300 "$work/behaviours" "$name" "$work/t.cv"
+    done
+}
+
+memory_is_used_rightly_in_cpp() (
+    no_complaint_of address,undefined 2 growing greatest_growth structs other_types reading iterators shared_iterator ranges \
+        appenders closing closing_meanwhile refusals breaking few_seats many_threads renewing
+)
+
+# The library isn't built for this sanitizer, which sees how it copies records, but not by what its threads are in order: so
+# none reads here what others grow beside it.
+threads_are_in_order_in_cpp() (
+    no_complaint_of thread 0 shared_iterator closing_meanwhile few_seats many_threads turns renewing
+)
+
+# ---- the page, the examples, and oneTBB
+
+# The page's programs are built as its last block of commands says.
+the_programs_of_the_page_for_cpp_run() (
+    has_cpp || exit $is_skipped
+    make_threads_library
+    mkdir "$work/here"
+    for name in examples crates; do ln -s "$top/$name" "$work/here/$name"; done
+    cd "$work/here"
+    shown_in use/cpp.md cpp >first.cpp
+    kit=$(dirname "$(rt doc)")
+    shown_in use/cpp.md sh | grep -v '^(cd ' >build.sh
+    mkdir -p out
+    ( . ./build.sh )
+    [ "$(out/first numbers.cv)" = '3 rows from position 0' ]
+    [ "$(out/first numbers.cv)" = '3 rows from position 3' ]
+    run list u64 "$work/here/numbers.cv"
+    did '5\n7\n11\n5\n7\n11\n'
+)
+
+# Killed three times: what is found each time is what the file has by the program, each sensor's samples in order.
+sensors_go_on_where_they_were_killed() (
+    has_cpp || exit $is_skipped
+    make_cpp
+    link_cpp -o "$work/samples" "$cpp/samples.cc"
+    before=0
+    for turn in 1 2 3 4; do
+        "$work/samples" "$work/t.cv" >"$out" 2>"$err" &
+        child=$!
+        sleep 0.4
+        kill -9 $child
+        wait $child 2>/dev/null || :
+        [ ! -s "$err" ]
+        grep -q "^found $before samples:" "$out"
+        "$top/cvec" list u64 "$work/t.cv" | paste - - - >"$work/samples_there"
+        awk '$2 != next_of[$1]++ { exit 1 }' "$work/samples_there"
+        before=$(wc -l <"$work/samples_there")
+        [ "$turn" -gt 1 ] || [ "$before" -gt 0 ]
+    done
+)
+
+has_tbb() {
+    printf '#include <oneapi/tbb/concurrent_vector.h>\nint main() { tbb::concurrent_vector<int> vector; }\n' >"$work/empty.cc"
+    c++ -std=c++17 -o "$work/empty" "$work/empty.cc" -ltbb 2>/dev/null || lacks 'there is no oneTBB (libtbb-dev)'
+}
+
+# But for two lines the program is the one that is written for oneTBB.
+a_program_for_onetbb_is_made_durable() (
+    has_cpp || exit $is_skipped
+    make_cpp
+    [ "$(diff "$cpp/primes_tbb.cc" "$cpp/primes.cc" | grep -c '^>')" -eq 2 ]
+    link_cpp -o "$work/primes" "$cpp/primes.cc"
+    cd "$work"
+    ./primes >"$out"
+    [ "$(cat "$out")" = '9592 primes, whose sum is 454396537' ]
+    "$top/cvec" list u64 primes.cv | sort -n >"$work/found"
+    seq 99999 | factor | awk 'NF == 2 { print $2 }' | cmp - "$work/found"
+)
+
+the_program_for_onetbb_prints_the_same() (
+    has_cpp && has_tbb || exit $is_skipped
+    # Its headers have warnings of their own.
+    compile_cpp -w -o "$work/primes_tbb" "$cpp/primes_tbb.cc" -ltbb -lpthread
+    [ "$("$work/primes_tbb")" = '9592 primes, whose sum is 454396537' ]
+)
+
+ranges_are_for_the_algorithms_of_onetbb() (
+    has_cpp && has_tbb || exit $is_skipped
+    make_cpp
+    link_cpp -w -o "$work/parallel" "$cpp_tests/parallel.cc" -ltbb
+    "$work/parallel" "$work/t.cv"
+)

@@ -1,0 +1,136 @@
+# Threads of C that grow one vector (`cvec_threads`), by examples/c/cvec_vector.c.
+
+the_c_program_of_the_page_grows_and_reads() (
+    has_c || exit $is_skipped
+    make_threads_library
+    shown_in use/threads.md c >"$work/shown.c"
+    compile_threads "$work/shown.c" "$c/cvec_vector.c" -o "$work/shown"
+    "$work/shown" "$work/t.cv" >"$out"
+    [ "$(cat "$out")" = '3 at 0' ]
+    run list u64 "$work/t.cv"
+    did '5\n7\n11\n'
+)
+
+# Eight threads, 3 records a growth, each awaited and read back; then opened again and grown further.
+threads_of_c_grow_one_vector() (
+    has_c || exit $is_skipped
+    make_threads_library
+    compile_threads "$c/use_vector.c" "$c/cvec_vector.c" -o "$work/use"
+    for growths in 500 1000; do
+        [ "$(timeout 60 "$work/use" "$work/t.cv" 8 500)" = 0 ]
+        run list u64 "$work/t.cv"
+        [ "$(wc -l <"$out")" -eq $((growths * 8 * 3)) ]
+        # Each growth in one row, and of each thread its growths in order.
+        paste -d ' ' - - - <"$out" >"$work/blocks"
+        [ "$(awk '$1 + $2 != $3' "$work/blocks" | wc -l)" -eq 0 ]
+        for thread in 0 1 2 3 4 5 6 7; do
+            awk -v t=$thread '$1 == t { print $2 }' "$work/blocks" >"$work/turns"
+            { for _ in $(seq 500 500 "$growths"); do seq 0 499; done; } | cmp - "$work/turns"
+        done
+    done
+    run check u64 "$work/t.cv"
+    [ "$status" -eq 0 ]
+)
+
+# A file of version 2 that the program made, with a record that was changed.
+threads_of_c_go_on_with_a_file_of_the_program() (
+    has_c || exit $is_skipped
+    make_threads_library
+    compile_threads "$c/use_vector.c" "$c/cvec_vector.c" -o "$work/use"
+    run create u64 "$work/t.cv" --format=2
+    given '1\n2\n3\n'
+    run load u64 "$work/t.cv"
+    run set u64 "$work/t.cv" 0 --records=9
+    did 'ok\n'
+    [ "$(timeout 60 "$work/use" "$work/t.cv" 2 10)" = 0 ]
+    run check u64 "$work/t.cv"
+    [ "$(cut -d ' ' -f -7 "$out")" = 'ok version 2 width 8 size 63' ]
+    run list u64 "$work/t.cv"
+    [ "$(head -n 3 "$out" | tr '\n' ' ')" = '9 2 3 ' ]
+    [ "$(tail -n +4 "$out" | paste -d ' ' - - - | sort -n | awk '$1 + $2 == $3' | wc -l)" -eq 20 ]
+)
+
+# What was told to be durable stands, at whatever moment the process is killed.
+threads_of_c_that_are_killed_lose_nothing_durable() (
+    has_c || exit $is_skipped
+    make_threads_library
+    compile_threads "$top/tests/threads/behaviours.c" -o "$work/behaviours"
+    looked=0
+    for moment in 02 05 1 2 3; do
+        rm -f "$work/t.cv"
+        "$work/behaviours" grow "$work/t.cv" >"$work/told_durable" &
+        child=$!
+        sleep "0.$moment"
+        kill -9 $child
+        wait $child 2>/dev/null || :
+        # A last line may be cut.
+        grep -c '^durable [0-9]* end$' "$work/told_durable" >/dev/null || continue
+        run list u64 "$work/t.cv"
+        [ "$status" -eq 0 ]
+        sort -u "$out" >"$work/there"
+        sed -n 's/^durable \([0-9]*\) end$/\1/p' "$work/told_durable" | sort -u >"$work/durable"
+        [ "$(comm -13 "$work/there" "$work/durable" | wc -l)" -eq 0 ]
+        looked=$((looked + 1))
+    done
+    [ "$looked" -gt 0 ]
+)
+
+# A behaviour of the shell around the library, by its name.
+a_behaviour_of_a_vector_in_c() {
+    has_c || exit $is_skipped
+    make_threads_library
+    compile_threads "$top/tests/threads/behaviours.c" -o "$work/behaviours"
+    timeout 60 "$work/behaviours" "$1" "$work/t.cv"
+}
+
+a_vector_in_c_is_open_once() (
+    a_behaviour_of_a_vector_in_c lock
+)
+
+a_seat_in_c_is_in_one_call() (
+    a_behaviour_of_a_vector_in_c busy
+)
+
+a_forked_process_has_no_vector_in_c() (
+    a_behaviour_of_a_vector_in_c fork
+)
+
+a_write_of_a_vector_in_c_that_is_cut_goes_on() (
+    a_behaviour_of_a_vector_in_c parts
+)
+
+a_call_of_a_vector_in_c_that_fails_breaks_it() (
+    a_behaviour_of_a_vector_in_c faults
+)
+
+memory_that_a_vector_in_c_is_refused_loses_nothing() (
+    a_behaviour_of_a_vector_in_c memory
+)
+
+a_vector_in_c_is_full_until_it_is_opened_again() (
+    a_behaviour_of_a_vector_in_c full
+)
+
+a_vector_in_c_past_the_greatest_file_lives() (
+    a_behaviour_of_a_vector_in_c too_large
+)
+
+a_vector_in_c_is_refused_by_name() (
+    a_behaviour_of_a_vector_in_c refusals
+)
+
+a_vector_in_c_commits_for_all_who_wait() (
+    a_behaviour_of_a_vector_in_c leader
+)
+
+no_sanitizer_complains_of_threads_in_c() (
+    has_c || exit $is_skipped
+    make_threads_library
+    for sanitizer in address,undefined thread; do
+        has_sanitizer "$sanitizer" || exit $is_skipped
+        compile_threads "$c/use_vector.c" "$c/cvec_vector.c" -g "-fsanitize=$sanitizer" -o "$work/use"
+        rm -f "$work/t.cv"
+        [ "$(timeout 120 "$work/use" "$work/t.cv" 8 500 2>"$err")" = 0 ]
+        [ ! -s "$err" ]
+    done
+)

@@ -1,0 +1,165 @@
+# The vector that threads of Python grow (examples/python/cvec_vector.py), over the library for threads of C.
+
+# ---- the shared library, built as docs/use/threads.md says
+
+# The Python that has numpy: the one that the path finds, or Debian's own. Where none has it, the former.
+python=python3
+for it in python3 /usr/bin/python3; do
+    if "$it" -c 'import numpy' 2>/dev/null; then
+        python=$it
+        break
+    fi
+done
+
+has_python_vector() { has_c && has python3 'the vector for Python'; }
+
+make_python_vector() {
+    make_threads_library
+    cc -std=c99 -O2 -fPIC -Wall -Wextra -Werror -pedantic -c "$c/cvec_vector.c" -o "$work/cvec_vector.o"
+    cc -shared -o "$work/libcvec_vector.so" "$work/cvec_vector.o" "$threads_library" "$kit_library" -lpthread
+}
+
+# Runs this program in Python with further words.
+python_vector_runs() {
+    CVEC_VECTOR_LIBRARY=$work/libcvec_vector.so PYTHONDONTWRITEBYTECODE=1 \
+        PYTHONPATH=$top/examples/python:$top/tests/bindings${PYTHONPATH:+:$PYTHONPATH} timeout 120 "$python" "$@"
+}
+
+# A test of tests/bindings/vector_cases.py, without numpy.
+is_so_without_numpy() {
+    has_python_vector || exit $is_skipped
+    make_python_vector
+    mkdir "$work/files"
+    python_vector_runs "$top/tests/bindings/vector_cases.py" "$work/files" "$1" plain >"$out"
+    [ "$(cat "$out")" = 'without numpy' ]
+}
+
+# The same with numpy.
+is_so_with_numpy() {
+    has_python_vector || exit $is_skipped
+    "$python" -c 'import numpy' 2>/dev/null || lacks 'there is no numpy for arrays for Python' || exit $is_skipped
+    make_python_vector
+    rm -rf "$work/files"
+    mkdir "$work/files"
+    python_vector_runs "$top/tests/bindings/vector_cases.py" "$work/files" "$1" >"$out"
+    [ "$(cat "$out")" = 'with numpy' ]
+}
+
+is_so_with_and_without_numpy() {
+    is_so_without_numpy "$1"
+    is_so_with_numpy "$1"
+}
+
+# ---- its programs
+
+# 4 threads grow 3 blocks of 3 records each, and an appender 250 numbers by blocks of 100.
+the_python_example_grows_by_threads() (
+    has_python_vector || exit $is_skipped
+    make_python_vector
+    python_vector_runs "$top/examples/python/use_vector.py" "$work/t.cv" >"$out"
+    printf '286 records of 15 growths\n286 records, the last 249, in all 31185\n' | cmp - "$out"
+    run list u64 "$work/t.cv"
+    head -n 36 "$out" | paste -d ' ' - - - | sort >"$work/blocks"
+    for name in 0 1 2 3; do for turn in 0 1 2; do echo "$name $turn $((name + turn))"; done; done | cmp - "$work/blocks"
+    tail -n +37 "$out" >"$work/rest"
+    seq 0 249 | cmp - "$work/rest"
+)
+
+the_python_program_of_the_page_grows_by_threads() (
+    has_python_vector || exit $is_skipped
+    make_python_vector
+    shown_in use/threads.md python >"$work/shown.py"
+    python_vector_runs "$work/shown.py" "$work/t.cv" >"$out"
+    echo '16 records, 8 growths durable' | cmp - "$out"
+    run list u64 "$work/t.cv"
+    paste -d ' ' - - <"$out" | sort >"$work/blocks"
+    for name in 0 1 2 3 4 5 6 7; do echo "$name $((name + 100))"; done | cmp - "$work/blocks"
+)
+
+# ---- what the vector is
+
+a_python_vector_grows_and_reads() (
+    is_so_with_and_without_numpy grows_and_reads
+)
+
+a_python_vector_has_indices_and_slices() (
+    is_so_with_and_without_numpy indices_and_slices
+)
+
+a_python_vector_takes_no_other_values() (
+    is_so_with_and_without_numpy what_is_no_record
+)
+
+a_python_vector_takes_arrays_of_numpy() (
+    is_so_with_numpy arrays
+)
+
+a_python_vector_has_rows_of_a_dtype() (
+    is_so_with_numpy rows_of_a_dtype
+)
+
+a_dtype_without_numpy_is_refused() (
+    is_so_without_numpy dtype_without_numpy
+)
+
+a_python_appender_grows_by_blocks() (
+    is_so_with_and_without_numpy appenders
+)
+
+# ---- refusals
+
+a_python_vector_names_each_refusal() (
+    is_so_with_and_without_numpy each_refusal
+)
+
+a_python_vector_is_in_use_by_another_program() (
+    is_so_without_numpy grows_and_reads
+    (
+        flock -n 9
+        python_vector_runs "$top/tests/bindings/vector_cases.py" "$work/files" is_locked_by_another plain
+    ) 9<"$work/files/vector.cvec"
+)
+
+a_forked_python_process_is_refused_by_a_vector() (
+    is_so_without_numpy a_forked_process_is_refused
+)
+
+a_full_device_leaves_what_python_settled() (
+    is_so_without_numpy a_full_device_leaves_what_is_settled
+)
+
+# ---- threads, and a process that is killed
+
+threads_of_python_grow_whole_blocks() (
+    is_so_with_and_without_numpy threads_grow_whole_blocks
+)
+
+a_seat_of_python_goes_to_the_next_thread() (
+    is_so_without_numpy a_seat_goes_to_the_next_thread
+)
+
+a_seat_of_python_is_in_one_call() (
+    is_so_without_numpy another_thread_by_the_same_seat_is_refused
+)
+
+a_call_of_a_python_vector_lets_threads_run() (
+    has_python_vector || exit $is_skipped
+    printf '#include <unistd.h>\nint fdatasync(int fd) { sleep(1); return fsync(fd); }\n' >"$work/slow.c"
+    cc -shared -fPIC -o "$work/slow.so" "$work/slow.c"
+    export LD_PRELOAD="$work/slow.so"
+    is_so_without_numpy a_call_lets_other_threads_run
+)
+
+a_python_vector_that_is_closed_waits_for_calls() (
+    is_so_without_numpy a_close_waits_for_calls
+)
+
+a_python_program_ends_beside_a_thread_in_a_call() (
+    is_so_without_numpy a_program_ends_beside_a_thread
+)
+
+threads_of_python_that_are_killed_lose_nothing_settled() (
+    has_python_vector || exit $is_skipped
+    make_python_vector
+    python_vector_runs "$top/tests/bindings/vector_killed.py" "$work/t.cv" 12 "$python" "$top/tests/bindings/vector_writer.py"
+)

@@ -1,0 +1,182 @@
+# The vector that threads of Rust, as rustc compiles it, grow (examples/rust/cvec_vector.rs), over the library for threads of C.
+
+# ---- its programs, built as docs/use/threads.md says
+
+has_rust_vector() { has_c && has rustc 'the vector for plain Rust'; }
+
+make_rust_vector() {
+    make_threads_library
+    cc -std=c99 -O2 -fPIC -Wall -Wextra -Werror -pedantic -c "$c/cvec_vector.c" -o "$work/cvec_vector.o"
+    rustc --edition 2024 -D warnings --crate-type rlib --crate-name cvec_vector -o "$work/libcvec_vector.rlib" \
+        "$top/examples/rust/cvec_vector.rs"
+}
+
+# Compiles this program.
+make_rust_program() {
+    rustc --edition 2024 -D warnings -o "$2" "$1" --extern "cvec_vector=$work/libcvec_vector.rlib" \
+        -C "link-arg=$work/cvec_vector.o" -C "link-arg=$threads_library" -C "link-arg=$kit_library"
+}
+
+# A test of tests/bindings/vector_cases.rs.
+is_so_in_rust() {
+    has_rust_vector || exit $is_skipped
+    make_rust_vector
+    make_rust_program "$top/tests/bindings/vector_cases.rs" "$work/cases"
+    mkdir "$work/files"
+    timeout 120 "$work/cases" "$1" "$work/files/t.cv" >"$work/told_by_rust"
+}
+
+# The file of that test has these lines, as the program reads it.
+has_lines() {
+    run list u64 "$work/files/t.cv"
+    [ "$status" -eq 0 ]
+    cmp - "$out"
+}
+
+the_rust_example_grows_by_threads() (
+    has_rust_vector || exit $is_skipped
+    make_rust_vector
+    make_rust_program "$top/examples/rust/use_vector.rs" "$work/use"
+    "$work/use" "$work/t.cv" >"$out"
+    printf '286 records of 15 growths\n286 records, the last 249, in all 31185\n' | cmp - "$out"
+    run list u64 "$work/t.cv"
+    head -n 36 "$out" | paste -d ' ' - - - | sort >"$work/blocks"
+    for name in 0 1 2 3; do for turn in 0 1 2; do echo "$name $turn $((name + turn))"; done; done | cmp - "$work/blocks"
+    tail -n +37 "$out" >"$work/rest"
+    seq 0 249 | cmp - "$work/rest"
+)
+
+the_rust_program_of_the_page_grows_by_threads() (
+    has_rust_vector || exit $is_skipped
+    make_rust_vector
+    shown_in use/threads.md rust >"$work/shown.rs"
+    make_rust_program "$work/shown.rs" "$work/shown"
+    "$work/shown" "$work/t.cv" >"$out"
+    echo '16 records, 8 growths durable' | cmp - "$out"
+    run list u64 "$work/t.cv"
+    paste -d ' ' - - <"$out" | sort >"$work/blocks"
+    for name in 0 1 2 3 4 5 6 7; do echo "$name $((name + 100))"; done | cmp - "$work/blocks"
+)
+
+# The commands of the page's section, in a folder whose crates and examples are those of the repository.
+the_build_of_the_page_makes_both() (
+    has_rust_vector && has python3 'the vector for Python' || exit $is_skipped
+    make_threads_library
+    mkdir "$work/there"
+    cd "$work/there"
+    ln -s "$top/crates" "$top/examples" .
+    sed -n '/^## From Python/,$p' "$top/docs/use/threads.md" | sed -n '/^```sh$/,/^```$/p' | sed '/^```/d' >"$work/build.sh"
+    kit=$(dirname "$(rt doc)") PYTHONDONTWRITEBYTECODE=1 sh -e "$work/build.sh" >"$out"
+    for _ in python rust; do
+        printf '286 records of 15 growths\n286 records, the last 249, in all 31185\n'
+    done | cmp - "$out"
+)
+
+the_rust_document_compiles() (
+    has_rust_vector && has rustdoc 'the examples in documents of plain Rust' || exit $is_skipped
+    make_rust_vector
+    rustdoc --test --edition 2024 --crate-name cvec_vector -L "$work" "$top/examples/rust/cvec_vector.rs" >"$out"
+    grep -q '^test result: ok. 1 passed' "$out"
+)
+
+a_rust_vector_grows_and_reads() (
+    is_so_in_rust grows_and_reads
+    printf '%s\n' 5 7 11 18446744073709551615 0 13 17 | has_lines
+    run check u64 "$work/files/t.cv"
+    [ "$(cut -d ' ' -f -7 "$out")" = 'ok version 2 width 8 size 7' ]
+)
+
+a_rust_appender_grows_by_blocks() (
+    is_so_in_rust appends
+    seq 0 7 | has_lines
+)
+
+a_rust_vector_names_each_refusal() (
+    is_so_in_rust each_refusal
+    yes 1 | head -n 131071 | has_lines
+)
+
+a_rust_vector_is_full_until_it_is_opened_again() (
+    is_so_in_rust is_full
+    { seq 0 1048567; echo 9; } | has_lines
+)
+
+a_rust_vector_is_in_use_by_another_program() (
+    is_so_in_rust forks
+    status=0
+    flock "$work/files/t.cv" "$work/cases" write "$work/files/t.cv" 0 1 1 >"$out" 2>"$err" || status=$?
+    [ "$status" -ne 0 ]
+    tells InUse
+    [ ! -s "$out" ]
+)
+
+a_forked_rust_process_is_refused_by_a_vector() (
+    is_so_in_rust forks
+    printf '5\n7\n' | has_lines
+)
+
+# The signal of a file that would be longer than `ulimit -f` allows doesn't end it.
+a_full_device_leaves_what_rust_settled() (
+    has python3 'what compares a file with blocks' && has_rust_vector || exit $is_skipped
+    make_rust_vector
+    make_rust_program "$top/tests/bindings/vector_cases.rs" "$work/cases"
+    (
+        ulimit -f 8
+        exec "$work/cases" fills "$work/t.cv" >"$out"
+    )
+    PYTHONDONTWRITEBYTECODE=1 PYTHONPATH=$top/tests/bindings python3 - "$work/t.cv" "$(cat "$out")" <<'PY'
+import sys
+from vector_blocks import block, records_of
+turns = int(sys.argv[2])
+assert turns > 3 and records_of(sys.argv[1]) == [it for turn in range(turns) for it in block(0, 1, turn)]
+PY
+)
+
+compile_wrong() {
+    rustc --edition 2024 --crate-type lib --emit=metadata -o "$work/wrong" "$work/wrong.rs" \
+        --extern "cvec_vector=$work/libcvec_vector.rlib" 2>"$err"
+}
+
+is_refused_by_rustc() {
+    if compile_wrong; then return 1; fi
+    tells "$1"
+}
+
+# The compiler sees to these: a seat is one thread's, and no vector is closed before its seats.
+the_compiler_refuses_what_a_seat_is_not_for() (
+    has_rust_vector || exit $is_skipped
+    make_rust_vector
+    {
+        echo 'use cvec_vector::{Error, Vector};'
+        echo 'pub fn share(vector: &Vector) -> Result<(), Error> {'
+        echo '    let seat = vector.seat()?;'
+        echo '    std::thread::scope(|scope| { scope.spawn(|| seat.settled()); });'
+        echo '    Ok(())'
+        echo '}'
+        echo 'pub fn close(vector: Vector) -> Result<u64, Error> {'
+        echo '    let seat = vector.seat()?;'
+        echo '    vector.close()?;'
+        echo '    seat.settled()'
+        echo '}'
+    } >"$work/wrong.rs"
+    is_refused_by_rustc '`Cell<()>` cannot be shared between threads safely'
+    sed -i '/scope/d' "$work/wrong.rs"
+    is_refused_by_rustc 'cannot move out of `vector` because it is borrowed'
+    sed -i '/vector.close/d' "$work/wrong.rs"
+    compile_wrong
+)
+
+# No round of kills: 8 threads with 20 growths each are all told.
+threads_of_rust_grow_whole_blocks() (
+    has python3 'what compares a file with blocks' && has_rust_vector || exit $is_skipped
+    make_rust_vector
+    make_rust_program "$top/tests/bindings/vector_cases.rs" "$work/cases"
+    PYTHONDONTWRITEBYTECODE=1 timeout 120 python3 "$top/tests/bindings/vector_killed.py" "$work/t.cv" 0 "$work/cases" write
+)
+
+threads_of_rust_that_are_killed_lose_nothing_settled() (
+    has python3 'what compares a file with blocks' && has_rust_vector || exit $is_skipped
+    make_rust_vector
+    make_rust_program "$top/tests/bindings/vector_cases.rs" "$work/cases"
+    PYTHONDONTWRITEBYTECODE=1 timeout 120 python3 "$top/tests/bindings/vector_killed.py" "$work/t.cv" 12 "$work/cases" write
+)

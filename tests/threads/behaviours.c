@@ -1,0 +1,391 @@
+/* Behaviours of cvec_vector.c, each by its name: ./behaviours NAME FILE. The calls of the system that change a file may be
+ * cut, refused or interrupted. The status is 0 where the behaviour is as it is promised; else a line says what isn't. */
+#define _DEFAULT_SOURCE 1
+#define _POSIX_C_SOURCE 200809L
+#include <errno.h>
+#include <inttypes.h>
+#include <pthread.h>
+#include <stdio.h>
+#include <stdlib.h>
+#include <string.h>
+#include <sys/resource.h>
+#include <sys/types.h>
+#include <sys/wait.h>
+#include <unistd.h>
+
+static int writes, syncs;       /* how many were made */
+static int left = -1;           /* the calls that pass before one fails; none does below 0 */
+static size_t part;             /* the bytes that a write makes at most; all of them at 0 */
+static int interrupts;          /* whether every second call is interrupted first */
+static int turn;
+static int mallocs = -1; /* the requests for memory that pass before one is refused; none is below 0 */
+
+static int fails(void) { return left >= 0 && left-- == 0; }
+
+static int is_interrupted(void) {
+    errno = EINTR;
+    return interrupts && turn++ % 2 == 0;
+}
+
+static ssize_t test_pwrite(int fd, const void *bytes, size_t len, off_t at) {
+    if (is_interrupted()) return -1;
+    __atomic_add_fetch(&writes, 1, __ATOMIC_SEQ_CST);
+    if (fails()) {
+        errno = EIO;
+        return pwrite(fd, bytes, len / 2, at) < 0 ? -1 : (errno = EIO, -1);
+    }
+    return pwrite(fd, bytes, part > 0 && part < len ? part : len, at);
+}
+
+static int test_fdatasync(int fd) {
+    if (is_interrupted()) return -1;
+    __atomic_add_fetch(&syncs, 1, __ATOMIC_SEQ_CST);
+    if (!fails()) return fdatasync(fd);
+    errno = EIO;
+    return -1;
+}
+
+static void *test_malloc(size_t len) { return mallocs >= 0 && mallocs-- == 0 ? NULL : malloc(len); }
+
+#define malloc test_malloc
+#define pwrite test_pwrite
+#define fdatasync test_fdatasync
+#include "cvec_vector.c"
+#undef malloc
+#undef pwrite
+#undef fdatasync
+
+static int wrong;
+
+/* What isn't so is told, by its line. */
+#define HOLDS(claim) \
+    do \
+        if (!(claim)) { \
+            printf("line %d: not so: %s\n", __LINE__, #claim); \
+            wrong = 1; \
+        } \
+    while (0)
+
+static cvec_vector *vector;
+static cvec_vector_seat *seat;
+
+/* A new vector with so many seats, one of them taken. */
+static void make(const char *path, uint16_t seats) {
+    HOLDS(cvec_vector_create(&vector, path, 1, seats) == CVEC_DONE);
+    if (wrong) exit(1);
+    HOLDS(cvec_vector_take_seat(vector, &seat) == CVEC_DONE);
+    if (wrong) exit(1);
+}
+
+static uint32_t grow(uint64_t record, uint64_t *number) {
+    cvec_receipt receipt;
+    uint32_t status = cvec_vector_grow(seat, &record, 1, &receipt);
+    if (status == CVEC_DONE) *number = receipt.number;
+    return status;
+}
+
+/* Opens the file again, and answers how many records there are, which are 0, 1, .. in order. */
+static uint64_t found(const char *path) {
+    uint64_t seen[4096], size = 0, count = 0;
+    HOLDS(cvec_vector_open(&vector, path, 1) == CVEC_DONE);
+    if (wrong) return 0;
+    HOLDS(cvec_vector_take_seat(vector, &seat) == CVEC_DONE);
+    HOLDS(cvec_vector_size(seat, &size) == CVEC_DONE);
+    HOLDS(cvec_vector_read(seat, 0, seen, 4096, &count) == CVEC_DONE);
+    HOLDS(count == size);
+    for (uint64_t k = 0; k < count; k++) HOLDS(seen[k] == k);
+    HOLDS(cvec_vector_close_seat(seat) == CVEC_DONE);
+    HOLDS(cvec_vector_close(vector) == CVEC_DONE);
+    return size;
+}
+
+/* ---- grow: eight threads that tell what is durable, until they are killed */
+
+static void *grow_for_ever(void *work) {
+    cvec_vector_seat *own = work;
+    cvec_receipt receipt;
+    static uint64_t next;
+    for (;;) {
+        uint64_t record = __atomic_fetch_add(&next, 1, __ATOMIC_SEQ_CST);
+        if (cvec_vector_grow(own, &record, 1, &receipt) != CVEC_DONE) return work;
+        if (cvec_vector_await(own, receipt.number) != CVEC_DONE) return work;
+        printf("durable %" PRIu64 " end\n", record);
+        fflush(stdout);
+    }
+}
+
+static void grows(const char *path) {
+    pthread_t threads[8];
+    HOLDS(cvec_vector_create(&vector, path, 1, 8) == CVEC_DONE);
+    for (int k = 0; k < 8; k++) {
+        HOLDS(cvec_vector_take_seat(vector, &seat) == CVEC_DONE);
+        pthread_create(&threads[k], NULL, grow_for_ever, seat);
+    }
+    for (int k = 0; k < 8; k++) pthread_join(threads[k], NULL);
+    wrong = 1;
+}
+
+/* ---- the others */
+
+static void locks(const char *path) {
+    cvec_vector *second;
+    make(path, 1);
+    HOLDS(cvec_vector_open(&second, path, 1) == CVEC_IN_USE);
+    HOLDS(second == NULL);
+    HOLDS(cvec_vector_create(&second, path, 1, 1) == CVEC_IN_USE);
+    HOLDS(cvec_vector_close(vector) == CVEC_BUSY);
+    HOLDS(cvec_vector_close_seat(seat) == CVEC_DONE);
+    HOLDS(cvec_vector_close(vector) == CVEC_DONE);
+    HOLDS(cvec_vector_create(&second, path, 1, 1) == CVEC_EXISTS);
+    HOLDS(found(path) == 0);
+}
+
+static void is_busy(const char *path) {
+    uint64_t number = 0, count = 0;
+    make(path, 1);
+    seat->busy = true; /* as another thread inside a call leaves it */
+    HOLDS(grow(0, &number) == CVEC_BUSY);
+    HOLDS(cvec_vector_await(seat, 0) == CVEC_BUSY);
+    HOLDS(cvec_vector_size(seat, &count) == CVEC_BUSY);
+    HOLDS(cvec_vector_settled(seat, &count) == CVEC_BUSY);
+    HOLDS(cvec_vector_read(seat, 0, &count, 1, &count) == CVEC_BUSY);
+    HOLDS(cvec_vector_close_seat(seat) == CVEC_BUSY);
+    seat->busy = false;
+    /* Each call leaves the seat free. */
+    HOLDS(grow(0, &number) == CVEC_DONE);
+    HOLDS(cvec_vector_await(seat, number) == CVEC_DONE);
+    HOLDS(cvec_vector_size(seat, &count) == CVEC_DONE && count == 1);
+    HOLDS(cvec_vector_settled(seat, &count) == CVEC_DONE && count == 1);
+    HOLDS(cvec_vector_read(seat, 0, &number, 1, &count) == CVEC_DONE && count == 1);
+    HOLDS(cvec_vector_close_seat(seat) == CVEC_DONE);
+    HOLDS(cvec_vector_close(vector) == CVEC_DONE);
+}
+
+static int is_refused_in_a_fork(void) {
+    uint64_t number = 0;
+    cvec_vector_seat *other;
+    return grow(7, &number) == CVEC_FORKED && cvec_vector_await(seat, 0) == CVEC_FORKED &&
+           cvec_vector_size(seat, &number) == CVEC_FORKED && cvec_vector_settled(seat, &number) == CVEC_FORKED &&
+           cvec_vector_read(seat, 0, &number, 1, &number) == CVEC_FORKED && cvec_vector_take_seat(vector, &other) == CVEC_FORKED &&
+           cvec_vector_close_seat(seat) == CVEC_FORKED && cvec_vector_close(vector) == CVEC_FORKED;
+}
+
+static void forks(const char *path) {
+    uint64_t number = 0;
+    int status = 1;
+    make(path, 2);
+    pid_t child = fork();
+    if (child == 0) _exit(is_refused_in_a_fork() ? 0 : 1);
+    HOLDS(waitpid(child, &status, 0) == child && status == 0);
+    HOLDS(grow(0, &number) == CVEC_DONE);
+    HOLDS(cvec_vector_close_seat(seat) == CVEC_DONE);
+    HOLDS(cvec_vector_close(vector) == CVEC_DONE);
+    HOLDS(found(path) == 1);
+}
+
+/* Each write makes 5 bytes at most, and every second call is interrupted. */
+static void parts(const char *path) {
+    uint64_t number = 0;
+    part = 5;
+    interrupts = 1;
+    make(path, 1);
+    for (uint64_t k = 0; k < 20; k++) HOLDS(grow(k, &number) == CVEC_DONE);
+    HOLDS(cvec_vector_await(seat, number) == CVEC_DONE);
+    HOLDS(cvec_vector_close_seat(seat) == CVEC_DONE);
+    HOLDS(cvec_vector_close(vector) == CVEC_DONE);
+    part = 0;
+    interrupts = 0;
+    HOLDS(found(path) == 20);
+}
+
+/* One of the four calls of the second commit fails: what was durable stands, and nothing goes on until it is opened again. */
+static void fails_at(const char *path, int call) {
+    uint64_t number = 0, count = 0;
+    remove(path);
+    make(path, 1);
+    HOLDS(grow(0, &number) == CVEC_DONE);
+    HOLDS(cvec_vector_await(seat, number) == CVEC_DONE);
+    HOLDS(grow(1, &number) == CVEC_DONE);
+    left = call;
+    uint32_t failed = cvec_vector_await(seat, number);
+    left = -1;
+    HOLDS(failed == (call % 2 == 0 ? CVEC_DISK_WRITE : CVEC_DISK_SYNC));
+    HOLDS(cvec_vector_settled(seat, &count) == CVEC_DONE && count == 1);
+    HOLDS(cvec_vector_await(seat, 0) == CVEC_DONE);
+    HOLDS(cvec_vector_await(seat, number) == CVEC_BROKEN);
+    HOLDS(grow(2, &number) == CVEC_BROKEN);
+    HOLDS(cvec_vector_size(seat, &count) == CVEC_DONE && count == 2);
+    HOLDS(cvec_vector_close_seat(seat) == CVEC_DONE);
+    int before = writes;
+    HOLDS(cvec_vector_close(vector) == CVEC_BROKEN);
+    HOLDS(writes == before);
+    count = found(path);
+    HOLDS(count == (call < 2 ? 1 : count == 1 ? 1 : 2));
+}
+
+static void faults(const char *path) {
+    for (int call = 0; call < 4; call++) fails_at(path, call);
+    /* So at the close, and where the file is made. */
+    uint64_t number = 0;
+    remove(path);
+    make(path, 1);
+    HOLDS(grow(0, &number) == CVEC_DONE);
+    HOLDS(cvec_vector_close_seat(seat) == CVEC_DONE);
+    left = 0;
+    HOLDS(cvec_vector_close(vector) == CVEC_DISK_WRITE);
+    left = -1;
+    HOLDS(found(path) == 0);
+    remove(path);
+    left = 0;
+    HOLDS(cvec_vector_create(&vector, path, 1, 1) == CVEC_DISK_SYNC);
+    HOLDS(vector == NULL);
+    left = -1;
+    HOLDS(cvec_vector_create(&vector, path, 1, 1) == CVEC_DONE);
+    HOLDS(cvec_vector_close(vector) == CVEC_DONE);
+}
+
+static void too_large(const char *path) {
+    static uint64_t records[1024];
+    struct rlimit most = {4096, RLIM_INFINITY};
+    cvec_receipt receipt;
+    make(path, 1);
+    for (uint64_t k = 0; k < 1024; k++) records[k] = k;
+    setrlimit(RLIMIT_FSIZE, &most);
+    HOLDS(cvec_vector_grow(seat, records, 1024, &receipt) == CVEC_DONE);
+    HOLDS(cvec_vector_await(seat, receipt.number) == CVEC_DISK_WRITE);
+    HOLDS(errno == EFBIG);
+    HOLDS(cvec_vector_await(seat, receipt.number) == CVEC_BROKEN);
+    most.rlim_cur = RLIM_INFINITY;
+    setrlimit(RLIMIT_FSIZE, &most);
+    HOLDS(cvec_vector_close_seat(seat) == CVEC_DONE);
+    HOLDS(cvec_vector_close(vector) == CVEC_BROKEN);
+    HOLDS(found(path) == 0);
+}
+
+static void refusals(const char *path) {
+    static uint64_t many[131072];
+    uint64_t count = 9, number = 0;
+    cvec_vector_seat *second;
+    cvec_receipt receipt = {9, 9, 9, 9, 9};
+    HOLDS(cvec_vector_open(&vector, path, 1) == CVEC_DISK_OPEN);
+    HOLDS(cvec_vector_open(&vector, "/", 1) == CVEC_NOT_FILE);
+    HOLDS(cvec_vector_create(&vector, path, 3, 1) == CVEC_NOT_SO);
+    HOLDS(cvec_vector_create(&vector, path, 0, 1) == CVEC_NOT_SO);
+    HOLDS(cvec_vector_create(&vector, path, 1, 0) == CVEC_TOO_LARGE);
+    HOLDS(cvec_vector_create(&vector, path, 1, 65) == CVEC_TOO_LARGE);
+    HOLDS(vector == NULL && access(path, F_OK) != 0);
+    make(path, 1);
+    HOLDS(cvec_vector_take_seat(vector, &second) == CVEC_NOT_SO && second == NULL);
+    HOLDS(cvec_vector_grow(seat, many, 0, &receipt) == CVEC_EMPTY);
+    HOLDS(cvec_vector_grow(seat, many, 131072, &receipt) == CVEC_TOO_LARGE);
+    HOLDS(receipt.number == 9 && receipt.start == 9 && receipt.len == 9);
+    HOLDS(cvec_vector_grow(seat, many, 131071, NULL) == CVEC_DONE);
+    HOLDS(grow(5, &number) == CVEC_DONE && number == 1);
+    HOLDS(cvec_vector_await(seat, 2) == CVEC_OUT_OF_RANGE);
+    HOLDS(cvec_vector_await(seat, UINT64_MAX) == CVEC_OUT_OF_RANGE);
+    HOLDS(cvec_vector_read(seat, 131072, many, 1, &count) == CVEC_DONE && count == 0);
+    HOLDS(cvec_vector_read(seat, 131070, many, 9, &count) == CVEC_DONE && count == 2 && many[0] == 0 && many[1] == 5);
+    HOLDS(cvec_vector_close_seat(seat) == CVEC_DONE);
+    HOLDS(cvec_vector_close(vector) == CVEC_DONE);
+    const struct {
+        const char *bytes;
+        size_t len;
+        uint32_t refusal;
+    } others[] = {{"", 0, CVEC_UNBORN},
+                  {"\11CVECSEG\1\10\0\0", 12, CVEC_UNBORN},
+                  {"\1CVECSEK\1\10\0\0", 12, CVEC_NOT_SEGMENT},
+                  {"\1CVECSEG\7\10\0\0", 12, CVEC_VERSION},
+                  {"\1CVECSEG\1\4\0\0", 12, CVEC_WIDTH},
+                  {"\1CVECSEG\1\10\0\1\11", 13, CVEC_DAMAGED}};
+    for (size_t k = 0; k < sizeof others / sizeof *others; k++) {
+        FILE *file = fopen(path, "wb");
+        HOLDS(file != NULL && fwrite(others[k].bytes, 1, others[k].len, file) == others[k].len && fclose(file) == 0);
+        HOLDS(cvec_vector_open(&vector, path, 1) == others[k].refusal);
+        HOLDS(vector == NULL);
+    }
+}
+
+/* Memory for either write of a commit is refused once: nothing is lost, and the next wait goes on. */
+static void memory(const char *path) {
+    uint64_t number = 0, count = 9;
+    make(path, 1);
+    for (int request = 0; request < 2; request++) {
+        HOLDS(grow((uint64_t)request, &number) == CVEC_DONE);
+        mallocs = request;
+        HOLDS(cvec_vector_await(seat, number) == CVEC_MEMORY);
+        HOLDS(mallocs == -1);
+        HOLDS(cvec_vector_settled(seat, &count) == CVEC_DONE && count == (uint64_t)request);
+        HOLDS(cvec_vector_await(seat, number) == CVEC_DONE);
+        HOLDS(cvec_vector_settled(seat, &count) == CVEC_DONE && count == (uint64_t)request + 1);
+    }
+    HOLDS(cvec_vector_close_seat(seat) == CVEC_DONE);
+    HOLDS(cvec_vector_close(vector) == CVEC_DONE);
+    HOLDS(found(path) == 2);
+    mallocs = 0;
+    HOLDS(cvec_vector_open(&vector, path, 1) == CVEC_MEMORY);
+    HOLDS(vector == NULL);
+    HOLDS(found(path) == 2);
+}
+
+/* As many growths as there may be, and then the file is opened again. */
+static void full(const char *path) {
+    uint64_t number = 0, size = 0;
+    make(path, 1);
+    for (uint64_t k = 0; k < 1048568; k++)
+        if (grow(k, &number) != CVEC_DONE || number != k) HOLDS(!"it was grown");
+    HOLDS(grow(7, &number) == CVEC_FULL);
+    HOLDS(cvec_vector_await(seat, 1048567) == CVEC_DONE);
+    HOLDS(cvec_vector_close_seat(seat) == CVEC_DONE);
+    HOLDS(cvec_vector_close(vector) == CVEC_DONE);
+    HOLDS(cvec_vector_open(&vector, path, 1) == CVEC_DONE);
+    HOLDS(cvec_vector_take_seat(vector, &seat) == CVEC_DONE);
+    HOLDS(grow(7, &number) == CVEC_DONE && number == 0);
+    HOLDS(cvec_vector_size(seat, &size) == CVEC_DONE && size == 1048569);
+    HOLDS(cvec_vector_close_seat(seat) == CVEC_DONE);
+    HOLDS(cvec_vector_close(vector) == CVEC_DONE);
+}
+
+/* ---- leader: while one thread's sync lasts, the others grow, and the next commit is for all of them */
+
+static void *grow_and_await(void *work) {
+    cvec_vector_seat *own = work;
+    cvec_receipt receipt;
+    uint64_t record = 0;
+    for (int k = 0; k < 500; k++) {
+        HOLDS(cvec_vector_grow(own, &record, 1, &receipt) == CVEC_DONE);
+        HOLDS(cvec_vector_await(own, receipt.number) == CVEC_DONE);
+    }
+    return NULL;
+}
+
+static void leads(const char *path) {
+    pthread_t threads[8];
+    cvec_vector_seat *seats[8];
+    HOLDS(cvec_vector_create(&vector, path, 2, 8) == CVEC_DONE);
+    int before = syncs;
+    for (int k = 0; k < 8; k++) HOLDS(cvec_vector_take_seat(vector, &seats[k]) == CVEC_DONE);
+    for (int k = 0; k < 8; k++) pthread_create(&threads[k], NULL, grow_and_await, seats[k]);
+    for (int k = 0; k < 8; k++) pthread_join(threads[k], NULL);
+    /* Two syncs of a commit: alone, 4,000 growths would take 8,000. */
+    HOLDS(syncs - before < 6000);
+    for (int k = 0; k < 8; k++) HOLDS(cvec_vector_close_seat(seats[k]) == CVEC_DONE);
+    before = syncs;
+    HOLDS(cvec_vector_close(vector) == CVEC_DONE);
+    HOLDS(syncs == before);
+}
+
+int main(int argc, char **argv) {
+    static const struct {
+        const char *name;
+        void (*run)(const char *);
+    } behaviours[] = {{"grow", grows},         {"lock", locks},         {"busy", is_busy},  {"fork", forks},
+                      {"parts", parts},        {"faults", faults},      {"memory", memory}, {"full", full},
+                      {"too_large", too_large}, {"refusals", refusals}, {"leader", leads}};
+    if (argc != 3) return 2;
+    for (size_t k = 0; k < sizeof behaviours / sizeof *behaviours; k++)
+        if (strcmp(argv[1], behaviours[k].name) == 0) {
+            behaviours[k].run(argv[2]);
+            return wrong;
+        }
+    return 2;
+}
