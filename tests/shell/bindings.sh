@@ -132,16 +132,62 @@ answers_are_right() {
     has_caller "$1" || exit $is_skipped
     make_caller "$1"
     follows "$1" cases.txt
+    follows "$1" reads.txt
     follows "$1" names.txt
 }
 
 answers_are_right_in_c() (
     answers_are_right c
     follows c often.txt
+    follows c shared.txt
+)
+
+# Each front of a file of two groups and a shrink, and a file with another byte at each place: a reader answers of it what an
+# opener does.
+fronts_are_told_alike() (
+    has_caller c || exit $is_skipped
+    make_caller c
+    head=0143564543534547020800 seven=0700000000000000
+    group=01011800000001000000020000000500000000000000$seven shrink=01030800000001$(printf '%014d' 0)
+    file=$head$group${shrink}01011000000001000000010000000900000000000000
+    file=${file}00
+    for k in $(seq 0 $((${#file} / 2))); do
+        front=$(printf %s "$file" | head -c $((2 * k)))
+        back=$(printf %s "$file" | tail -c +$((2 * k + 3)))
+        for image in "$front" "${front}05$back"; do
+            echo "> put $work/t.cv $image"
+            for how in open open-to-read; do
+                printf '> %s a u64 %s\n> read a 0 9\n> stat a\n> close a\n' $how "$work/t.cv"
+            done
+        done
+    done >"$work/table"
+    "$built/c" "$work/table" >"$out"
+    sed 's/^> open-to-read /> open /' "$out" | awk '/^> put/ { turn = 0 } /^> open/ { turn++ } turn == 1' >"$work/opened"
+    sed 's/^> open-to-read /> open /' "$out" | awk '/^> put/ { turn = 0 } /^> open/ { turn++ } turn == 2' >"$work/seen"
+    [ "$(grep -c '^> open' "$work/opened")" -eq $((2 * (${#file} / 2 + 1))) ]
+    grep -q '^refused 5' "$work/seen" && grep -q '^2: 5 9' "$work/seen"
+    diff "$work/opened" "$work/seen"
+)
+
+# Two that open a file wait for a reader that shares its lock, and neither keeps it from the other meanwhile.
+openers_wait_for_a_reader() (
+    has_caller c || exit $is_skipped
+    make_caller c
+    "$top/cvec" create u64 "$work/t.cv" >/dev/null
+    echo "> often 1 u64 $work/t.cv" >"$work/table"
+    sh -c 'exec 8<"$1"; flock -s 8; : >"$2"; exec sleep 1' sh "$work/t.cv" "$work/held" &
+    until [ -e "$work/held" ]; do sleep 0.05; done
+    timeout 6 "$built/c" "$work/table" >"$work/first" &
+    timeout 6 "$built/c" "$work/table" >"$work/second"
+    wait $!
+    cat "$work/first" "$work/second"
+    # Which of them meets the other is refused.
+    grep -qx 'done' "$work/first" "$work/second"
 )
 
 answers_are_right_in_python() (
     answers_are_right python
+    follows python python.txt
 )
 
 answers_are_right_in_rust() (
@@ -163,6 +209,7 @@ parts_make_a_whole() {
     make_caller "$1"
     make_calls
     follows "$1" cases.txt part
+    follows "$1" reads.txt part
 }
 
 parts_make_a_whole_in_c() (

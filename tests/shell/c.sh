@@ -20,6 +20,7 @@ a_c_program_appends_and_reads() (
     tells 'create: exists'
 )
 
+# The function that reads beside another process is compiled with it.
 the_c_program_that_is_shown_appends_and_reads() (
     has_c || exit $is_skipped
     make_c_library
@@ -87,9 +88,66 @@ a_file_is_open_in_one_process() (
     make_c_library
     compile use "$work/cvec_file.o"
     status=0
-    flock "$work/file" "$work/use" "$work/file" >"$out" 2>"$err" || status=$?
+    flock "$work/file" timeout 5 "$work/use" "$work/file" >"$out" 2>"$err" || status=$?
     [ "$status" -eq 1 ]
     tells 'create: in use'
+)
+
+make_looks() {
+    make_c_library
+    cc -std=c99 -O2 -Wall -Wextra -Werror "-I$c" -o "$work/looks" "$top/tests/bindings/looks.c" "$work/cvec_file.o" \
+        "$c_library" "$kit_library"
+}
+
+# By the user `nobody`, where the tests are run by one that may do all.
+as_no_writer() {
+    if [ "$(id -u)" -ne 0 ]; then "$@"; else setpriv --reuid=65534 --regid=65534 --clear-groups "$@"; fi
+}
+
+# A file, and a folder, without leave to write; through a link too.
+a_c_program_reads_what_it_may_not_write() (
+    has_c || exit $is_skipped
+    [ "$(id -u)" -ne 0 ] || has setpriv 'a reader that is no superuser' || exit $is_skipped
+    make_looks
+    mkdir "$work/d"
+    run create u64 "$work/d/t.cv"
+    given '5\n7\n'
+    run load u64 "$work/d/t.cv"
+    ln -s t.cv "$work/d/link.cv"
+    chmod 755 "$work"
+    chmod 444 "$work/d/t.cv"
+    chmod 555 "$work/d"
+    ! as_no_writer sh -c ": >>'$work/d/t.cv'" 2>/dev/null
+    for name in t link; do
+        printf 'r\no\n' | as_no_writer "$work/looks" "$work/d/$name.cv" >"$out"
+        printf '5 7 \n5 7 \n' | cmp - "$out"
+    done
+    chmod 755 "$work/d"
+)
+
+# Also where that knows no sync, which a failure of the call stands for.
+a_c_program_reads_a_file_system_that_is_read_only() (
+    has_c || exit $is_skipped
+    make_looks
+    cc -std=gnu11 -O1 -Wall -Wextra -Werror -shared -fPIC -o "$work/plan.so" "$top/tests/bindings/calls.c" -ldl
+    mkdir "$work/d" "$work/ro"
+    run create u64 "$work/d/t.cv"
+    given '5\n7\n'
+    run load u64 "$work/d/t.cv"
+    mounted='mount --bind "$1" "$2" && mount -o remount,ro,bind "$2"'
+    unshare -m sh -c "$mounted" sh "$work/d" "$work/ro" 2>/dev/null ||
+        lacks 'there is no leave to mount a file system that is read only' || exit $is_skipped
+    for plan in 'sync 99 22' 'sync 1 22' 'sync 1 30'; do
+        echo "$plan" >"$work/plan"
+        (
+            cd "$work"
+            unshare -m sh -c "$mounted && ! touch \"\$2/t.cv\" 2>/dev/null &&
+                printf 'r\no\n' | CALLS=plan LD_PRELOAD=\$3 \"\$4\" \"\$2/t.cv\"" \
+                sh "$work/d" "$work/ro" "$work/plan.so" "$work/looks" >"$out"
+        )
+        [ ! -e "$work/plan" ]
+        printf '5 7 \n5 7 \n' | cmp - "$out"
+    done
 )
 
 the_header_is_cpp_too() (

@@ -26,6 +26,16 @@ a_python_program_appends_and_reads() (
     is_shown_as_written u64 "$work/file"
 )
 
+the_python_program_that_is_shown_reads() (
+    has_c && has python3 'the library for Python' || exit $is_skipped
+    make_python_library
+    python_runs use "$work/numbers.cvec"
+    shown_in use/c.md python >"$work/shown.py"
+    (cd "$work" && flock numbers.cvec env "CVEC_LIBRARY=$work/libcvec.so" "PYTHONPATH=$top/examples/python" PYTHONDONTWRITEBYTECODE=1 \
+        "$python" shown.py >"$out")
+    [ "$(tr '\n' ' ' <"$out")" = '4 records 5 7 11 13 ' ]
+)
+
 # What is no record is refused, threads lose nothing, a forked process appends nothing, and what is closed is let go: with
 # numpy, where it is there, and without it.
 a_python_program_loses_nothing() (

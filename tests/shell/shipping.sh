@@ -1,0 +1,175 @@
+# Copies that `cvec follow --events` keeps elsewhere, by the scripts of examples/shipping, and what reads beside a writer.
+
+shipping=$top/examples/shipping
+
+# The copy of this way, of records of this type, stays exact while what keeps it is killed: SHIPPING_KILLS times, or 12.
+stays_exact() {
+    PYTHONDONTWRITEBYTECODE=1 "$top/tests/shipping.py" "$program" "$shipping" "$work" "$1" "$2" "${SHIPPING_KILLS:-12}" >"$out"
+    cat "$out"
+    grep -q "^$1: [1-9][0-9]* kills, " "$out"
+}
+
+# ---- copies that are killed
+
+a_copy_in_another_file_stays_exact() (
+    has python3 'copies by follow' || exit "$is_skipped"
+    stays_exact apply pair
+)
+
+a_copy_in_sqlite_stays_exact() (
+    has python3 'copies by follow' && has sqlite3 'a copy in SQLite' || exit "$is_skipped"
+    stays_exact sqlite u64
+)
+
+has_redis() { has python3 'copies by follow' && has redis-server 'a copy in Redis' && has redis-cli 'a copy in Redis'; }
+
+a_copy_in_redis_stays_exact() (
+    has_redis || exit "$is_skipped"
+    stays_exact redis i64
+)
+
+# The parts are in slots of a cluster, of one node.
+a_copy_in_three_parts_stays_exact() (
+    has_redis || exit "$is_skipped"
+    redis-server --version | grep -q 'v=\([7-9]\|[1-9][0-9]\)[.]' || lacks 'Redis is older than 7 for a copy in parts' || exit "$is_skipped"
+    stays_exact parts u32
+)
+
+# Its server runs as no root: root takes the user that Debian's package makes.
+has_postgres() {
+    has python3 'copies by follow' && has psql 'a copy in PostgreSQL' || return 1
+    for initdb in /usr/lib/postgresql/*/bin/initdb "$(command -v initdb)"; do
+        [ ! -x "$initdb" ] || break
+    done
+    [ -x "$initdb" ] || lacks 'there is no initdb for a copy in PostgreSQL' || return 1
+    [ "$(id -u)" -ne 0 ] || id postgres >/dev/null 2>&1 || lacks 'there is no user postgres for a copy in PostgreSQL'
+}
+
+a_copy_in_postgres_stays_exact() (
+    has_postgres || exit "$is_skipped"
+    stays_exact postgres flagged
+)
+
+# ---- what a copy refuses
+
+# A command in place of a follower, which writes this text to whoever starts behind this PLACE.
+follows() {
+    printf '#!/bin/sh\n[ "$*" = "%s" ] || exit 9\nprintf "%s"\n%s\n' "$1" "$2" "${3-}" >"$work/follower"
+    chmod +x "$work/follower"
+}
+
+# Keeps the table of SQLite by that command.
+keeps() {
+    status=0
+    PYTHONDONTWRITEBYTECODE=1 "$shipping/to_sqlite" "$work/t.db" "$work/follower" >"$out" 2>"$err" || status=$?
+    [ ! -s "$out" ]
+}
+
+# The table has these records, and PLACE is this.
+has_kept() {
+    [ "$(sqlite3 "$work/t.db" 'select record from vector order by position' | paste -sd ' ')" = "$1" ]
+    [ "$(sqlite3 "$work/t.db" 'select place from place')" = "$2" ]
+}
+
+# What a kill cuts is no line: `. 12` may have been `. 123`.
+a_step_that_is_cut_is_none() (
+    has python3 'copies by follow' && has sqlite3 'a copy in SQLite' || exit "$is_skipped"
+    follows '' '+ 5\\n+ 6\\n. 1:2\\n= 0 7\\n+ 8\\n. 12'
+    keeps
+    [ "$status" -eq 0 ]
+    has_kept '5 6' 1:2
+    follows --after=1:2 '= 0 7\\n+ 8\\n. 123\\n< 1\\n' 'kill -9 $$'
+    keeps
+    [ "$status" -eq 1 ]
+    tells 'ended with status -9'
+    has_kept '7 6 8' 123
+    follows --after=123 '< 1\\n. 9\\n'
+    keeps
+    [ "$status" -eq 0 ]
+    has_kept 7 9
+)
+
+what_is_no_line_of_a_step_is_refused() (
+    has python3 'copies by follow' && has sqlite3 'a copy in SQLite' || exit "$is_skipped"
+    follows '' '+ 5\\n. 1\\n'
+    keeps
+    for line in '+' '+ ' '+ x' '+ 5 6' '= 1' '= 0 5;drop' '= -1 5' '< ' '< -1' '. ' '. 1 2' '. --once' '+ 5\\r' ' + 5' 5 ''; do
+        follows --after=1 "+ 6\\\\n$line\\\\n. 2\\\\n"
+        keeps
+        [ "$status" -eq 3 ]
+        tells 'no line of a step'
+        has_kept 5 1
+    done
+    follows --after=1 '+ 6\\nrefused: replaced\\n' 'exit 1'
+    keeps
+    [ "$status" -eq 3 ]
+    tells 'refused: replaced'
+    has_kept 5 1
+)
+
+# The command that a killed script has begun ends before another script goes on, which does that step once more.
+what_a_killed_script_has_begun_is_waited_for() (
+    has python3 'copies by follow' || exit "$is_skipped"
+    printf '#!/bin/sh\n[ "$1" != append ] || { touch "%s/begun"; sleep 1; }\nexec "%s" "$@"\n' "$work" "$program" >"$work/slow"
+    chmod +x "$work/slow"
+    export CVEC="$work/slow" PYTHONDONTWRITEBYTECODE=1
+    follows '' '+ 5\\n. 1\\n'
+    "$shipping/apply" u64 "$work/copy.cv" "$work/follower" &
+    child=$!
+    until [ -e "$work/begun" ]; do sleep 0.01; done
+    kill -9 $child
+    follows --after=1 '+ 6\\n. 2\\n'
+    "$shipping/apply" u64 "$work/copy.cv" "$work/follower"
+    run list u64 "$work/copy.cv"
+    did '5\n6\n'
+)
+
+# A file that is there is nobody's copy, and stays.
+a_file_that_is_no_copy_stays() (
+    has python3 'copies by follow' || exit "$is_skipped"
+    a_changed_file
+    before=$(cksum <"$work/t.cv")
+    follows '' '+ 5\\n. 1\\n'
+    status=0
+    "$shipping/apply" u64 "$work/t.cv" "$work/follower" >"$out" 2>"$err" || status=$?
+    [ "$status" -eq 3 ]
+    tells 'no copy'
+    [ "$before" = "$(cksum <"$work/t.cv")" ]
+)
+
+a_command_runs_again_while_it_was_stopped() (
+    printf '#!/bin/sh\necho x >>"%s/runs"\n[ "$(wc -l <"%s/runs")" -gt 2 ] || exit 1\nexit "$1"\n' "$work" "$work" >"$work/stopped"
+    chmod +x "$work/stopped"
+    for end in 0 3; do
+        rm -f "$work/runs"
+        status=0
+        "$shipping/again" "$work/stopped" $end || status=$?
+        [ "$status" -eq $end ]
+        [ "$(wc -l <"$work/runs")" -eq 3 ]
+    done
+)
+
+# The first step is what was there. Two records come about a second later.
+the_rate_of_growth_is_shown() (
+    has python3 'copies by follow' || exit "$is_skipped"
+    { printf '+ 1\n+ 2\n. 1\n'; sleep 1; printf '+ 3\n= 0 9\n+ 4\n. 2\n'; } | "$shipping/rate" >"$out"
+    [ "$(head -n 1 "$out")" = '2 records are there' ]
+    tail -n +2 "$out" | grep -qx '[1-9] records a second'
+    [ "$(wc -l <"$out")" -eq 2 ]
+    status=0
+    printf '+ 1\n. 1\nrefused: cut\n' | "$shipping/rate" >"$out" 2>"$err" || status=$?
+    [ "$status" -eq 1 ]
+    tells 'refused: cut'
+)
+
+# ---- beside a writer
+
+a_python_reader_sees_the_vector_at_a_moment() (
+    has python3 'a reader in Python' && has_calls || exit "$is_skipped"
+    for seed in 1 2; do
+        PYTHONDONTWRITEBYTECODE=1 "$top/tests/mapped.py" "$program" "$work/calls.so" "$work" "${MAPPED_COMMANDS:-200}" $seed >"$out"
+        cat "$out"
+        grep -q ' looks, [1-9][0-9]* of them while a command ran, ' "$out"
+        rm "$work/t.cv"
+    done
+)
