@@ -19,6 +19,11 @@ def answer(words, lines=""):
     return run.stdout.decode(), run.returncode
 
 
+LF = "\n"
+# The most u64 records of a growth, by the version of its file.
+MOST = {1: 131071, 2: 2097151}
+
+
 class Model:
     """A plain list, and what a file adds to it."""
 
@@ -56,16 +61,30 @@ class Model:
         count = pick.randint(1, 3)
         start = pick.randint(0, len(self.records) + 1)
         new = [pick.randrange(20) for _ in range(count)]
-        words = ["set", "u64", path, str(start), "--records=" + ",".join(map(str, new))]
-        if start + count > len(self.records):
-            return words, "", "refused: out of range\n", 1
-        self.records[start : start + count] = new
+        words, text = ["set", "u64", path, str(start), "--records=" + ",".join(map(str, new))], ""
+        if pick.random() < 0.5:
+            words[-1] = "--input"
+            new = new[: pick.randint(0, count)]
+            text = "".join(f"{record}{pick.choice([' ', LF])}" for record in new[:-1]) + "".join(f"{it}\n" for it in new[-1:])
+        if not new:
+            return words, text, "ok\n", 0
+        if start + len(new) > len(self.records):
+            return words, text, "refused: out of range\n", 1
+        self.records[start : start + len(new)] = new
         self.live += 1
-        return words, "", "ok\n", 0
+        return words, text, "ok\n", 0
 
     def resize(self, pick):
         n, record = pick.randint(0, len(self.records) + 3), pick.randrange(20)
         words = ["resize", "u64", path, str(n), f"--record={record}"]
+        if pick.random() < 0.5:
+            words.append("--parts")
+        if pick.random() < 0.03:
+            # More new records than a frame takes.
+            n = len(self.records) + MOST[self.version] + pick.randint(1, 9)
+            words[3] = str(n)
+            if words[-1] != "--parts":
+                return words, "", "refused: too large\n", 1
         if n < len(self.records) and self.live:
             return words, "", "refused: unfolded\n", 1
         self.records = (self.records + [record] * n)[:n] if n < len(self.records) else self.records + [record] * (n - len(self.records))
@@ -95,6 +114,10 @@ class Model:
             words.append(f"--count={count}")
         return words, "", "".join(f"{record}\n" for record in self.records[start : start + count]), 0
 
+    def follow(self, pick):
+        start = pick.randint(0, len(self.records) + 1)
+        return ["follow", "u64", path, "--once", f"--from={start}"], "", "".join(f"{it}\n" for it in self.records[start:]), 0
+
     def count(self, pick):
         record = pick.randrange(20)
         return ["count", "u64", path, f"--record={record}"], "", f"{self.records.count(record)}\n", 0
@@ -105,7 +128,7 @@ class Model:
         return ["find", "u64", path, f"--record={record}"], "", told + "\n", 0
 
 
-STEPS = ["load", "append", "set", "set", "resize", "clear", "fold", "create", "list", "count", "find"]
+STEPS = ["load", "append", "set", "set", "resize", "clear", "fold", "create", "list", "follow", "count", "find"]
 
 
 def check(model):
@@ -128,11 +151,11 @@ def upgrade(model):
 
 def copy(model, pick):
     words, version, size = ["copy", "u64", path, other], model.version, len(model.records)
-    block = max(size, 1)
     if pick.random() < 0.5:
         version = pick.choice([1, 2])
         words.append(f"--format={version}")
-    if pick.random() < 0.5:
+    block = MOST[version]
+    if size < 1000 and pick.random() < 0.5:
         block = pick.randint(1, 5)
         words.append(f"--block={block}")
     frames = -(-size // block)
@@ -165,6 +188,9 @@ def play(seed):
         return f"script {seed}: check"
     if answer(["list", "u64", path]) != ("".join(f"{record}\n" for record in model.records), 0):
         return f"script {seed}: list"
+    events, status = answer(["follow", "u64", path, "--once", "--events"])
+    if status != 0 or events.splitlines()[:-1] != [f"+ {record}" for record in model.records]:
+        return f"script {seed}: events"
     return None
 
 

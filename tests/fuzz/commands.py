@@ -10,8 +10,9 @@ from reader import TYPES, Fault, File, answers_of
 from writer import all_kinds, group, header
 
 
-# What makes a new file of one that it reads.
+# What makes a new file of one that it reads, and what writes the records alone.
 COPYING = ('upgrade', 'copy')
+LISTING = ('list', 'follow')
 
 
 def texts_in(file):
@@ -34,12 +35,12 @@ def foresee(kind, verb, words, lines, image):
             return 'created', []
         return 'refused: ' + ('exists' if verb == 'create' else 'old %s' % fault if verb in COPYING else str(fault)), None
     texts, live = texts_in(file), len(file.changes) - file.folded
-    value = words[-1].split('=')[-1] if words else ''
+    value = next((word.split('=')[1] for word in words if '=' in word), '')
     if verb == 'create':
         return 'refused: exists', None
     if verb == 'check':
         return answers_of(image, kind)[1][1].decode()[:-1], None
-    if verb == 'list':
+    if verb in LISTING:
         return '\n'.join(texts), None
     if verb == 'count':
         return str(texts.count(value)), None
@@ -47,6 +48,10 @@ def foresee(kind, verb, words, lines, image):
         return str(texts.index(value)) if value in texts else 'none', None
     if verb == 'set':
         start, records = int(words[0]), value.split(',')
+        if '--input' in words:
+            records = [record for line in lines for record in line.split(' ')]
+        if not records:
+            return 'ok', None
         if start + len(records) > len(texts):
             return 'refused: out of range', None
         return 'ok', texts[:start] + records + texts[start + len(records):]
@@ -102,7 +107,7 @@ def judge_outcome(kind, name, command, before, found):
         told = stat_differs([verb, *words], found, before)
         return told if read_file(name) == before else told or 'stat wrote the file'
     answer, texts = foresee(kind, verb, words, lines, before)
-    written = answer + '\n' if answer or verb != 'list' else ''
+    written = answer + '\n' if answer or verb not in LISTING else ''
     told = differs([verb, *words], found, (int(answer.startswith('refused: ')), written.encode()))
     after = read_file(name)
     if texts is None and after != before:
@@ -137,7 +142,7 @@ def judge_commands(job):
 
 def judge_refused_command(job):
     """A command answers what it does with ample memory, or Memory, and then its file holds what it did; but the lines that
-    were grown stay. With ample memory it then does its work."""
+    were grown stay, and what a resize has appended in parts. With ample memory it then does its work."""
     library, (image, command), number = job
     verb, words, lines = command
     given = ''.join(line + '\n' for line in lines).encode()
@@ -154,13 +159,13 @@ def judge_refused_command(job):
         if os.path.exists(name + '.new'):
             os.remove(name + '.new')
         after, told = read_file(name), None
-        if verb in ('load', 'append'):
+        if verb in ('load', 'append') or '--parts' in words:
             grown = foresee('u64', verb, words, lines, image)[1]
             texts = texts_in(File(after, 'u64'))
-            told = None if texts == grown[:len(texts)] else 'request %d of %s: %r' % (number, verb, texts)
+            told = None if texts == grown[:len(texts)] else 'request %d of %s: %r' % (number, verb, texts[:99])
         elif after != image and (verb != 'create' or len(after) > 1) and not holds(after, 'u64', texts_in(File(image, 'u64')), False):
             told = 'request %d of %s: another file' % (number, verb)
-        else:
+        if told is None and verb not in ('load', 'append'):
             again = run(command_words(verb, 'u64', name, words), given)
             told = judge_outcome('u64', name, command, after, again)
         return told, refused, kept
@@ -168,8 +173,9 @@ def judge_refused_command(job):
 
 def command_tables(_folder):
     commands = [('create', [], []), ('load', [], ['1 2', '3']), ('append', [], ['1 2', '3']), ('check', [], []),
-                ('list', [], []), ('count', ['--record=9'], []), ('find', ['--record=9'], []),
-                ('set', ['1', '--records=4,5'], []), ('resize', ['9', '--record=3'], []), ('fold', [], []),
+                ('list', [], []), ('follow', ['--once'], []), ('count', ['--record=9'], []), ('find', ['--record=9'], []),
+                ('set', ['1', '--records=4,5'], []), ('set', ['1', '--input'], ['4', '5']), ('resize', ['9', '--record=3'], []),
+                ('resize', ['9', '--record=3', '--parts'], []), ('fold', [], []),
                 ('upgrade', [], []), ('copy', ['--block=2'], []), ('stat', [], [])]
     for command in commands:
-        yield judge_refused_command, (b'' if command[0] == 'create' else all_kinds(1), command)
+        yield judge_refused_command, (b'' if command[0] == 'create' else all_kinds(1, home=7), command)

@@ -104,8 +104,12 @@ def random_commands(rng):
         if verb in ('count', 'find'):
             words = ['--record=' + rng.choice([records.split(',')[0], text(bytes(TYPES[kind][0]))])]
         lines = []
-        if verb in ('load', 'append'):
-            lines = [' '.join(map(text, random_cells(rng, kind, 3))) for _ in range(rng.randint(1, 4))]
+        if verb == 'set' and rng.random() < .5:
+            words[-1] = '--input'
+        if verb in ('load', 'append') or '--input' in words:
+            lines = [' '.join(map(text, random_cells(rng, kind, 3))) for _ in range(rng.randint(0 if verb == 'set' else 1, 4))]
+        if verb == 'resize' and rng.random() < .5:
+            words.append('--parts')
         if verb == 'copy' and rng.random() < .5:
             words = ['--format=%d' % rng.randint(1, 2)]
         if verb in ('append', 'copy') and rng.random() < .5:

@@ -37,8 +37,9 @@ def numbers(*values):
     return [struct.pack('<Q', value) for value in values]
 
 
-def all_kinds(version):
-    """A file of u64 with all kinds of frame, of which one change is live."""
+def all_kinds(version, home=5):
+    """A file of u64 with all kinds of frame, of which one change is live. No program has left it, unless the first home has
+    what the folded change has, 7."""
     runs = [(0, numbers(7))] if version == 1 else [(0, numbers(7)), (2, numbers(8))]
-    return (header(version, 8) + group([numbers(5, 6), numbers(4)]) + change(version, runs) + fold(1)
+    return (header(version, 8) + group([numbers(home, 6), numbers(4)]) + change(version, runs) + fold(1)
             + shrink(2) + group([numbers(3)]) + change(version, [(1, numbers(9, 10))]) + b'\0')

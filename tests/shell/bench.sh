@@ -1,4 +1,4 @@
-# The scripts that measure. Nothing is proved, compiled or timed here.
+# The scripts that measure. Nothing is proved, compiled or timed here, but for the job over tokens.
 
 # ---- the tools that they build with only seem some
 
@@ -8,6 +8,7 @@ seeming_repository() {
     there=$work/there
     mkdir -p "$there/crates/cvec_speed" "$work/tools"
     cp -r "$top/bench" "$there"
+    ln -s "$top/examples" "$there"
     cat >"$work/figures" <<'FIGURES'
 {"peer":"tbb.grow_by(range)","work":"grow","threads":4,"block":256,"n":8,"seconds":1,"per_second":1.5e6,"spread":1.3,"others":0}
 {"peer":"own","work":"grow","threads":4,"block":256,"n":8,"seconds":1,"per_second":3e6,"spread":1.2,"others":0}
@@ -74,6 +75,15 @@ scripts_in_python_refuse_wrong_words() (
     seeming_repository
     refuses commands
     refuses commands "$work" none
+    refuses commands "$work" 1 2
+    refuses follow
+    refuses follow "$work" 0
+    refuses follow "$work" 1 1 1
+    refuses tokens
+    for wrong in "$work/none" "$work 0" "$work one" "$work 1 1999" "$work 1 2000 1"; do
+        # shellcheck disable=SC2086 # each word is one
+        refuses tokens $wrong
+    done
     refuses plot
     refuses table --base=own
 )
@@ -129,4 +139,152 @@ a_run_is_drawn() (
     run_script plot "$work/figures"
     answers 0 ''
     cmp "$work/plots/growth.svg" "$there/docs/plots/growth.svg"
+)
+
+# ---- the job over tokens, by the program itself
+
+has_tokens() {
+    for tool in python3 cc sqlite3; do
+        has $tool 'the job over tokens' || return 1
+    done
+}
+
+# A repository of these scripts and the program, and folders for its files and for tools that stand before others.
+repository_of_tokens() {
+    "$top/cvec" --version >"$out" 2>"$err"
+    there=$work/there
+    mkdir -p "$there/crates/cvec/out" "$work/tools" "$work/files"
+    cp -r "$top/bench" "$there"
+    ln -s "$top/cvec" "$top/examples" "$there"
+    ln -s "$program" "$there/crates/cvec/out/cvec"
+    PATH=$work/tools:$PATH
+}
+
+# The tool does this where its words are of this pattern, and else what it is. `real` is the tool in the former.
+seems() {
+    case $1 in
+    cvec) path=$there/crates/cvec/out/cvec real=$program ;;
+    *) path=$work/tools/$1 real=$(PATH=${PATH#*:} command -v "$1") ;;
+    esac
+    rm -f "$path"
+    printf '#!/bin/sh\nreal=%s\ncase $* in\n%s)\n%s\nexit ;;\nesac\nexec "$real" "$@"\n' "$real" "$2" "$3" >"$path"
+    chmod +x "$path"
+}
+
+# The figures of the lines of this name, each above 0: the third is the second over the first, as far as they are printed.
+has_figures() {
+    awk -F ' [|] ' -v name="$1" '
+        $1 == "| " name { off = $2 > 0 && $3 > 0 ? $3 / $2 / $4 : 0; if (off > 0.97 && off < 1.03) good++; else bad++ }
+        END { exit bad || !good }' "$2"
+}
+
+both_tools_do_the_job_over_tokens() (
+    has_tokens || exit "$is_skipped"
+    repository_of_tokens
+    run_script tokens "$work/files" 2 2345
+    [ "$status" -eq 0 ]
+    [ ! -s "$err" ]
+    printf '%s\n' 'Work, seconds' --- 'take in 2,345 tokens, one a line' 'count those that equal one' \
+        'find the first position of one, in the middle' 'list 1,000 in the middle' 'change one in the middle' 'append one' \
+        '4 processes append 10,000 each at once' 'shorten to half: `fold` and `resize`; `delete`' 'the file then, MB' \
+        'write it anew: `copy`; `vacuum`' 'the file then, MB' >"$work/names"
+    sed 's/^| *\([^|]*[^ |]\) *|.*/\1/; s/^|---|.*/---/' "$out" | cmp - "$work/names"
+    sed -n '3,$p' "$work/names" | while IFS= read -r name; do
+        has_figures "$name" "$out"
+    done
+    # A frame of 1,172 records of 8 bytes and 26 bytes beside them.
+    tail -n 1 "$out" | grep -qF '| the file then, MB | 0.0094 | '
+)
+
+figures_are_medians_of_runs_by_turns() (
+    has_tokens || exit "$is_skipped"
+    repository_of_tokens
+    : >"$work/turns"
+    seems sqlite3 '*" limit 1"' "echo sqlite3 >>'$work/turns'; exec \"\$real\" \"\$@\""
+    # The program counts slowly in the first turn alone, and finds slowly in all others.
+    seems cvec 'count* | find*' "[ \$1 = count ] || echo cvec >>'$work/turns'
+        case \$1-\$(grep -c cvec '$work/turns') in count-0 | find-[23]) sleep 1 ;; esac
+        exec \"\$real\" \"\$@\""
+    run_script tokens "$work/files" 3 2000
+    [ "$status" -eq 0 ]
+    [ "$(paste -sd ' ' "$work/turns")" = 'cvec sqlite3 sqlite3 cvec cvec sqlite3' ]
+    # A figure has three digits: a second and a millisecond read 1.
+    awk -F ' [|] ' '$1 ~ "count" && $2 < 1 { counted = 1 } $1 ~ "find" && $2 >= 1 { found = 1 } END { exit !(counted && found) }' "$out"
+)
+
+# What the page says of them: cvec makes growths of 1,000, two and one of them before 40 of the writers. Each process of sqlite3
+# syncs commits, its file is one that is written ahead, and each writer has ten transactions.
+tools_have_the_settings_of_the_page() (
+    has_tokens || exit "$is_skipped"
+    repository_of_tokens
+    seems cvec 'fold*' "\"\$real\" stat \"\$3\" >'$work/frames'; exec \"\$real\" \"\$@\""
+    seems sqlite3 '*' "echo \"\$*\" | grep -c 'pragma synchronous=full' >>'$work/synced'; exec \"\$real\" \"\$@\""
+    run_script tokens "$work/files" 1 2000
+    [ "$status" -eq 0 ]
+    grep -qx 'growths 43' "$work/frames"
+    [ "$(sort -u "$work/synced")" = 1 ]
+    [ "$(sqlite3 "$work/files/sqlite3.tokens" 'pragma journal_mode')" = wal ]
+    for writer in 1 2 3 4; do
+        [ "$(grep -c '^begin immediate; .*; commit;$' "$work/files/sqlite3.writer$writer")" -eq 10 ]
+    done
+)
+
+# The tool that does this where its words are of this pattern is told, by this text, and there are no figures.
+is_found_out() {
+    repository_of_tokens
+    seems "$1" "$3" "$4"
+    run_script tokens "$work/files" 1 2000
+    [ "$status" -eq 1 ]
+    [ ! -s "$out" ]
+    tells "bench/tokens: $2"
+    rm -r "$there" "$work/tools"
+}
+
+a_program_that_answers_otherwise_has_no_figures() (
+    has_tokens || exit "$is_skipped"
+    is_found_out cvec 'take in 2,000 tokens, one a line: cvec has []' '*' 'exit'
+    is_found_out cvec 'take in 2,000 tokens, one a line: cvec has' '*--block*' 'sed 1d | "$real" "$@"'
+    is_found_out cvec 'count those that equal one: cvec has' 'count*' 'echo 7'
+    is_found_out cvec 'find the first position of one, in the middle: cvec has' 'find*' 'echo none'
+    is_found_out cvec 'list 1,000 in the middle: cvec has' '*--count=1000' '"$real" "$@" | tac'
+    is_found_out cvec 'change one in the middle: cvec has' 'set*' 'echo ok'
+    is_found_out cvec 'append one: cvec has' 'append*.tokens' 'cat >/dev/null'
+    is_found_out cvec '4 processes append 10,000 each at once: cvec has' 'serve*' \
+        'cp "$3" "$3.other"; "$real" serve u64 "$3.other" --seats=4'
+    is_found_out cvec '4 processes append 10,000 each at once: cvec has' '*--count=40001' '"$real" "$@" | sort -n -r'
+    is_found_out cvec 'shorten to half: `fold` and `resize`; `delete`: cvec has' 'resize*' 'echo ok'
+    is_found_out cvec 'write it anew: `copy`; `vacuum`: cvec has' 'copy*' '"$real" create u64 "$4"'
+    is_found_out cvec 'cvec made no shorter file' 'copy*' 'cp "$3" "$4"'
+    for command in find serve; do
+        is_found_out cvec "Command '['$work/there/crates/cvec/out/cvec', '$command'," "$command*" 'exit 3'
+        tells 'exit status 3'
+    done
+)
+
+a_peer_that_answers_otherwise_has_no_figures() (
+    has_tokens || exit "$is_skipped"
+    is_found_out sqlite3 'take in 2,000 tokens, one a line: sqlite3 has []' '*' 'exit'
+    is_found_out sqlite3 'count those that equal one: sqlite3 has' '*count*where*' 'echo 7'
+    is_found_out sqlite3 'find the first position of one, in the middle: sqlite3 has' '*" limit 1"' 'echo 7'
+    is_found_out sqlite3 'list 1,000 in the middle: sqlite3 has' '*" limit 1000"' '"$real" "$@" | tac'
+    is_found_out sqlite3 'change one in the middle: sqlite3 has' '*update*' ':'
+    is_found_out sqlite3 'append one: sqlite3 has' '*insert*' ':'
+    is_found_out sqlite3 '4 processes append 10,000 each at once: sqlite3 has' '*.tokens' 'grep -v "(20000)" | "$real" "$@"'
+    is_found_out sqlite3 'shorten to half: `fold` and `resize`; `delete`: sqlite3 has' '*delete*' ':'
+    is_found_out sqlite3 'sqlite3 made no shorter file' '*vacuum*' ':'
+    is_found_out sqlite3 "Command '['sqlite3'," '*.tokens' 'exit 3'
+    tells 'exit status 3'
+)
+
+without_a_peer_there_are_no_figures() (
+    has python3 'the job over tokens' || exit "$is_skipped"
+    repository_of_tokens
+    ln -s "$(python3 -c 'import sys; print(sys.executable)')" "$work/tools/python3"
+    status=0
+    PATH=$work/tools "$there/bench/tokens" "$work/files" 1 2000 >"$out" 2>"$err" || status=$?
+    cat "$err"
+    [ "$status" -eq 1 ]
+    [ ! -s "$out" ]
+    tells 'bench/tokens: there is no sqlite3'
+    [ -z "$(ls "$work/files")" ]
 )

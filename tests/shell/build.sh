@@ -2,24 +2,47 @@
 
 # ---- the script that builds the program, with a toolchain that only seems one
 
-# A repository of one source, in which 'rt' makes a program that prints its words, and a build's own output.
+# A repository of one source, in which 'rt ci' says of each crate that it is proved, and makes a program that prints its
+# words. A crate with a file 'broken' fails.
 seeming_repository() {
     there=$work/there
-    mkdir -p "$there/crates/cvec/src" "$there/bin"
+    mkdir -p "$there/crates/cvec/src" "$there/bin" "$there/tools"
     cp "$top/cvec" "$top/build" "$there"
+    cp "$top/tools/crates.py" "$there/tools"
     echo 'cvec: clap' >"$there/crates.txt"
     touch -d '1 hour ago' "$there/crates.txt" "$there/HANDLES" "$there/crates/cvec/src/main.rt"
     cat >"$there/bin/rt" <<'RT'
 #!/bin/sh
 echo 'a line of the build'
-echo 'a fault of the build' >&2
-[ ! -e broken ] || exit 1
-mkdir -p out/rlib
-[ "$1" = run ] || exit 0
-printf '#!/bin/sh\necho "made with $1"\n' >"out/${PWD##*/}"
-chmod +x "out/${PWD##*/}"
+[ "$1" = ci ] || exit 2
+for crate in $(sed 's/[: ].*//' crates.txt); do
+    echo "== $crate"
+    echo "a line of $crate"
+    if [ -e "crates/$crate/broken" ]; then
+        echo "a fault of $crate" >&2
+        echo "rt: $crate NOT PROVED"
+        exit 1
+    fi
+    mkdir -p "crates/$crate/out/rlib"
+    if [ -e "crates/$crate/src/main.rt" ]; then
+        printf '#!/bin/sh\necho "made with $1"\n' >"crates/$crate/out/$crate"
+        chmod +x "crates/$crate/out/$crate"
+    fi
+    echo "rt: $crate proved"
+done
 RT
     chmod +x "$there/bin/rt"
+    cat >"$there/bin/rtlib.py" <<'RTLIB'
+import os
+
+
+class Crate:
+    def __init__(self, folder, root, known):
+        self.folder = folder
+
+    def stamp(self):
+        return f"sources of {os.path.basename(self.folder)}"
+RTLIB
 }
 
 # Runs its script with a word, as 'run' runs the program, where 'rt' is found by this path.
@@ -81,7 +104,7 @@ a_newer_contract_or_proof_is_built_again() (
 one_build_works_in_a_repository_at_a_time() (
     seeming_repository
     of_three_crates
-    sed -i "1a echo \"begin \${PWD##*/}\" >>'$there/calls'; sleep 0.5; trap 'echo end >>\"$there/calls\"' EXIT" "$there/bin/rt"
+    sed -i "1a echo begin >>'$there/calls'; sleep 0.5; trap 'echo end >>\"$there/calls\"' EXIT" "$there/bin/rt"
     export PATH="$there/bin:/usr/bin:/bin"
     "$there/build" cvec 2>"$work/first" &
     first=$!
@@ -90,12 +113,12 @@ one_build_works_in_a_repository_at_a_time() (
     wait $first
     tells 'another build is under way here: waiting for it'
     if grep -q 'another build' "$work/first"; then return 1; fi
-    [ "$(awk '/^begin/ { if (begun++) exit 1 } /^end/ { begun-- } END { print "one by one" }' "$there/calls")" = 'one by one' ]
+    [ "$(paste -sd ' ' "$there/calls")" = 'begin end begin end' ]
 )
 
 a_source_that_is_edited_in_a_build_is_built_again() (
     seeming_repository
-    sed -i '1a sleep 0.1; touch src/main.rt' "$there/bin/rt"
+    sed -i "1a sleep 0.1; touch '$there/crates/cvec/src/main.rt'" "$there/bin/rt"
     with_toolchain
     with_toolchain
     [ "$(cat "$out")" = 'made with word' ]
@@ -137,71 +160,90 @@ a_build_that_fails_is_told_whole() (
     [ "$status" -eq 1 ]
     [ ! -s "$out" ]
     tells 'a line of the build'
-    tells 'a fault of the build'
+    tells 'a fault of cvec'
     tells 'cvec: the program was not built'
 )
 
-# Three crates, each on the one before. One that has a file 'broken' fails.
+# Three crates, each on the one before, and one that the program doesn't stand on.
 of_three_crates() {
-    printf 'low: clap\nmiddle: low\ncvec: middle clap\n' >"$there/crates.txt"
-    mkdir -p "$there/crates/low/src" "$there/crates/middle/src"
+    printf '# lowest first\nlow: clap\n\nmiddle: low\nbeside: low\ncvec: middle clap\n' >"$there/crates.txt"
+    mkdir -p "$there/crates/low/src" "$there/crates/middle/src" "$there/crates/beside/src"
     touch -d '1 hour ago' "$there/crates/low/src/lib.rt" "$there/crates/middle/src/lib.rt" "$there/crates.txt"
 }
 
-the_libraries_are_built_in_their_order() (
+# The toolchain gets the crates that the program stands on, lowest first, with what the repository's handles allow, and
+# without what builds and the gate have left in them.
+what_a_program_stands_on_is_proved() (
     seeming_repository
     of_three_crates
-    sed -i "1a echo \"\$1 \${PWD##*/}\" >>'$there/calls'; [ ! -d ../low ] || [ \"\${PWD##*/}\" != middle ] || [ -d ../low/out/rlib ] || exit 1; sleep 1" "$there/bin/rt"
+    mkdir -p "$there/crates/low/must-fail" "$there/crates/low/out/rlib" "$there/crates/low/specs"
+    echo 'Handles allowed: Wait.' >"$there/HANDLES"
+    touch -d '1 hour ago' "$there/HANDLES" "$there/crates/low/specs/Lib.antt"
+    sed -i "1a cat HANDLES crates.txt >'$there/given'; ls crates/low >>'$there/given'; [ -e .git ] || exit 1; sleep 1" "$there/bin/rt"
     with_toolchain
     [ "$(cat "$out")" = 'made with word' ]
-    [ "$(paste -sd ' ' "$there/calls")" = 'lib low lib middle run cvec' ]
+    printf '%s\n' 'Handles allowed: Wait.' 'low: clap' 'middle: low' 'cvec: middle clap' specs src | cmp - "$there/given"
     grep -qx 'cvec: 1 of 3 crates are proved, [1-9][0-9]* s' "$err"
-    [ -d "$there/crates/low/out/rlib" ]
-    [ -d "$there/crates/middle/out/rlib" ]
 )
 
-# The number of a process's session, of which Linux shares the processors among all that there are.
-session_of() { cut -d ' ' -f 6 /proc/"$1"/stat; }
-
-# Two libraries side by side: the one that begins the longer chain has the processors.
-the_longest_chain_has_the_processors() (
-    [ "$(nproc)" -gt 1 ] || lacks 'one processor builds one library at a time' || exit $is_skipped
+# A crate's library is moved here with the note of its sources, in place of the one that was there.
+the_libraries_are_kept() (
     seeming_repository
-    printf 'long: clap\nshort: clap\ncvec: long short\n' >"$there/crates.txt"
-    mkdir -p "$there/crates/long/src" "$there/crates/short/src"
-    seq 100 >"$there/crates/long/src/lib.rt"
-    seq 10 >"$there/crates/short/src/lib.rt"
-    touch -d '1 hour ago' "$there"/crates/*/src/lib.rt "$there/crates.txt"
-    sed -i "1a nice >'$there'/nice_of_\"\${PWD##*/}\"; cut -d ' ' -f 6 /proc/\$\$/stat >>'$there/sessions'; sleep 1" "$there/bin/rt"
+    of_three_crates
+    mkdir -p "$there/crates/low/out/rlib"
+    echo 'an older one' >"$there/crates/low/out/rlib/older"
+    with_toolchain
+    [ "$(cat "$there/crates/low/out/rlib/stamp")" = 'sources of low' ]
+    [ "$(cat "$there/crates/middle/out/rlib/stamp")" = 'sources of middle' ]
+    [ "$(ls "$there/crates/low/out")" = rlib ]
+    [ "$(ls "$there/crates/low/out/rlib")" = stamp ]
+    [ ! -e "$there/crates/beside/out" ]
+)
+
+# A crate that the toolchain has passed before counts too.
+what_was_proved_before_counts() (
+    seeming_repository
+    of_three_crates
+    sed -i "s/rt: \$crate proved/rt: \$crate is kept: an earlier run proved it/; 1a sleep 1" "$there/bin/rt"
+    with_toolchain
+    grep -qx 'cvec: 1 of 3 crates are proved, [1-9][0-9]* s' "$err"
+)
+
+# Where the toolchain has another module, its libraries are made anew when they are needed.
+a_program_is_built_where_no_library_can_be_kept() (
+    seeming_repository
+    of_three_crates
+    echo 'raise ValueError("another kit")' >"$there/bin/rtlib.py"
     with_toolchain
     [ "$(cat "$out")" = 'made with word' ]
-    [ "$(cat "$there/nice_of_long")" -lt "$(cat "$there/nice_of_short")" ]
-    [ "$(sort -u "$there/sessions")" = "$(session_of self)" ]
+    tells "cvec: its libraries aren't kept: another kit"
+    [ ! -e "$there/crates/low/out/rlib" ]
 )
 
 a_library_that_fails_is_told_and_not_left() (
     seeming_repository
     of_three_crates
-    sed -i '1a mkdir -p out/rlib out/incremental' "$there/bin/rt"
     touch "$there/crates/middle/broken"
     with_toolchain
     [ "$status" -eq 1 ]
-    tells 'a fault of the build'
-    tells 'middle is not built'
-    [ -d "$there/crates/low/out/rlib" ]
-    [ -d "$there/crates/middle/out/incremental" ]
-    [ ! -e "$there/crates/middle/out/rlib" ]
-    [ ! -e "$there/crates/cvec/out/cvec" ]
+    tells 'a line of middle'
+    tells 'a fault of middle'
+    tells 'cvec is not built'
+    if tells 'a line of low'; then return 1; fi
+    [ ! -e "$there/crates/low/out" ]
+    [ ! -e "$there/crates/cvec/out" ]
 )
 
+# The toolchain is ended too.
 a_build_that_is_ended_leaves_nothing_half() (
     seeming_repository
     of_three_crates
     mkdir "$there/.git"
-    sed -i '1a mkdir -p out/rlib; sleep 5' "$there/bin/rt"
+    sed -i "1a trap 'touch \"$there/is_ended\"; exit 1' TERM; mkdir -p crates/low/out/rlib; sleep 5 & wait" "$there/bin/rt"
     status=0
     PATH=$there/bin:/usr/bin:/bin timeout 1 "$there/build" cvec 2>"$err" || status=$?
     [ "$status" -ne 0 ]
+    [ -e "$there/is_ended" ]
     [ ! -e "$there/crates/low/out/rlib" ]
     [ -z "$(ls "$there/.git")" ]
 )

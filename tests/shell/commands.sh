@@ -61,6 +61,20 @@ a_part_of_the_records_is_listed() (
     was_refused word '--count'
 )
 
+# Of 2,400,000 bytes of records only those of the part are read: fewer than 20 reads are made.
+a_part_is_listed_without_the_other_records() (
+    has_calls || exit $is_skipped
+    t=$work/t.cv
+    run create u64 "$t"
+    seq 1 300000 >"$in"
+    run append u64 "$t" --block=10000
+    run set u64 "$t" 200001 --records=7
+    run_with CALLS_FAIL=pread:20 list u64 "$t" --from=200000 --count=3
+    did '200001\n7\n200003\n'
+    run list u64 "$t" --from=1
+    seq 2 300000 | sed 's/^200002$/7/' | cmp - "$out"
+)
+
 a_file_is_upgraded() (
     a_changed_file
     run upgrade u64 "$work/t.cv" "$work/n.cv"
@@ -317,7 +331,7 @@ values_are_words_of_their_own_too() (
 
 words_that_are_missing_end_with_usage() (
     t=$work/t.cv
-    for words in 'count u64 t' 'find u64 t' 'set u64 t 0' 'set u64 t' 'resize u64 t 1' 'upgrade u64 t' 'copy u64 t' 'list u64' \
+    for words in 'count u64 t' 'find u64 t' 'set u64 t 0' 'set u64 t' 'set u64 t --input' 'set u64 t 0 --lenient' 'resize u64 t 1' 'resize u64 t 1 --parts' 'upgrade u64 t' 'copy u64 t' 'list u64' \
         'create u64' 'create u64 t --format=3' 'create u64 t --format' 'count u64 t --record' 'check u16 t' \
         'list u64 t u' 'fold u64 t --record=5' 'load u16 t' 'count u16 t --record=x'; do
         # shellcheck disable=SC2086 # each word is one
@@ -329,6 +343,101 @@ words_that_are_missing_end_with_usage() (
     [ ! -e "$t" ]
 )
 
+# The records of `set` are given by a word or by the input, and not by both.
+words_that_are_too_many_end_with_usage() (
+    a_changed_file
+    sum=$(cksum <"$work/t.cv")
+    given '8\n'
+    for words in '--records=9 --input' '--input --records 9' '--records=9 --lenient' '--input=5'; do
+        # shellcheck disable=SC2086 # each word is one
+        run set u64 "$work/t.cv" 0 $words
+        ends_with_usage 'error: '
+    done
+    run set u64 "$work/t.cv" 0 --records=9 --input
+    ends_with_usage "error: the argument '--records <records>' cannot be used with '--input'"
+    run resize u64 "$work/t.cv" 2 --record=9 --parts=2
+    ends_with_usage 'error: '
+    [ "$sum" = "$(cksum <"$work/t.cv")" ]
+)
+
+# Of all lines of the input, in order: one change, which has the bytes of that by a word.
+records_of_an_input_are_set_as_one_change() (
+    t=$work/t.cv
+    run create u64 "$t"
+    given '1 2 3 4 5 6\n'
+    run load u64 "$t"
+    cp "$t" "$work/n.cv"
+    given '7 8\n9\n'
+    run set u64 "$t" 1 --input
+    did 'ok\n'
+    run list u64 "$t"
+    did '1\n7\n8\n9\n5\n6\n'
+    run check u64 "$t"
+    did 'ok version 1 width 8 size 6 frames 2 live 1\n'
+    run set u64 "$work/n.cv" 1 --records=7,8,9
+    cmp "$work/n.cv" "$t"
+    given '2\n3'
+    run set u64 "$t" 4 --input
+    did 'ok\n'
+    given '\t4  5 \r\n 6\r\n'
+    run set u64 "$t" 0 --input --lenient
+    did 'ok\n'
+    run list u64 "$t"
+    did '4\n5\n6\n9\n2\n3\n'
+)
+
+# No record is no change, whatever START is, and nothing is written.
+an_empty_input_changes_nothing() (
+    a_changed_file
+    sum=$(cksum <"$work/t.cv")
+    given ''
+    for start in 0 9 18446744073709551615; do
+        run set u64 "$work/t.cv" $start --input
+        did 'ok\n'
+        [ "$sum" = "$(cksum <"$work/t.cv")" ]
+    done
+    run set u64 "$work/none.cv" 0 --input
+    was_refused file "$work/none.cv"
+)
+
+# The word START first, then the input, then the file.
+an_input_of_set_is_refused_before_a_file_is_opened() (
+    given '7\nx\n'
+    run set u64 "$work/none.cv" 05 --input
+    was_refused word START
+    run set u64 "$work/none.cv" 0 --input
+    was_refused 'line 2' 'line 2 of the input is no growth: "x" at its byte 1 is no record'
+    [ ! -e "$work/none.cv" ]
+    a_changed_file
+    sum=$(cksum <"$work/t.cv")
+    for lines in '7\n\n' '7\n8 \n' '7\n-1\n' '7\n8\r\n'; do
+        given "$lines"
+        run set u64 "$work/t.cv" 0 --input
+        was_refused 'line 2' 'no file was opened, and nothing was changed'
+    done
+    given '7\n8\n'
+    run set u64 "$work/t.cv" 0 --input
+    was_refused 'out of range' "$work/t.cv"
+    [ "$sum" = "$(cksum <"$work/t.cv")" ]
+)
+
+# A line of any length: what a frame takes decides, which in version 2 are 16 MiB.
+the_records_of_an_input_are_as_many_as_a_frame_takes() (
+    run create u64 "$work/one.cv"
+    run resize u64 "$work/one.cv" 140000 --record=0 --parts
+    run create u64 "$work/two.cv" --format=2
+    run resize u64 "$work/two.cv" 140000 --record=0
+    seq -s ' ' 1 140000 >"$in"
+    run set u64 "$work/one.cv" 0 --input
+    was_refused 'too large' 'give fewer at once'
+    run list u64 "$work/one.cv"
+    yes 0 | head -n 140000 | cmp - "$out"
+    run set u64 "$work/two.cv" 0 --input
+    did 'ok\n'
+    run list u64 "$work/two.cv"
+    seq 1 140000 | cmp - "$out"
+)
+
 changes_that_no_vector_takes_are_refused() (
     a_changed_file
     before=$(cksum <"$work/t.cv")
@@ -338,9 +447,47 @@ changes_that_no_vector_takes_are_refused() (
     was_refused 'out of range' "$work/t.cv"
     run clear u64 "$work/t.cv"
     was_refused unfolded 'cvec fold'
-    run resize u64 "$work/t.cv" 4294967297 --record=5
-    was_refused 'out of range' "$work/t.cv"
+    for parts in '' --parts; do
+        run resize u64 "$work/t.cv" 4294967297 --record=5 $parts
+        was_refused 'out of range' "$work/t.cv"
+        run resize u64 "$work/t.cv" 0 --record=5 $parts
+        was_refused unfolded 'cvec fold'
+    done
     [ "$before" = "$(cksum <"$work/t.cv")" ]
+)
+
+# In parts: growths of the most records that a frame takes, and one of the rest. Else a resize is what it is without the word.
+a_length_is_reached_in_parts() (
+    t=$work/t.cv
+    run create u64 "$t"
+    given '5 6\n'
+    run load u64 "$t"
+    # A frame of version 1 has 131,071 records at most, so these are three.
+    run resize u64 "$t" 262145 --record=7 --parts
+    did 'ok\n'
+    run check u64 "$t"
+    did 'ok version 1 width 8 size 262145 frames 4 live 0\n'
+    run list u64 "$t"
+    { printf '5\n6\n'; yes 7 | head -n 262143; } | cmp - "$out"
+    # The frames hold 2, 131,071, 131,071 and 1.
+    [ "$(stat -c %s "$t")" -eq $((12 + 4 * 14 + 262145 * 8)) ]
+    run resize u64 "$t" 393216 --record=8 --parts
+    did 'ok\n'
+    run check u64 "$t"
+    did 'ok version 1 width 8 size 393216 frames 5 live 0\n'
+    sum=$(cksum <"$t")
+    run resize u64 "$t" 393216 --record=8 --parts
+    did 'ok\n'
+    [ "$sum" = "$(cksum <"$t")" ]
+    run resize u64 "$t" 3 --record=8 --parts
+    did 'ok\n'
+    run list u64 "$t"
+    did '5\n6\n7\n'
+    run create u64 "$work/v.cv" --format=2
+    run resize u64 "$work/v.cv" 2097152 --record=5 --parts
+    did 'ok\n'
+    run check u64 "$work/v.cv"
+    did 'ok version 2 width 8 size 2097152 frames 2 live 0\n'
 )
 
 # A phase takes 1,048,568 growths; a frame 1 MiB of records, or, of a file of version 2, 16 MiB.
@@ -351,7 +498,7 @@ what_is_too_large_is_refused() (
     run load u64 "$work/t.cv" --seats=4
     was_refused 'too large' '`cvec append` takes any number of lines'
     run resize u64 "$work/t.cv" 131072 --record=5
-    was_refused 'too large' 'give fewer at once'
+    was_refused 'too large' '--parts takes any number'
     [ "$before" = "$(cksum <"$work/t.cv")" ]
     run resize u64 "$work/t.cv" 131071 --record=5
     did 'ok\n'

@@ -16,6 +16,12 @@ long() {
     run resize u64 "$work/t.cv" 100000 --record=5
 }
 
+# One of 131,072, which are more than a frame takes.
+longer() {
+    long
+    run resize u64 "$work/t.cv" 131072 --record=5
+}
+
 of_version_2() { run create u64 "$work/t.cv" --format=2; }
 
 folder() { mkdir "$work/t.cv"; }
@@ -167,6 +173,9 @@ a_file_that_may_not_be_used_has_its_sentence() (
     fi
     status=0
     "$@" list u64 "$work/t.cv" >"$out" 2>"$err" || status=$?
+    is_told_as 'as another user who reads' file
+    status=0
+    "$@" clear u64 "$work/t.cv" >"$out" 2>"$err" || status=$?
     is_told_as 'as another user' file
 )
 

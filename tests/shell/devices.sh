@@ -137,12 +137,12 @@ changes_that_a_full_device_takes_no_more_leave_the_file() (
 growths_that_a_full_device_takes_no_more_leave_the_file() (
     a_nearly_full_device
     given '61\n'
-    for command in load append; do
-        on_a_full_device $command u64 "$work/t.cv"
-        was_refused broken 'the device, which may be full'
-        [ "$command" = load ] || tells 'the growths of the first 0 lines stand'
-        stands_as_before
-    done
+    on_a_full_device load u64 "$work/t.cv"
+    was_refused broken 'the device, which may be full'
+    stands_as_before
+    on_a_full_device append u64 "$work/t.cv"
+    was_refused 'disk write' 'the growths of the first 0 lines stand'
+    stands_as_before
     printf '\1\0\0\0\1\0\0\0\0\0\0\0\0\0\0\0\4\0\0\0\0\0\0\0' >"$work/requests"
     : >"$work/answers"
     on_a_full_device serve u64 "$work/t.cv" --seats=1 3<"$work/requests" 4>"$work/answers"
@@ -163,7 +163,7 @@ an_append_that_fills_a_device_leaves_the_first_lines() (
     run create u64 "$work/t.cv"
     seq 1 600 >"$in"
     on_a_full_device append u64 "$work/t.cv"
-    was_refused broken 'the growths of the first '
+    was_refused 'disk write' 'the growths of the first '
     stood=$(sed 's/.*growths of the first \([0-9]*\) lines stand.*/\1/' "$err")
     run list u64 "$work/t.cv"
     [ "$(wc -l <"$out")" -ge "$stood" ]

@@ -115,7 +115,7 @@ who_may_not_use_a_file_is_told() (
     set --
     [ "$(id -u)" -ne 0 ] || set -- setpriv --reuid=65534 --regid=65534 --clear-groups
     status=0
-    "$@" "$work/cvec" list u64 "$work/t.cv" >"$out" 2>"$err" || status=$?
+    "$@" "$work/cvec" clear u64 "$work/t.cv" >"$out" 2>"$err" || status=$?
     was_refused file 'you may not read and write it'
 )
 
@@ -180,18 +180,22 @@ one_writer_has_a_file_alone() (
             "load u64 $t" "append u64 $t" "upgrade u64 $g $t" "copy u64 $g $t" "check u64 $t" "list u64 $t" "count u64 $t --record=7" \
             "find u64 $t --record=7" "stat $t" "serve u64 $t --seats=1" "upgrade u64 $t $g" \
             "copy u64 $t $g"; do
+            # Where others only read it, who writes waits for them: locks.sh.
+            case $how$words in
+                --sharedclear* | --sharedfold* | --sharedset* | --sharedresize* | --sharedcreate* | --sharedload* | --sharedappend* | --sharedserve*) continue ;;
+            esac
             rm -f "$g"
             case $words in *"$g $t") cp "$t" "$g" ;; esac
             # shellcheck disable=SC2086 # each word is one
             run $words 3</dev/null 4>/dev/null
             case $how$words in
-                --sharedcheck*) did 'ok version 1 width 8 size 1 frames 2 live 1\n' ;;
-                --sharedlist*) did '7\n' ;;
-                --sharedcount*) did '1\n' ;;
-                --sharedfind*) did '0\n' ;;
-                --sharedstat*) did 'version 1\nwidth 8\nbytes 56\ngroups 1\nchanges 1\nshrinks 0\nfolds 0\ngrowths 1\nrecords 1\nsize 1\nlive 1\ngate 55\nbehind 0\n' ;;
-                "--sharedupgrade u64 $t"*) did 'upgraded size 1\n' ;;
-                "--sharedcopy u64 $t"*) did 'copied size 1\n' ;;
+                --exclusivecheck* | --sharedcheck*) did 'ok version 1 width 8 size 1 frames 2 live 1\n' ;;
+                --exclusivelist* | --sharedlist*) did '7\n' ;;
+                --exclusivecount* | --sharedcount*) did '1\n' ;;
+                --exclusivefind* | --sharedfind*) did '0\n' ;;
+                --exclusivestat* | --sharedstat*) did 'version 1\nwidth 8\nbytes 56\ngroups 1\nchanges 1\nshrinks 0\nfolds 0\ngrowths 1\nrecords 1\nsize 1\nlive 1\ngate 55\nbehind 0\n' ;;
+                "--sharedupgrade u64 $t"* | "--exclusiveupgrade u64 $t"*) did 'upgraded size 1\n' ;;
+                "--sharedcopy u64 $t"* | "--exclusivecopy u64 $t"*) did 'copied size 1\n' ;;
                 *) was_refused file 'another command uses it' ;;
             esac
         done

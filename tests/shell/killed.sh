@@ -106,6 +106,49 @@ a_set_that_is_killed_is_whole_or_not_there() (
     [ "$stopped" -gt 0 ]
 )
 
+# The same of an input.
+a_set_of_an_input_that_is_killed_is_whole_or_not_there() (
+    a_long_file
+    { seq 1 9; seq 1000001 1100000; seq 100010 300000; } >"$work/new"
+    seq 1000001 1100000 | paste -d ' ' - - >"$in"
+    cp "$work/long.cv" "$work/t.cv"
+    takes set u64 "$work/t.cv" 9 --input
+    for k in $(seq 1 20); do
+        cp "$work/long.cv" "$work/t.cv"
+        killed_at "$k" set u64 "$work/t.cv" 9 --input
+        lists_one_of "$work/old" "$work/new"
+        run set u64 "$work/t.cv" 9 --input
+        did 'ok\n'
+        lists_one_of "$work/new" "$work/new"
+    done
+    [ "$stopped" -gt 0 ]
+)
+
+# The records of before stand, and some of the new ones; the same command goes on.
+a_resize_in_parts_that_is_killed_goes_on() (
+    run create u64 "$work/long.cv"
+    seq 1 1000 >"$work/new"
+    yes 7 | head -n 1999000 >>"$work/new"
+    head -n 1000 "$work/new" >"$in"
+    run load u64 "$work/long.cv"
+    cp "$work/long.cv" "$work/t.cv"
+    takes resize u64 "$work/t.cv" 2000000 --record=7 --parts
+    some=0
+    for k in $(seq 1 20); do
+        cp "$work/long.cv" "$work/t.cv"
+        killed_at "$k" resize u64 "$work/t.cv" 2000000 --record=7 --parts
+        lists_a_front_of "$work/new"
+        stands=$(wc -l <"$out")
+        [ "$stands" -ge 1000 ]
+        [ "$stands" -eq 1000 ] || [ "$stands" -eq 2000000 ] || some=$((some + 1))
+        run resize u64 "$work/t.cv" 2000000 --record=7 --parts
+        did 'ok\n'
+        lists_one_of "$work/new" "$work/new"
+    done
+    [ "$stopped" -gt 0 ]
+    [ "$some" -gt 0 ]
+)
+
 a_fold_that_is_killed_goes_on() (
     a_long_file
     for at in 9 10009 20009; do

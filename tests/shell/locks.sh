@@ -2,19 +2,30 @@
 
 # ---- commands that are held while they have their file
 
-# What the first command asks waits in a pipe: its answer in one that is full, or its input in one that gives nothing.
-pipe() {
-    rm -f "$work/pipe"
-    mkfifo "$work/pipe"
-    exec 8<>"$work/pipe"
-}
+# What runs the held command: nothing, or what `does` sets.
+by=
 
-# Starts a command that is held at its answer, which is written while the file is still locked.
+# The held command's calls of the system do this (CALLS_WAIT=N), and the begin of its answer is noted.
+does() { by="env CALLS_LOG=$work/log $* LD_PRELOAD=$work/calls.so"; }
+
+# Starts a command that is held at its answer. One that writes has its file locked then.
 is_held_at_its_answer() {
     pipe
     dd if=/dev/zero of="$work/pipe" bs=4096 oflag=nonblock 2>/dev/null || :
-    "$program" "$@" <"$in" >"$work/pipe" 2>"$work/first_err" 8>&- &
+    rm -f "$work/log"
+    # shellcheck disable=SC2086 # each word is one
+    $by "$program" "$@" <"$in" >"$work/pipe" 2>"$work/first_err" 8>&- &
     first=$!
+}
+
+# Waits until the held command has begun to write its answer.
+until_answering() {
+    for _ in $(seq 1000); do
+        if grep -q '^answer ' "$work/log" 2>/dev/null; then return 0; fi
+        sleep 0.01
+    done
+    echo 'no answer is begun'
+    return 1
 }
 
 # The held command goes on, and has answered this.
@@ -29,16 +40,6 @@ goes_on_and_answers() {
     [ ! -s "$work/first_err" ]
 }
 
-# Waits until this file is locked for reading (READ) or alone (WRITE), as the system has it. Nothing is locked for that.
-until_locked() {
-    for _ in $(seq 1000); do
-        if grep -q "FLOCK .* $1 .*:$(stat -c %i "$2" 2>/dev/null || echo none) " /proc/locks; then return 0; fi
-        sleep 0.01
-    done
-    echo "no command has $2 ($1)"
-    return 1
-}
-
 # Waits until the gate at this place is open, which is the last byte that the held command writes.
 until_written() {
     for _ in $(seq 1000); do
@@ -51,18 +52,19 @@ until_written() {
 
 # ---- the second command
 
-# Runs a second command, which has 20 seconds, with pipes for a client.
-second() {
-    status=0
-    timeout 20 "$program" "$@" <"$in" >"$out" 2>"$err" 3</dev/null 4>/dev/null || status=$?
+# It ends within 5 seconds, which is less than readers are waited for.
+at_once() {
+    begun=$(date +%s%N)
+    second "$@"
+    echo "$*: $status"
+    [ $(($(date +%s%N) - begun)) -lt 5000000000 ]
 }
 
-# It is refused since another has this file.
+# It is refused at once since another has this file.
 is_kept_from() {
     name=$1
     shift
-    second "$@"
-    echo "$*: $status"
+    at_once "$@"
     answers_refusal file
     echo "cvec: $name: another command uses it; nothing was read or written; wait for its end" | cmp - "$err"
 }
@@ -76,21 +78,24 @@ writers_are_kept_from() {
     done
 }
 
-readers_are_kept_from() {
-    for words in 'check u64 FILE' 'list u64 FILE' 'count u64 FILE --record=9' 'find u64 FILE --record=9' 'stat FILE' \
-        "upgrade u64 FILE $work/no.cv" "copy u64 FILE $work/no.cv"; do
+# They read beside the first command.
+others_read() {
+    for words in 'check u64 FILE' 'list u64 FILE' 'count u64 FILE --record=9' 'find u64 FILE --record=9' 'follow u64 FILE --once' \
+        'stat FILE' "copy u64 FILE $work/no.cv"; do
+        rm -f "$work/no.cv"
         # shellcheck disable=SC2046 # each word is one
-        is_kept_from "$1" $(echo "$words" | sed "s|FILE|$1|")
+        second $(echo "$words" | sed "s|FILE|$1|")
+        echo "$words: $status"
+        [ "$status" -eq 0 ]
     done
-    [ ! -e "$work/no.cv" ]
 }
 
-# While this file is locked alone all others are kept from it, and it stays as it was.
+# While this file is locked alone all are kept from it but those that read beside who has it, and it stays as it was.
 all_are_kept_from() {
     until_locked WRITE "$1"
     sum=$(cksum <"$1")
     writers_are_kept_from "$1"
-    readers_are_kept_from "$1"
+    others_read "$1"
     [ "$(cksum <"$1")" = "$sum" ]
 }
 
@@ -100,20 +105,6 @@ the_next_one_has() {
     did 'ok\n'
     second list u64 "$1"
     did "$2"
-}
-
-has_locks_listed() { [ -r /proc/locks ] || lacks 'there is no /proc/locks to see which files are locked'; }
-
-# Two files of the records 5 and 6, one that was changed since, and the input that a second command would take.
-two_files() {
-    for name in t other; do # of 64 bytes
-        run create u64 "$work/$name.cv"
-        given '5 6\n'
-        run load u64 "$work/$name.cv"
-        run set u64 "$work/$name.cv" 1 --records=7
-        did 'ok\n'
-    done
-    given '8\n'
 }
 
 # Each command that writes is held, and what it did is there when it has ended.
@@ -134,7 +125,9 @@ a_command_that_writes_has_its_file_alone() (
 load u64 FILE=loaded 1 growths, size 3\n=5\n7\n8\n4\n4\n4\n4\n4\n4\n
 append u64 FILE=appended 1 growths, size 3\n=5\n7\n8\n4\n4\n4\n4\n4\n4\n
 set u64 FILE 0 --records:9=ok\n=9\n7\n4\n4\n4\n4\n4\n4\n4\n
+set u64 FILE 0 --input=ok\n=8\n7\n4\n4\n4\n4\n4\n4\n4\n
 resize u64 FILE 8 --record:9=ok\n=5\n7\n9\n9\n9\n9\n9\n9\n4\n
+resize u64 FILE 8 --record:9 --parts=ok\n=5\n7\n9\n9\n9\n9\n9\n9\n4\n
 fold u64 FILE=folded 1\n=5\n7\n4\n4\n4\n4\n4\n4\n4\n
 ROWS
     cp "$work/before.cv" "$t"
@@ -157,14 +150,13 @@ a_file_that_is_made_is_its_makers_alone() (
     is_held_at_its_answer upgrade u64 "$work/t.cv" "$work/two.cv"
     until_written "$work/two.cv" 11
     all_are_kept_from "$work/two.cv"
-    # Of the old file others may read, and the new one isn't theirs.
-    writers_are_kept_from "$work/t.cv"
-    second list u64 "$work/t.cv"
-    did '5\n7\n'
+    # The old file has been read, so others may write it. The new one isn't theirs.
+    at_once set u64 "$work/t.cv" 0 --records=6
+    did 'ok\n'
     is_kept_from "$work/two.cv" upgrade u64 "$work/t.cv" "$work/two.cv"
     goes_on_and_answers 'upgraded size 2\n'
     the_next_one_has "$work/two.cv" '5\n7\n4\n4\n4\n4\n4\n4\n4\n'
-    the_next_one_has "$work/t.cv" '5\n7\n4\n4\n4\n4\n4\n4\n4\n'
+    the_next_one_has "$work/t.cv" '6\n7\n4\n4\n4\n4\n4\n4\n4\n'
 )
 
 # An `append` that waits for more input has its file; what another is given to append stays unread.
@@ -208,22 +200,9 @@ waiting_words() {
     cat <<'ROWS'
 append u64 FILE=appended 1 growths, size 4\n
 load u64 FILE=loaded 1 growths, size 4\n
-list u64 FILE=5\n7\n3\n
-check u64 FILE=ok version 1 width 8 size 3 frames 3 live 1\n
-count u64 FILE --record 3=1\n
 fold u64 FILE=folded 1\n
 create u64 FILE --over=created\n
-upgrade u64 FILE NEW=upgraded size 3\n
-copy u64 FILE NEW=copied size 3\n
 ROWS
-}
-
-# An `append` has the file until its pipe ends: for a second, or for longer.
-is_taken_by_an_append() {
-    pipe
-    "$program" append u64 "$1" <"$work/pipe" >"$work/first_out" 2>"$work/first_err" 8>&- &
-    first=$!
-    until_locked WRITE "$1"
 }
 
 a_command_waits_for_another_one() (
@@ -237,14 +216,13 @@ a_command_waits_for_another_one() (
         seconds=2.5
         while IFS='=' read -r words answer; do
             cp "$work/before.cv" "$t"
-            rm -f "$work/n.cv"
             is_taken_by_an_append "$t"
             # It is held for so long, behind which it appends the record 3.
             (sleep $seconds && echo 3 >&8) &
             seconds=1
             exec 8>&-
             # shellcheck disable=SC2046 # each word is one
-            second $(echo "$words" | sed "s|FILE|$t|; s|NEW|$work/n.cv|") "$wait" 8>&-
+            second $(echo "$words" | sed "s|FILE|$t|") "$wait" 8>&-
             did "$answer"
             wait
             [ "$(cat "$work/first_out")" = 'appended 1 growths, size 3' ]
@@ -258,7 +236,7 @@ a_command_that_has_waited_is_refused() (
     t=$work/t.cv
     is_taken_by_an_append "$t"
     sum=$(cksum <"$t")
-    for words in 'append u64 FILE' 'list u64 FILE' 'stat FILE' 'create u64 FILE --over' "upgrade u64 $work/other.cv FILE"; do
+    for words in 'append u64 FILE' 'fold u64 FILE' 'create u64 FILE --over' "upgrade u64 $work/other.cv FILE"; do
         begun=$(date +%s%N)
         # shellcheck disable=SC2046 # each word is one
         second $(echo "$words" | sed "s|FILE|$t|") --wait=1
@@ -290,45 +268,14 @@ a_file_that_was_put_in_its_place_is_found() (
     did 'ok\n'
     is_taken_by_an_append "$t"
     (sleep 1 && mv "$work/other.cv" "$t") 8>&- &
-    second list u64 "$t" --wait=20
-    did ''
+    second fold u64 "$t" --wait=20
+    did 'folded 0\n'
     exec 8>&-
     wait "$first"
 )
 
-# Commands that read share the file, and whoever writes is kept from it.
-commands_that_read_share_a_file() (
-    has_locks_listed || exit $is_skipped
-    two_files
-    t=$work/t.cv
-    sum=$(cksum <"$t")
-    while IFS='=' read -r words answer; do
-        rm -f "$work/no.cv"
-        # shellcheck disable=SC2046 # each word is one
-        is_held_at_its_answer $(echo "$words" | sed "s|FILE|$t|; s|NEW|$work/no.cv|; s|:|=|")
-        until_locked READ "$t"
-        writers_are_kept_from "$t"
-        for other in 'list u64' 'stat'; do
-            # shellcheck disable=SC2086 # each word is one
-            second $other "$t"
-            [ "$status" -eq 0 ]
-        done
-        [ "$(cksum <"$t")" = "$sum" ]
-        goes_on_and_answers "$answer"
-    done <<'ROWS'
-check u64 FILE=ok version 1 width 8 size 2 frames 2 live 1\n
-list u64 FILE=5\n7\n
-count u64 FILE --record:7=1\n
-find u64 FILE --record:7=1\n
-stat FILE --json={"version":1,"width":8,"bytes":64,"groups":1,"changes":1,"shrinks":0,"folds":0,"growths":1,"records":2,"size":2,"live":1,"gate":63,"behind":0}\n
-upgrade u64 FILE NEW=upgraded size 2\n
-copy u64 FILE NEW=copied size 2\n
-ROWS
-    the_next_one_has "$t" '5\n7\n4\n4\n4\n4\n4\n4\n4\n'
-)
-
-# `load` reads its input before it opens the file, so it keeps nobody from it meanwhile. More than a pipe holds is written,
-# so some of that has been read.
+# `load` and `set` read their input before they open the file, so they keep nobody from it meanwhile. More than a pipe holds is
+# written, so some of that has been read.
 a_load_that_waits_for_its_input_keeps_nobody_out() (
     two_files
     pipe
@@ -342,4 +289,126 @@ a_load_that_waits_for_its_input_keeps_nobody_out() (
     echo 'loaded 20000 growths, size 20002' | cmp - "$work/first_out"
     second list u64 "$work/t.cv"
     { printf '2\n7\n'; seq 1 20000; } | cmp - "$out"
+)
+
+a_set_that_waits_for_its_input_keeps_nobody_out() (
+    two_files
+    pipe
+    run resize u64 "$work/t.cv" 20003 --record=6
+    "$program" set u64 "$work/t.cv" 1 --input <"$work/pipe" >"$work/first_out" 2>"$work/first_err" 8>&- &
+    first=$!
+    seq 1 20000 >&8
+    second set u64 "$work/t.cv" 0 --records=2,3,4
+    did 'ok\n'
+    exec 8>&-
+    wait "$first"
+    echo ok | cmp - "$work/first_out"
+    second list u64 "$work/t.cv"
+    { echo 2; seq 1 20000; printf '6\n6\n'; } | cmp - "$out"
+)
+
+# ---- beside commands that only read
+
+# What reads a file of the records 5 and 7, and what it answers. NEW is a new file.
+reading_words() {
+    cat <<'ROWS'
+check u64 FILE=ok version 1 width 8 size 2 frames 2 live 1\n
+list u64 FILE=5\n7\n
+list u64 FILE --from:1 --count:1=7\n
+count u64 FILE --record:7=1\n
+find u64 FILE --record:7=1\n
+stat FILE --json={"version":1,"width":8,"bytes":64,"groups":1,"changes":1,"shrinks":0,"folds":0,"growths":1,"records":2,"size":2,"live":1,"gate":63,"behind":0}\n
+upgrade u64 FILE NEW=upgraded size 2\n
+copy u64 FILE NEW=copied size 2\n
+ROWS
+}
+
+# Beside each of them, held at its answer, a second command writes 9 in place of 5 once what is given is so. Each answers as if
+# that had not been.
+is_written_beside_each() {
+    two_files
+    t=$work/t.cv
+    cp "$t" "$work/before.cv"
+    reading_words >"$work/rows"
+    while IFS='=' read -r words answer; do
+        echo "$words"
+        cp "$work/before.cv" "$t"
+        rm -f "$work/no.cv"
+        # shellcheck disable=SC2046 # each word is one
+        is_held_at_its_answer $(echo "$words" | sed "s|FILE|$t|; s|NEW|$work/no.cv|; s|:|=|g")
+        "$@"
+        at_once set u64 "$t" 0 --records=9
+        did 'ok\n'
+        kill -0 "$first"
+        second list u64 "$t"
+        did '9\n7\n'
+        goes_on_and_answers "$answer"
+        [ ! -e "$work/no.cv" ] || second list u64 "$work/no.cv"
+        [ ! -e "$work/no.cv" ] || did '5\n7\n'
+    done <"$work/rows"
+}
+
+# Whoever waits until its answer is taken keeps nobody out: the file is read.
+a_reader_that_waits_at_its_answer_keeps_nobody_out() (
+    has_calls || exit $is_skipped
+    does
+    is_written_beside_each until_answering
+)
+
+# Of a list that is longer than the program's buffer and a pipe, most isn't written yet.
+a_long_list_that_waits_keeps_nobody_out() (
+    has_calls || exit $is_skipped
+    t=$work/t.cv
+    run create u64 "$t"
+    seq 1 50000 >"$in"
+    run load u64 "$t"
+    does
+    is_held_at_its_answer list u64 "$t"
+    until_answering
+    at_once set u64 "$t" 49999 --records=9
+    did 'ok\n'
+    goes_on_and_answers "$(seq -s '\n' 1 50000)\n"
+    second find u64 "$t" --record=50000
+    did 'none\n'
+)
+
+# Each read is made half a second late, so the second command finds the file locked, and waits.
+a_command_that_writes_waits_for_those_that_read() (
+    has_calls && has_locks_listed || exit $is_skipped
+    does CALLS_WAIT=500000
+    is_read_late() { until_locked READ "$work/t.cv"; }
+    is_written_beside_each is_read_late
+)
+
+# Another process shares the file for longer than it is waited for. Others read it meanwhile, and it stays as it was.
+a_command_that_has_waited_for_readers_is_refused() (
+    command -v flock >/dev/null || lacks 'there is no flock to lock a file with' || exit $is_skipped
+    two_files
+    t=$work/t.cv
+    sum=$(cksum <"$t")
+    exec 9<"$t"
+    flock --shared 9
+    # Nobody is waited for where a new file is to be, which may be the old one.
+    for words in "copy u64 $work/other.cv $t" "upgrade u64 $work/other.cv $t" "copy u64 $t $t"; do
+        # shellcheck disable=SC2086 # each word is one
+        is_kept_from "$t" $words
+    done
+    begun=$(date +%s%N)
+    waiting=
+    for words in clear fold 'set 0 --records=9' 'resize 9 --record=9' create 'create --over' load append 'serve --seats=1' 'fold --wait=1'; do
+        (
+            out=$work/out.$words err=$work/err.$words name=${words%% *}
+            # shellcheck disable=SC2086 # each word is one
+            second "$name" u64 "$t" ${words#"$name"}
+            echo "$words: $status"
+            answers_refusal file
+            tells "cvec: $t: another command uses it; nothing was read or written; wait for its end"
+            [ $(($(date +%s%N) - begun)) -ge 10000000000 ]
+        ) &
+        waiting="$waiting $!"
+    done
+    at_once list u64 "$t"
+    did '5\n7\n'
+    for pid in $waiting; do wait "$pid"; done
+    [ "$(cksum <"$t")" = "$sum" ]
 )

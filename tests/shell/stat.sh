@@ -62,3 +62,28 @@ a_long_file_is_told_of_in_little_memory() (
     done
     [ ! -s "$err" ]
 )
+
+# Short frames and long ones, in a file that another process has: read by pieces, also where a read gives a part of one.
+frames_are_told_beside_a_writer_by_few_reads() (
+    command -v flock >/dev/null || lacks 'there is no flock to lock a file with' || exit $is_skipped
+    has_calls || exit $is_skipped
+    t=$work/t.cv
+    python3 - "$t" >"$work/wanted" <<'END'
+import struct, sys
+lengths = [10000 if i % 4000 == 3999 else i * i % 5 + 1 for i in range(20000)]
+frame = lambda n: struct.pack("<BBIII", 1, 1, 8 + 8 * n, 1, n) + bytes(8 * n)
+data = b"\1CVECSEG\1\10\0" + b"".join(map(frame, lengths)) + b"\0"
+open(sys.argv[1], "wb").write(data)
+print(f"version 1\nwidth 8\nbytes {len(data)}\ngroups 20000\nchanges 0\nshrinks 0\nfolds 0\ngrowths 20000")
+print(f"records {sum(lengths)}\nsize {sum(lengths)}\nlive 0\ngate {len(data) - 1}\nbehind 0")
+END
+    second stat "$t"
+    cmp "$out" "$work/wanted"
+    exec 9<"$t"
+    flock --exclusive 9
+    # Of 100 reads the last one fails.
+    for does in CALLS_FAIL=pread:100 CALLS_PART=1000; do
+        run_with $does stat "$t"
+        cmp "$out" "$work/wanted"
+    done
+)

@@ -24,10 +24,10 @@ creation() {
     printf '%s\n' "sync $1" "write $1 0 1 00 00" "sync $1" "write $1 1 11 43 00" "sync $1" "write $1 0 1 01 01" "sync $1"
 }
 
-# The noted calls, without the opening sync and the answer, are those of commits from this gate on: each body stands behind
+# The noted calls, without the opening syncs and the answer, are those of commits from this gate on: each body stands behind
 # the gate before it, and the last gate ends the file. Prints how many there are.
 commits_from() {
-    sed '1d; $d' "$work/calls" | awk -v file="$1" -v gate="$2" '
+    sed '$d' "$work/calls" | awk '/^write/ { begun = 1 } begun' | awk -v file="$1" -v gate="$2" '
         function fail() { print "line " NR ", gate " gate ": " $0; bad = 1; exit 1 }
         NR % 4 == 1 { if ($1 != "write" || $2 != file || $3 != gate + 1 || $4 < 7 || $6 != "00") fail(); next_gate = gate + $4 }
         NR % 4 == 2 && $0 != "sync " file { fail() }

@@ -119,7 +119,7 @@ usage_needs_no_standard_error() (
 )
 
 the_program_tells_of_itself() (
-    for command in image show play create load append serve check stat list count find set resize clear fold upgrade copy; do
+    for command in image show play create load append serve check stat list follow count find set resize clear fold upgrade copy; do
         run help $command
         [ "$status" -eq 0 ]
         [ ! -s "$err" ]
@@ -134,6 +134,8 @@ the_program_tells_of_itself() (
         [ ! -s "$err" ]
         grep -q "^$command .*   *[a-z]" "$out"
     done
+    run help play
+    grep -qxF "  \$ printf 'create\\nresize 1 5\\ncrash old\\nopen\\nlist\\n' | cvec play u64" "$out"
     for words in version --version; do
         run $words
         [ "$status" -eq 0 ]
