@@ -1,8 +1,8 @@
 #!/usr/bin/env python3
 """Four client processes append records in blocks, while the server is killed and started again ten times: each block that
 a client was told is settled stands in the file, whole and once, at the position that its growth was told. A kill comes a
-moment after some blocks of that server were told; at least half of the kills come before all are settled. Before that, a
-seat whose request an exception has left is told nothing more.
+moment after some blocks of that server were told, while its clients go on without an end; those of the last server end.
+Before that, a seat whose request an exception has left is told nothing more.
 
 serve.py PROGRAM FOLDER [RECORDS [CLIENT]]
 
@@ -23,21 +23,22 @@ RECORDS = int(sys.argv[3]) if len(sys.argv) > 3 else 1_000_000
 CLIENT_IN_C = sys.argv[4] if len(sys.argv) > 4 else None
 BLOCK, CLIENTS, KILLS = 1_000, 4, 10
 EACH = RECORDS // BLOCK // CLIENTS
+NEVER = 1 << 32  # a block that no client comes to
 PATH, LATE_PATH = os.path.join(FOLDER, "served.cv"), os.path.join(FOLDER, "late.cv")
 
 
 def block_of(client, number):
     """No two blocks of this test are alike, and each tells whose it is."""
-    first = (client * EACH + number) * BLOCK
+    first = (client * NEVER + number) * BLOCK
     return list(range(first, first + BLOCK))
 
 
-def append(seat, client, number, told):
-    """Appends from this block on until all are settled, or the server is gone. Writes each that is told as settled, with
-    its position."""
+def append(seat, client, number, end, told):
+    """Appends from this block on to the end, or until the server is gone. Writes each that is told as settled, with its
+    position."""
     try:
-        while number < EACH:
-            group = range(number, min(number + random.randint(1, 4), EACH))
+        while number < end:
+            group = range(number, min(number + random.randint(1, 4), end))
             starts = [seat.grow(block_of(client, n))[1] for n in group]
             seat.settle()
             for n, start in zip(group, starts):
@@ -48,16 +49,16 @@ def append(seat, client, number, told):
         pass
 
 
-def become_client_in_c(seat, client, number, told):
+def become_client_in_c(seat, client, number, end, told):
     """Is the client in C from here on, which appends the same blocks."""
     for descriptor in (seat.requests, seat.answers):
         os.set_inheritable(descriptor, True)
     os.dup2(told, 1)
-    words = (seat.requests, seat.answers, number, EACH, client * EACH, BLOCK)
+    words = (seat.requests, seat.answers, number, end, client * NEVER, BLOCK)
     os.execv(CLIENT_IN_C, [CLIENT_IN_C, *map(str, words)])
 
 
-def start_client(server, client, number):
+def start_client(server, client, number, end):
     """The client's process, and where it tells what is settled."""
     taken, told = os.pipe()
     pid = os.fork()
@@ -67,8 +68,8 @@ def start_client(server, client, number):
             if other != client:
                 seat.close()
         if CLIENT_IN_C and client % 2 == 1:
-            become_client_in_c(server.seats[client], client, number, told)
-        append(server.seats[client], client, number, told)
+            become_client_in_c(server.seats[client], client, number, end, told)
+        append(server.seats[client], client, number, end, told)
         os._exit(0)
     os.close(told)
     server.seats[client].close()
@@ -102,10 +103,11 @@ class Told:
 
 
 def one_server(settled, kill_after):
-    """Serves all clients until they have ended, or until a moment after so many blocks were told. Answers whether the
-    server was killed while blocks were left."""
+    """Serves all clients until each has appended its blocks, or kills the server a moment after so many blocks were told."""
     server = cvec_client.Server(PROGRAM, "u64", PATH, seats=CLIENTS)
-    clients = [start_client(server, client, len(settled[client])) for client in range(CLIENTS)]
+    numbers = [len(starts) for starts in settled]
+    ends = [number + EACH if kill_after is None else NEVER for number in numbers]
+    clients = [start_client(server, client, numbers[client], ends[client]) for client in range(CLIENTS)]
     told = Told(settled, [taken for _, taken in clients])
     if kill_after is not None:
         told.take(kill_after)
@@ -116,8 +118,8 @@ def one_server(settled, kill_after):
     for pid, _ in clients:
         assert os.waitstatus_to_exitcode(os.waitpid(pid, 0)[1]) == 0, "a client failed"
     status = server.wait()
-    assert status in ((0,) if kill_after is None else (0, -signal.SIGKILL)), f"the server ended with {status}"
-    return status != 0 and any(len(starts) < EACH for starts in settled)
+    assert status == (0 if kill_after is None else -signal.SIGKILL), f"the server ended with {status}"
+    return [len(starts) for starts in settled] == ends
 
 
 def check(settled):
@@ -130,7 +132,7 @@ def check(settled):
         assert first % BLOCK == 0 and records[at:at + BLOCK] == list(range(first, first + BLOCK)), "no block stands there"
     for client, starts in enumerate(settled):
         for number, start in enumerate(starts):
-            assert int(records[start]) == (client * EACH + number) * BLOCK, "a settled block isn't where it was told"
+            assert int(records[start]) == (client * NEVER + number) * BLOCK, "a settled block isn't where it was told"
     return len(records)
 
 
@@ -194,16 +196,14 @@ def main():
     check_left_requests()
     create(PATH)
     settled = [[] for _ in range(CLIENTS)]
-    kills = 0
     for _ in range(KILLS):
-        kills += one_server(settled, random.randint(0, CLIENTS * EACH // (2 * KILLS)))
+        one_server(settled, random.randint(0, CLIENTS * EACH // KILLS))
         check(settled)
-    assert kills >= KILLS / 2, f"only {kills} kills came before all was settled"
-    one_server(settled, None)
+    assert one_server(settled, None), "a client has blocks left"
     size = check(settled)
-    assert all(len(starts) == EACH for starts in settled), "a client has blocks left"
     os.remove(PATH)
-    print(f"{CLIENTS} clients, {kills} kills, {CLIENTS * EACH} blocks settled, {size // BLOCK} blocks stand")
+    blocks = sum(len(starts) for starts in settled)
+    print(f"{CLIENTS} clients, {KILLS} kills, {blocks} blocks settled, {size // BLOCK} blocks stand")
 
 
 main()
