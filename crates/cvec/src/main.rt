@@ -1,17 +1,8 @@
 //! `cvec`: a durable vector in a file, from a shell; and segment files as hex.
 #![tactic(auto)]
 
-mod leniently;
-mod meter;
-mod noting;
-mod paced;
 mod program;
-mod quiet;
 
-use crate::leniently::Lenient;
-use crate::meter::{Behind, Meter};
-use crate::noting::Noting;
-use crate::paced::Paced;
 use crate::program::{Outcome, System, run};
 use sentences::Sentence;
 use std::alloc::Global;
@@ -21,6 +12,7 @@ use std::process::ExitCode;
 use std::sync::Wait;
 use std::thread::Threads;
 use std::time::Clock;
+use streams::{Behind, Lenient, Meter, Noting, Paced};
 use text_core::{Refusal, Status, refuse};
 use words_core::{
     FileTask, HELP, Look, Request, Usage, read_words, usage_of, write_usage, write_wrong,

@@ -9,7 +9,6 @@ ghost use Rattle.words_core.specs.declared.request.Request.TheVariants as reques
 ghost use Rattle.filing_core.specs.Commands.{IsStatRun};
 ghost use Rattle.cvec.specs.Runs.{IsTaskRun, IsProgramRun, IsAskedRun, IsTypedCommandRun, IsIdleRun, IsComplaintRun, IsTellRun, IsToldRun};
 
-use crate::quiet::ToldUnless;
 use files_core::{Progress, refuse_file};
 use filing_core::{Filing, tell_stat};
 use image_core::{image, show};
@@ -26,6 +25,7 @@ use std::rt::Files;
 use std::sync::Wait;
 use std::thread::Threads;
 use std::time::Clock;
+use streams::ToldUnless;
 use text_core::{Refusal, Status, TextRecord, refuse, write_line, write_refusal, write_text};
 use words_core::{FileWords, RecordType, Request, StatWords, Task, WordsFault, read_words};
 

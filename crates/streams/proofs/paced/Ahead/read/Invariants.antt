@@ -1,5 +1,5 @@
 use Rattle.std.proofs.Common.{◌≡◌, ◌≤◌, length}
-use Rattle.cvec.proofs.paced.Ahead.read.Given as goal
+use Rattle.streams.proofs.paced.Ahead.read.Given as goal
 
 -- what was filled lies within what is to be filled
 abbrev pub invariant-loop : goal.invariant-loop
