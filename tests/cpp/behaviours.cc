@@ -6,7 +6,9 @@
 
 #include <algorithm>
 #include <csignal>
+#include <cstring>
 #include <fstream>
+#include <list>
 #include <map>
 #include <numeric>
 #include <sys/resource.h>
@@ -26,6 +28,10 @@ extern "C" std::uint32_t counted_read(cvec_vector_seat *seat, std::uint64_t from
 
 using numbers = cvec::concurrent_vector<std::uint64_t>;
 using list = std::vector<std::uint64_t>;
+
+struct text {
+    char bytes[8];
+};
 
 struct sample {
     std::uint64_t thread, turn;
@@ -69,6 +75,18 @@ static void growing(const std::string &path) {
     HOLDS(vector.grow_to_at_least(17, 8).position() == 14);
     HOLDS(vector.grow_to_at_least(18).position() == 17);
     HOLDS(list(vector.begin() + 14, vector.end()) == list({8, 8, 8, 0}));
+    // Ranges of other kinds: by pointers, backwards, and of rows that may begin between words.
+    const std::uint64_t raw[] = {50, 51};
+    const std::list<std::uint64_t> linked = {52, 53};
+    HOLDS(vector.grow_by(raw, raw + 2).position() == 18 && vector.grow_by(linked.begin(), linked.end()).position() == 20);
+    HOLDS(vector.grow_by(more.rbegin(), more.rend()).position() == 22);
+    HOLDS(list(vector.begin() + 18, vector.end()) == list({50, 51, 52, 53, 22, 21, 20}));
+    cvec::concurrent_vector<text> texts(path + ".texts");
+    const char bytes[] = "1abcdefghABCDEFGH";
+    text pair[2];
+    std::memcpy(pair, bytes + 1, sizeof pair);
+    texts.grow_by(pair, pair + 2);
+    HOLDS(texts.size() == 2 && std::memcmp(texts[1].bytes, "ABCDEFGH", 8) == 0);
 }
 
 static void greatest_growth(const std::string &path) {
@@ -258,8 +276,12 @@ static void appenders(const std::string &path) {
         cvec::appender<sample> moved(std::move(rows));
         moved.push_back({11, 11, 11});
         HOLDS(vector.size() == 9);
+        // One that was moved from has none, and takes rows again.
+        HOLDS(rows.buffered() == 0 && !rows.flush());
+        rows.push_back({12, 12, 12});
+        HOLDS(rows.buffered() == 1);
     }
-    HOLDS(vector.size() == 11 && vector[10].thread == 11);
+    HOLDS(vector.size() == 12 && vector[10].thread == 11 && vector[11].thread == 12);
     // Where a flush is refused, the rows are kept, and the one that was pushed isn't taken. The destructor is silent.
     cvec::appender<sample> late(vector, 2);
     late.push_back({1, 1, 1});

@@ -104,7 +104,7 @@ a_type_without_rows_is_refused_with_its_reason() (
 rows_are_grown_in_cpp() (
     behaves greatest_growth structs other_types growing
     run list u64 "$work/t.cv"
-    did '5\n7\n0\n0\n9\n9\n9\n20\n21\n22\n30\n31\n30\n31\n8\n8\n8\n0\n'
+    did '5\n7\n0\n0\n9\n9\n9\n20\n21\n22\n30\n31\n30\n31\n8\n8\n8\n0\n50\n51\n52\n53\n22\n21\n20\n'
 )
 
 rows_are_read_in_cpp() (
@@ -290,4 +290,28 @@ ranges_are_for_the_algorithms_of_onetbb() (
     make_cpp
     link_cpp -w -o "$work/parallel" "$cpp_tests/parallel.cc" -ltbb
     "$work/parallel" "$work/t.cv"
+)
+
+# ---- the works of the bench
+
+# What bench/native.cc has grown it compares itself, before it writes a figure.
+the_bench_grows_by_threads_of_cpp() (
+    has_cpp || exit $is_skipped
+    make_cpp
+    link_cpp -o "$work/native" "$top/bench/native.cc"
+    for words in 'grow block=16' 'grow block=1' 'append block=64' 'durable mode=wait1 block=16' 'durable mode=wait64 block=1' \
+        'durable mode=flow block=16'; do
+        echo "work: $words"
+        # shellcheck disable=SC2086 # each word is one
+        "$work/native" $words threads=3 n=6000 box_ms=20 "dir=$work" >"$out"
+        grep -q '"threads":3,"n":[1-9][0-9]*,"seconds":0\.[0-9]*[,}]' "$out"
+    done
+    [ -z "$(find "$work" -name '*.cvec')" ]
+    for words in read 'grow threads=1'; do
+        status=0
+        # shellcheck disable=SC2086 # each word is one
+        "$work/native" $words >"$out" 2>"$err" || status=$?
+        [ "$status" -eq 3 ]
+        [ ! -s "$out" ]
+    done
 )

@@ -474,6 +474,13 @@ template <class T> struct row {
         store(value, out.data() + end);
     }
 
+    // Whether what such an iterator walks over lies in memory as a row of words.
+    template <class Iterator>
+    static constexpr bool is_in_a_row = alignof(T) % alignof(std::uint64_t) == 0 &&
+                                        (std::is_same_v<Iterator, T *> || std::is_same_v<Iterator, const T *> ||
+                                         std::is_same_v<Iterator, typename std::vector<T>::iterator> ||
+                                         std::is_same_v<Iterator, typename std::vector<T>::const_iterator>);
+
     // The rows of a range. No seat is lent meanwhile, so the range may be one of the same vector.
     template <class Iterator> static std::vector<std::uint64_t> words_of(Iterator first, Iterator last) {
         std::vector<std::uint64_t> found;
@@ -499,6 +506,15 @@ template <class T> struct row {
 
     static growth grow(word_file &file, const std::vector<std::uint64_t> &all) {
         return grow(file, all.data(), all.size() / words);
+    }
+
+    // By a range: of rows that lie in memory as they will in the file, without a copy on the way.
+    template <class Iterator> static growth grow_range(word_file &file, Iterator first, Iterator last) {
+        if constexpr (is_in_a_row<Iterator>)
+            if (first != last)
+                return grow(file, reinterpret_cast<const std::uint64_t *>(std::addressof(*first)),
+                            static_cast<std::size_t>(last - first));
+        return grow(file, words_of(first, last));
     }
 
     // The row at a position, or nothing where the vector isn't as long.
@@ -709,7 +725,7 @@ template <class T> class concurrent_vector {
     }
 
     template <class Iterator, class = detail::category_of<Iterator>> iterator grow_by(Iterator first, Iterator last) {
-        return grow_or_end(row::words_of(first, last));
+        return first == last ? end() : iterator_to(row::grow_range(*file_, first, last));
     }
 
     iterator grow_by(std::initializer_list<T> rows) { return grow_by(rows.begin(), rows.end()); }
@@ -736,7 +752,7 @@ template <class T> class concurrent_vector {
     }
 
     template <class Iterator, class = detail::category_of<Iterator>> growth append(Iterator first, Iterator last) {
-        return row::grow(*file_, row::words_of(first, last));
+        return row::grow_range(*file_, first, last);
     }
 
     growth append(std::initializer_list<T> rows) { return append(rows.begin(), rows.end()); }
@@ -817,11 +833,11 @@ template <class T> class appender {
     using size_type = std::size_t;
 
     explicit appender(concurrent_vector<T> &vector, size_type rows = 1024)
-        : file_(vector.file_.get()), rows_(std::clamp<size_type>(rows, 1, row::most_in_growth)) {
-        words_.reserve(rows_ * row::words);
-    }
+        : file_(vector.file_.get()), rows_(std::clamp<size_type>(rows, 1, row::most_in_growth)) {}
 
-    appender(appender &&) noexcept = default;
+    appender(appender &&other) noexcept
+        : file_(other.file_), rows_(other.rows_), words_(std::move(other.words_)), buffered_(std::exchange(other.buffered_, 0)),
+          last_(other.last_) {}
     appender &operator=(appender &&) = delete;
 
     ~appender() {
@@ -833,17 +849,18 @@ template <class T> class appender {
 
     // Where it throws, this row isn't taken, and those from before are kept.
     void push_back(const T &value) {
-        if (buffered() == rows_) flush();
-        row::add(words_, value);
+        if (buffered_ * row::words == words_.size()) make_room();
+        row::store(value, words_.data() + buffered_ * row::words);
+        ++buffered_;
     }
 
     template <class... Args> void emplace_back(Args &&...args) { push_back(detail::made_of<T>(std::forward<Args>(args)...)); }
 
     // Grows by what was gathered, if anything was.
     std::optional<growth> flush() {
-        if (words_.empty()) return std::nullopt;
-        last_ = row::grow(*file_, words_);
-        words_.clear();
+        if (buffered_ == 0) return std::nullopt;
+        last_ = row::grow(*file_, words_.data(), buffered_);
+        buffered_ = 0;
         return last_;
     }
 
@@ -854,12 +871,19 @@ template <class T> class appender {
     }
 
     // How many rows are gathered, which are not in the vector yet.
-    [[nodiscard]] size_type buffered() const noexcept { return words_.size() / row::words; }
+    [[nodiscard]] size_type buffered() const noexcept { return buffered_; }
 
   private:
+    // Also one that was moved from has none.
+    void make_room() {
+        if (words_.empty()) words_.resize(rows_ * row::words);
+        flush();
+    }
+
     detail::word_file *file_;
     size_type rows_;
-    std::vector<std::uint64_t> words_;
+    std::vector<std::uint64_t> words_; // room for so many rows, or for none yet
+    size_type buffered_ = 0;
     std::optional<growth> last_;
 };
 
