@@ -6,7 +6,7 @@
 # figures, and leaves the words that it got beside itself.
 seeming_repository() {
     there=$work/there
-    mkdir -p "$there/crates/cvec_speed" "$work/tools"
+    mkdir -p "$there/crates/cvec_speed" "$there/crates/cvec_threads" "$work/tools"
     cp -r "$top/bench" "$there"
     ln -s "$top/examples" "$there"
     cat >"$work/figures" <<'FIGURES'
@@ -16,8 +16,11 @@ seeming_repository() {
 FIGURES
     cat >"$work/tools/rt" <<'TOOL'
 #!/bin/sh
-mkdir -p out && : >out/cvec_speed && chmod +x out/cvec_speed
-exit 3
+case $1 in
+doc) echo /seeming/page ;;
+lib) mkdir -p out && : >out/libcvec_threads.a ;;
+*) mkdir -p out && : >out/cvec_speed && chmod +x out/cvec_speed && exit 3 ;;
+esac
 TOOL
     cat >"$work/tools/g++" <<TOOL
 #!/bin/sh
@@ -32,9 +35,10 @@ printf '%s\n' "\$@" >"\$0.words"
 cat "$work/figures"
 TOOL
     cp "$work/tools/g++" "$work/tools/rustc"
+    cp "$work/tools/g++" "$work/tools/cc"
     chmod +x "$work/measurer" "$work/tools"/*
     PATH=$work/tools:$PATH
-    unset CXX SCRATCH
+    unset CC CXX SCRATCH
 }
 
 # Runs this script of the repository, as 'run' runs the program.
@@ -94,8 +98,10 @@ a_run_measures_own_figures_among_the_peers() (
     [ "$status" -eq 0 ]
     cmp "$work/figures" "$work/run/results.jsonl"
     printf '%s\n' "--dir=$work/run/scratch" "--ext=rust-std:$work/run/build/peers_rs" \
-        "--ext=own:$there/crates/cvec_speed/out/cvec_speed" --work=grow,append,beside,read,memory,durable,open \
-        --work=grow,durable --threads=1,4 --reps=5 | cmp - "$work/run/build/peers.words"
+        "--ext=own:$there/crates/cvec_speed/out/cvec_speed" "--ext=cpp:$work/run/build/native" \
+        --work=grow,append,beside,read,memory,durable,open --work=grow,durable --threads=1,4 --reps=5 |
+        cmp - "$work/run/build/peers.words"
+    [ -x "$work/run/build/native" ]
     grep -qx seeming "$work/run/env.txt"
     [ ! -e "$work/run/scratch" ]
     if has python3 'tables of a run'; then
