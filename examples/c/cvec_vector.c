@@ -437,3 +437,36 @@ uint32_t cvec_vector_read(cvec_vector_seat *seat, uint64_t from, uint64_t *out, 
     leave_seat(seat);
     return answer;
 }
+
+/* ---- words */
+
+const char *cvec_vector_status_text(uint32_t status) {
+    switch (status) {
+    case CVEC_DONE: return "done";
+    case CVEC_UNBORN: return "no vector was begun in the file";
+    case CVEC_NOT_SEGMENT: return "it is no segment file";
+    case CVEC_VERSION: return "the file's version isn't known";
+    case CVEC_WIDTH: return "the file's records don't have 8 bytes";
+    case CVEC_DAMAGED: return "a frame of the file is damaged";
+    case CVEC_MEMORY: return "memory was refused";
+    case CVEC_EMPTY: return "a growth has at least one record";
+    case CVEC_OUT_OF_RANGE: return "there is no such growth, or the vector would pass 2^32 records";
+    case CVEC_TOO_LARGE: return "more than 131,071 records in a growth, or not 1 to 64 seats";
+    case CVEC_FILE_FULL: return "the file would pass 2^48 bytes";
+    case CVEC_EXISTS: return "something is there already";
+    case CVEC_IN_USE: return "the file is in use";
+    case CVEC_BROKEN: return "a write or a sync has failed before: open the file again";
+    case CVEC_DISK_OPEN: return "the file can't be opened";
+    case CVEC_DISK_LENGTH: return "the file's length can't be asked";
+    case CVEC_DISK_READ: return "the file can't be read";
+    case CVEC_DISK_WRITE: return "the file can't be written";
+    case CVEC_DISK_SYNC: return "the file can't be synced: restart the system before it is opened again";
+    case CVEC_FORKED: return "a forked process can only close it";
+    case CVEC_NOT_FILE: return "a folder, a pipe or a device has this name";
+    case CVEC_NOT_SO: return "every seat is taken, or there is no such version";
+    case CVEC_AGAIN: return "another growth came first";
+    case CVEC_FULL: return "it was grown 1,048,568 times since it was opened: open it again";
+    case CVEC_BUSY: return "another thread is inside a call, or a seat isn't closed";
+    default: return "an unknown status";
+    }
+}

@@ -66,6 +66,9 @@ uint32_t cvec_vector_size(cvec_vector_seat *seat, uint64_t *size);
 /* Copies the records from position `from` on, as far as `out` and the vector reach, durable or not; *count says how many. */
 uint32_t cvec_vector_read(cvec_vector_seat *seat, uint64_t from, uint64_t *out, size_t room, uint64_t *count);
 
+/* A status in words: one sentence for each number that the functions above answer, for any caller to show. */
+const char *cvec_vector_status_text(uint32_t status);
+
 /* ---- libcvec_threads.a: proved. cvec_vector.c keeps its rules: a handle is all zero at first; it is never copied; one call
  * at a time has it; no call comes from a signal's handler or from a forked process. Pointers are never NULL, and what is
  * written overlaps nothing. A call that doesn't answer 0 writes nothing but its handles. */

@@ -80,6 +80,7 @@ def _library() -> ctypes.CDLL:
     for name, words in answers.items():
         call = getattr(lib, "cvec_vector_" + name)
         call.argtypes, call.restype = words, c_uint32
+    lib.cvec_vector_status_text.argtypes, lib.cvec_vector_status_text.restype = [c_uint32], ctypes.c_char_p
     return lib
 
 
@@ -91,10 +92,8 @@ class Error(Exception):
     """A refusal: its `status`, and the `errno` of the system's call that failed, else 0. Nothing was grown."""
 
     def __init__(self, status: int, text: str = "", errno: int = 0) -> None:
-        known = status in Status._value2member_map_
-        self.status, self.errno = Status(status) if known else status, errno
-        if not text:
-            text = Status(status).name.lower().replace("_", " ") if known else f"status {status}"
+        self.status, self.errno = Status._value2member_map_.get(status, status), errno
+        text = text or _LIB.cvec_vector_status_text(status).decode()
         super().__init__(f"{text}: {os.strerror(errno)}" if errno else text)
 
 
@@ -424,10 +423,7 @@ class Vector:
             if self._handle is None:
                 raise _closed()
             handle = c_void_p()
-            status = _LIB.cvec_vector_take_seat(self._handle, byref(handle))
-            if status == Status.NOT_SO:
-                raise Error(status, "every seat is taken")
-            _pass(status)
+            _pass(_LIB.cvec_vector_take_seat(self._handle, byref(handle)))
             self._seats.append(Seat(self, handle))
             return self._seats[-1]
 

@@ -20,7 +20,7 @@
 #![warn(missing_docs)]
 
 use std::cell::Cell;
-use std::ffi::{CString, c_char};
+use std::ffi::{CStr, CString, c_char};
 use std::fmt;
 use std::io;
 use std::marker::PhantomData;
@@ -92,34 +92,12 @@ pub enum Error {
 
 impl fmt::Display for Error {
     fn fmt(&self, f: &mut fmt::Formatter<'_>) -> fmt::Result {
-        f.write_str(match self {
-            Error::Unborn => "unborn",
-            Error::NotSegment => "not a segment",
-            Error::Version => "version",
-            Error::Width => "width",
-            Error::Damaged => "damaged",
-            Error::Memory => "memory",
-            Error::Empty => "empty",
-            Error::OutOfRange => "out of range",
-            Error::TooLarge => "too large",
-            Error::FileFull => "file full",
-            Error::Exists => "exists",
-            Error::InUse => "in use",
-            Error::Broken => "broken",
-            Error::DiskOpen(_) => "disk open",
-            Error::DiskLength(_) => "disk length",
-            Error::DiskRead(_) => "disk read",
-            Error::DiskWrite(_) => "disk write",
-            Error::DiskSync(_) => "disk sync",
-            Error::Forked => "forked",
-            Error::NotFile => "not a file",
-            Error::NoSeat => "every seat is taken",
-            Error::Full => "full",
-            Error::Busy => "busy",
-            Error::Seats => "a vector has 1 to 64 seats",
-            Error::Path => "a path has a zero byte",
-            Error::Unknown(status) => return write!(f, "status {status}"),
-        })?;
+        match self.status() {
+            // SAFETY: it gives a text that lasts, whatever the number.
+            Some(status) => f.write_str(&unsafe { CStr::from_ptr(cvec_vector_status_text(status)) }.to_string_lossy())?,
+            None if *self == Error::Seats => f.write_str("a vector has 1 to 64 seats")?,
+            None => f.write_str("a path has a zero byte")?,
+        }
         match self.errno() {
             Some(errno) => write!(f, ": {}", io::Error::from_raw_os_error(errno)),
             None => Ok(()),
@@ -130,6 +108,19 @@ impl fmt::Display for Error {
 impl std::error::Error for Error {}
 
 impl Error {
+    /// The number in `cvec.h` or `cvec_vector.h` by which C refused the call. `None`: this module refused it.
+    pub fn status(&self) -> Option<u32> {
+        match *self {
+            Error::DiskOpen(_) => Some(35),
+            Error::DiskLength(_) => Some(36),
+            Error::DiskRead(_) => Some(37),
+            Error::DiskWrite(_) => Some(38),
+            Error::DiskSync(_) => Some(39),
+            Error::Unknown(status) => Some(status),
+            _ => REFUSALS.iter().find(|it| it.1 == *self).map(|it| it.0),
+        }
+    }
+
     /// The system's number of why a call of the system failed, where one did.
     pub fn errno(&self) -> Option<i32> {
         match *self {
@@ -141,35 +132,39 @@ impl Error {
     }
 }
 
+/// C's numbers of those refusals that have none of the system.
+const REFUSALS: [(u32, Error); 18] = [
+    (1, Error::Unborn),
+    (2, Error::NotSegment),
+    (3, Error::Version),
+    (4, Error::Width),
+    (5, Error::Damaged),
+    (6, Error::Memory),
+    (7, Error::Empty),
+    (8, Error::OutOfRange),
+    (9, Error::TooLarge),
+    (10, Error::FileFull),
+    (32, Error::Exists),
+    (33, Error::InUse),
+    (34, Error::Broken),
+    (40, Error::Forked),
+    (41, Error::NotFile),
+    (64, Error::NoSeat),
+    (66, Error::Full),
+    (67, Error::Busy),
+];
+
 /// To be asked right behind the call that answered it.
 fn told(status: u32) -> Result<(), Error> {
     let errno = io::Error::last_os_error().raw_os_error().unwrap_or(0);
     Err(match status {
         0 => return Ok(()),
-        1 => Error::Unborn,
-        2 => Error::NotSegment,
-        3 => Error::Version,
-        4 => Error::Width,
-        5 => Error::Damaged,
-        6 => Error::Memory,
-        7 => Error::Empty,
-        8 => Error::OutOfRange,
-        9 => Error::TooLarge,
-        10 => Error::FileFull,
-        32 => Error::Exists,
-        33 => Error::InUse,
-        34 => Error::Broken,
         35 => Error::DiskOpen(errno),
         36 => Error::DiskLength(errno),
         37 => Error::DiskRead(errno),
         38 => Error::DiskWrite(errno),
         39 => Error::DiskSync(errno),
-        40 => Error::Forked,
-        41 => Error::NotFile,
-        64 => Error::NoSeat,
-        66 => Error::Full,
-        67 => Error::Busy,
-        _ => Error::Unknown(status),
+        _ => REFUSALS.iter().find(|it| it.0 == status).map_or(Error::Unknown(status), |it| it.1),
     })
 }
 
@@ -206,6 +201,7 @@ unsafe extern "C" {
     fn cvec_vector_settled(seat: *mut RawSeat, count: *mut u64) -> u32;
     fn cvec_vector_size(seat: *mut RawSeat, size: *mut u64) -> u32;
     fn cvec_vector_read(seat: *mut RawSeat, from: u64, out: *mut u64, room: usize, count: *mut u64) -> u32;
+    fn cvec_vector_status_text(status: u32) -> *const c_char;
 }
 
 /// A path with a zero byte is none that the system has a name for.

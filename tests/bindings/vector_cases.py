@@ -231,14 +231,14 @@ def appenders():
 # ---- refusals
 
 def each_refusal():
-    assert refusal(Vector.open, PATH) == (Status.DISK_OPEN, "disk open: No such file or directory")
+    assert refusal(Vector.open, PATH) == (Status.DISK_OPEN, "the file can't be opened: No such file or directory")
     assert refusal(Vector.open, FOLDER)[0] == refusal(Vector.create, "/dev/null")[0] == Status.NOT_FILE
     vector = Vector.create(PATH, seats=2)
-    assert refusal(Vector.open, PATH) == (Status.IN_USE, "in use") and refusal(Vector.create, PATH)[0] == Status.IN_USE
-    assert refusal(vector.grow, []) == (Status.EMPTY, "empty")
-    assert refusal(vector.grow, [1] * 131072) == (Status.TOO_LARGE, "too large")
+    assert refusal(Vector.open, PATH) == (Status.IN_USE, "the file is in use") and refusal(Vector.create, PATH)[0] == Status.IN_USE
+    assert refusal(vector.grow, []) == (Status.EMPTY, "a growth has at least one record")
+    assert refusal(vector.grow, [1] * 131072)[0] == Status.TOO_LARGE
     receipt = vector.grow([1] * 131071)
-    assert refusal(vector.settle, receipt._replace(number=1)) == (Status.OUT_OF_RANGE, "out of range")
+    assert refusal(vector.settle, receipt._replace(number=1))[0] == Status.OUT_OF_RANGE
     has_no(IndexError, lambda: vector[131071])
     seat = vector.seat()
     seat.close()
@@ -249,25 +249,34 @@ def each_refusal():
     vector.settle()
     assert vector.settled() == 1
     vector.seat().close()
-    assert refusal(vector.settled) == (Status.NOT_SO, "every seat is taken")
+    assert refusal(vector.settled) == (Status.NOT_SO, "every seat is taken, or there is no such version")
     vector.close()
     vector.close()
     for call in (vector.settled, vector.settle, vector.seat, lambda: vector[0], lambda: vector.grow([1]), lambda: len(vector)):
         assert refusal(call) == (Status.NOT_SO, "closed")
-    assert refusal(Vector.create, PATH) == (Status.EXISTS, "exists")
+    assert refusal(Vector.create, PATH) == (Status.EXISTS, "something is there already")
     assert records() == [1] * 131071
     Vector.open(PATH).grow([2])  # nobody holds the vector
     gc.collect()
     assert records()[-1] == 2
-    others = [(b"", Status.UNBORN, "unborn"), (b"\1other than ours", Status.NOT_SEGMENT, "not segment"),
-              (b"\1CVECSEG\7\10\0\0", Status.VERSION, "version"), (b"\1CVECSEG\1\4\0\0", Status.WIDTH, "width"),
-              (b"\1CVECSEG\1\10\0\1\11", Status.DAMAGED, "damaged")]
-    for there, status, text in others:
+    others = [(b"", Status.UNBORN), (b"\1other than ours", Status.NOT_SEGMENT), (b"\1CVECSEG\7\10\0\0", Status.VERSION),
+              (b"\1CVECSEG\1\4\0\0", Status.WIDTH), (b"\1CVECSEG\1\10\0\1\11", Status.DAMAGED)]
+    for there, status in others:
         with open(PATH, "wb") as file:
             file.write(there)
-        assert refusal(Vector.open, PATH) == (status, text)
+        assert refusal(Vector.open, PATH)[0] == status
         with open(PATH, "rb") as file:
             assert file.read() == there
+
+
+def each_status_has_the_sentence_of_c():
+    with open(os.path.join(os.path.dirname(os.path.abspath(__file__)), "vector_texts.txt")) as lines:
+        told = {int(number): text.rstrip("\n") for number, text in (line.split(" ", 1) for line in lines)}
+    assert {int(it) for it in Status} == told.keys() - {0, 65}
+    for it in Status:
+        assert str(Error(it)) == told[it] and str(Error(it, errno=2)) == told[it] + ": No such file or directory"
+        assert Error(int(it)).status is it
+    assert str(Error(99)) == "an unknown status" and Error(99).status == 99
 
 
 def is_locked_by_another():
@@ -341,7 +350,7 @@ def another_thread_by_the_same_seat_is_refused():
             try:
                 seats[0].size()
             except Error as fault:
-                assert (fault.status, str(fault)) == (Status.BUSY, "busy")
+                assert fault.status == Status.BUSY
                 busy.set()
 
     with Vector.create(PATH) as vector:
@@ -431,7 +440,7 @@ def a_forked_process_is_refused():
         signal.alarm(20)
         calls = (vector.seat, vector.settle, vector.settled, lambda: vector.grow([6]), lambda: len(vector), lambda: vector[0],
                  seat.settle, seat.size, lambda: seat.grow([7]), seat.close)
-        refused = all(refusal(call) == (Status.FORKED, "forked") for call in calls)
+        refused = all(refusal(call)[0] == Status.FORKED for call in calls)
         vector.close()
         vector.close()
         os.write(told[1], b"1" if refused else b"0")
@@ -461,10 +470,10 @@ def a_full_device_leaves_what_is_settled():
             vector.settle()
             settled += 1
     except Error as fault:
-        assert (fault.status, fault.errno, str(fault)) == (Status.DISK_WRITE, errno.EFBIG, "disk write: File too large")
+        assert (fault.status, fault.errno, str(fault)) == (Status.DISK_WRITE, errno.EFBIG, "the file can't be written: File too large")
     assert vector.settled() == settled > 3
     for call in (lambda: vector.grow([1]), vector.settle, vector.close):
-        assert refusal(call) == (Status.BROKEN, "broken")
+        assert refusal(call)[0] == Status.BROKEN
     assert refusal(vector.settled) == (Status.NOT_SO, "closed")
     resource.setrlimit(resource.RLIMIT_FSIZE, (hard, hard))
     kept = [it for turn in range(settled) for it in block(0, 1, turn)]

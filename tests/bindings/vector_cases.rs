@@ -24,6 +24,11 @@ fn block(round: u64, name: u64, turn: u64) -> Vec<u64> {
     std::iter::once(head).chain((1..length).map(|at| head.wrapping_mul(31).wrapping_add(at))).collect()
 }
 
+const TOO_LARGE: &str = "more than 131,071 records in a growth, or not 1 to 64 seats";
+const IN_USE: &str = "the file is in use";
+const FULL: &str = "it was grown 1,048,568 times since it was opened: open it again";
+const BROKEN: &str = "a write or a sync has failed before: open the file again";
+
 fn refused<T: Debug>(answer: Result<T, Error>, text: &str) -> Error {
     let error = answer.expect_err(text);
     assert_eq!(error.to_string(), text);
@@ -73,24 +78,57 @@ fn appends(path: &Path) -> Result<(), Error> {
     assert_eq!((out.kept(), seat.len()?), (&[6, 7][..], 6));
     drop(out);
     assert_eq!((seat.len()?, seat.appender(1)?.flush()?), (8, None));
-    refused(seat.appender(0), "empty");
-    refused(seat.appender(usize::MAX), "memory");
+    refused(seat.appender(0), "a growth has at least one record");
+    refused(seat.appender(usize::MAX), "memory was refused");
     // What is refused is kept, and nothing more.
     let mut out = seat.appender(150_000)?;
     for it in 0..150_000 {
         out.push(it)?;
     }
-    refused(out.push(5), "too large");
-    refused(out.flush(), "too large");
+    refused(out.push(5), TOO_LARGE);
+    refused(out.flush(), TOO_LARGE);
     assert_eq!((out.kept().len(), seat.len()?), (150_000, 8));
     drop(out);
     drop(seat);
     vector.close()
 }
 
+/// Each has the sentence that C has for its number, and C has no other refusals. 65 is never answered.
+fn has_the_sentences_of_c() {
+    let disk = [Error::DiskOpen(2), Error::DiskLength(2), Error::DiskRead(2), Error::DiskWrite(2), Error::DiskSync(2)];
+    let plain = [
+        Error::Unborn,
+        Error::NotSegment,
+        Error::Version,
+        Error::Width,
+        Error::Damaged,
+        Error::Memory,
+        Error::Empty,
+        Error::OutOfRange,
+        Error::TooLarge,
+        Error::FileFull,
+        Error::Exists,
+        Error::InUse,
+        Error::Broken,
+        Error::Forked,
+        Error::NotFile,
+        Error::NoSeat,
+        Error::Full,
+        Error::Busy,
+    ];
+    let mut told: Vec<_> = disk.iter().chain(&plain).map(|it| (it.status().unwrap(), it.to_string())).collect();
+    told.sort();
+    let lines = include_str!("vector_texts.txt").lines().map(|it| it.split_once(' ').unwrap());
+    let of_system = |number: u32| if (35..40).contains(&number) { ": No such file or directory (os error 2)" } else { "" };
+    let wanted: Vec<_> = lines.map(|it| (it.0.parse().unwrap(), it.1)).filter(|it| ![0, 65].contains(&it.0)).collect();
+    assert_eq!(told, wanted.iter().map(|it| (it.0, format!("{}{}", it.1, of_system(it.0)))).collect::<Vec<_>>());
+    assert_eq!((Error::Unknown(99).to_string(), Error::Seats.status(), Error::Path.status()), ("an unknown status".into(), None, None));
+}
+
 fn each_refusal(path: &Path) -> Result<(), Error> {
-    assert_eq!(refused(Vector::open(path, 1), "disk open: No such file or directory (os error 2)"), Error::DiskOpen(2));
-    refused(Vector::open(path.parent().unwrap(), 1), "not a file");
+    has_the_sentences_of_c();
+    assert_eq!(refused(Vector::open(path, 1), "the file can't be opened: No such file or directory (os error 2)"), Error::DiskOpen(2));
+    refused(Vector::open(path.parent().unwrap(), 1), "a folder, a pipe or a device has this name");
     refused(Vector::create(Path::new("a\0b"), 1), "a path has a zero byte");
     for seats in [0, MOST_SEATS + 1, u16::MAX] {
         refused(Vector::create(path, seats), "a vector has 1 to 64 seats");
@@ -98,36 +136,36 @@ fn each_refusal(path: &Path) -> Result<(), Error> {
     }
     assert!(!path.exists());
     let vector = Vector::create(path, 2)?;
-    assert_eq!(refused(Vector::open(path, 2), "in use"), Error::InUse);
-    assert_eq!(refused(Vector::create(path, 2), "in use").errno(), None);
+    assert_eq!(refused(Vector::open(path, 2), IN_USE), Error::InUse);
+    assert_eq!(refused(Vector::create(path, 2), IN_USE).errno(), None);
     let seat = vector.seat()?;
-    refused(seat.grow(&[]), "empty");
-    refused(seat.grow(&[1; 131_072]), "too large");
+    refused(seat.grow(&[]), "a growth has at least one record");
+    refused(seat.grow(&[1; 131_072]), TOO_LARGE);
     let receipt = seat.grow(&[1; 131_071])?;
-    refused(seat.settle(&Receipt { number: 1, ..receipt }), "out of range");
-    refused(seat.settle(&Receipt { number: u64::MAX, ..receipt }), "out of range");
+    refused(seat.settle(&Receipt { number: 1, ..receipt }), "there is no such growth, or the vector would pass 2^32 records");
+    refused(seat.settle(&Receipt { number: u64::MAX, ..receipt }), "there is no such growth, or the vector would pass 2^32 records");
     // The number of a seat that is dropped isn't given again.
     drop(vector.seat()?);
-    assert_eq!(refused(vector.seat(), "every seat is taken"), Error::NoSeat);
+    assert_eq!(refused(vector.seat(), "every seat is taken, or there is no such version"), Error::NoSeat);
     drop(seat);
     vector.close()?;
-    refused(Vector::create(path, 2), "exists");
+    refused(Vector::create(path, 2), "something is there already");
     // A seat that is forgotten keeps the vector open.
     let vector = Vector::open(path, 1)?;
     std::mem::forget(vector.seat()?);
-    refused(vector.close(), "busy");
-    refused(Vector::open(path, 1), "in use");
+    refused(vector.close(), "another thread is inside a call, or a seat isn't closed");
+    refused(Vector::open(path, 1), IN_USE);
     let other = path.with_extension("other");
-    let others: [(&[u8], Error, &str); 5] = [
-        (b"", Error::Unborn, "unborn"),
-        (b"\x01other bytes than those of a file", Error::NotSegment, "not a segment"),
-        (b"\x01CVECSEG\x07\x08\0\0", Error::Version, "version"),
-        (b"\x01CVECSEG\x01\x04\0\0", Error::Width, "width"),
-        (b"\x01CVECSEG\x01\x08\0\x01\x09", Error::Damaged, "damaged"),
+    let others: [(&[u8], Error); 5] = [
+        (b"", Error::Unborn),
+        (b"\x01other bytes than those of a file", Error::NotSegment),
+        (b"\x01CVECSEG\x07\x08\0\0", Error::Version),
+        (b"\x01CVECSEG\x01\x04\0\0", Error::Width),
+        (b"\x01CVECSEG\x01\x08\0\x01\x09", Error::Damaged),
     ];
-    for (there, error, text) in others {
+    for (there, error) in others {
         fs::write(&other, there).unwrap();
-        assert_eq!(refused(Vector::open(&other, 1), text), error);
+        assert_eq!(Vector::open(&other, 1).unwrap_err(), error);
         assert_eq!(fs::read(&other).unwrap(), there);
     }
     Ok(())
@@ -141,8 +179,8 @@ fn is_full(path: &Path) -> Result<(), Error> {
     for number in 0..=1_048_568 {
         out.push(number)?;
     }
-    assert_eq!((refused(out.push(5), "full"), out.kept(), seat.len()?), (Error::Full, &[1_048_568][..], 1_048_568));
-    refused(out.flush(), "full");
+    assert_eq!((refused(out.push(5), FULL), out.kept(), seat.len()?), (Error::Full, &[1_048_568][..], 1_048_568));
+    refused(out.flush(), FULL);
     drop(out);
     drop(seat);
     vector.close()?;
@@ -188,12 +226,12 @@ fn fills(path: &Path) -> Result<(), Error> {
         }
     };
     assert_eq!(error, Error::DiskWrite(27));
-    assert_eq!(error.to_string(), "disk write: File too large (os error 27)");
+    assert_eq!(error.to_string(), "the file can't be written: File too large (os error 27)");
     assert_eq!(seat.settled()?, turn);
-    refused(seat.grow(&[1]), "broken");
-    refused(seat.settle(&Receipt { number: turn, start: 0, length: 1 }), "broken");
+    refused(seat.grow(&[1]), BROKEN);
+    refused(seat.settle(&Receipt { number: turn, start: 0, length: 1 }), BROKEN);
     drop(seat);
-    refused(vector.close(), "broken");
+    refused(vector.close(), BROKEN);
     println!("{turn}");
     Ok(())
 }

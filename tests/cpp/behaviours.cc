@@ -354,7 +354,7 @@ static void refusals(const std::string &path) {
         HOLDS(vector.empty() && false);
     } catch (const cvec::error &refusal) {
         HOLDS(refusal.status() == CVEC_DISK_OPEN && refusal.system_error() == ENOENT);
-        HOLDS(std::string(refusal.what()) == "cvec: " + path + ": it can't be opened: No such file or directory");
+        HOLDS(std::string(refusal.what()) == "cvec: " + path + ": the file can't be opened: No such file or directory");
     }
     HOLDS(opens<std::uint64_t>(path, {cvec::opening::create, 3}) == CVEC_NOT_SO);
     HOLDS(opens<std::uint64_t>(path, {cvec::opening::create, 1, 0}) == CVEC_NOT_SO);

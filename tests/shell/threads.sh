@@ -1,5 +1,19 @@
 # Threads of C that grow one vector (`cvec_threads`), by examples/c/cvec_vector.c.
 
+# ---- programs, each built once, beside the folder of a test's files
+
+built=$work-built
+
+make_threads() {
+    has_c || exit $is_skipped
+    make_threads_library
+    mkdir -p "$built"
+    [ -e "$built/use" ] || compile_threads "$c/use_vector.c" "$c/cvec_vector.c" -o "$built/use"
+    [ -e "$built/behaviours" ] || compile_threads "$top/tests/threads/behaviours.c" -o "$built/behaviours"
+}
+
+# ---- the programs of the page and the example
+
 the_c_program_of_the_page_grows_and_reads() (
     has_c || exit $is_skipped
     make_threads_library
@@ -13,11 +27,9 @@ the_c_program_of_the_page_grows_and_reads() (
 
 # Eight threads, 3 records a growth, each awaited and read back; then opened again and grown further.
 threads_of_c_grow_one_vector() (
-    has_c || exit $is_skipped
-    make_threads_library
-    compile_threads "$c/use_vector.c" "$c/cvec_vector.c" -o "$work/use"
+    make_threads
     for growths in 500 1000; do
-        [ "$(timeout 60 "$work/use" "$work/t.cv" 8 500)" = 0 ]
+        [ "$(timeout 60 "$built/use" "$work/t.cv" 8 500)" = 0 ]
         run list u64 "$work/t.cv"
         [ "$(wc -l <"$out")" -eq $((growths * 8 * 3)) ]
         # Each growth in one row, and of each thread its growths in order.
@@ -34,15 +46,13 @@ threads_of_c_grow_one_vector() (
 
 # A file of version 2 that the program made, with a record that was changed.
 threads_of_c_go_on_with_a_file_of_the_program() (
-    has_c || exit $is_skipped
-    make_threads_library
-    compile_threads "$c/use_vector.c" "$c/cvec_vector.c" -o "$work/use"
+    make_threads
     run create u64 "$work/t.cv" --format=2
     given '1\n2\n3\n'
     run load u64 "$work/t.cv"
     run set u64 "$work/t.cv" 0 --records=9
     did 'ok\n'
-    [ "$(timeout 60 "$work/use" "$work/t.cv" 2 10)" = 0 ]
+    [ "$(timeout 60 "$built/use" "$work/t.cv" 2 10)" = 0 ]
     run check u64 "$work/t.cv"
     [ "$(cut -d ' ' -f -7 "$out")" = 'ok version 2 width 8 size 63' ]
     run list u64 "$work/t.cv"
@@ -52,13 +62,11 @@ threads_of_c_go_on_with_a_file_of_the_program() (
 
 # What was told to be durable stands, at whatever moment the process is killed.
 threads_of_c_that_are_killed_lose_nothing_durable() (
-    has_c || exit $is_skipped
-    make_threads_library
-    compile_threads "$top/tests/threads/behaviours.c" -o "$work/behaviours"
+    make_threads
     looked=0
     for moment in 02 05 1 2 3; do
         rm -f "$work/t.cv"
-        "$work/behaviours" grow "$work/t.cv" >"$work/told_durable" &
+        "$built/behaviours" grow "$work/t.cv" >"$work/told_durable" &
         child=$!
         sleep "0.$moment"
         kill -9 $child
@@ -77,11 +85,18 @@ threads_of_c_that_are_killed_lose_nothing_durable() (
 
 # A behaviour of the shell around the library, by its name.
 a_behaviour_of_a_vector_in_c() {
-    has_c || exit $is_skipped
-    make_threads_library
-    compile_threads "$top/tests/threads/behaviours.c" -o "$work/behaviours"
-    timeout 60 "$work/behaviours" "$1" "$work/t.cv"
+    make_threads
+    timeout 60 "$built/behaviours" "$1" "$work/t.cv"
 }
+
+# Each number that a call may answer has its sentence: the callers in other languages show just these.
+each_status_of_a_vector_has_a_sentence() (
+    a_behaviour_of_a_vector_in_c texts >"$out"
+    cmp "$top/tests/bindings/vector_texts.txt" "$out"
+    sed -n '/^enum cvec_vector_status/,/^}/s/^ *CVEC_[A-Z_]* = \([0-9]*\).*/\1/p' "$c/cvec_vector.h" >"$work/numbers"
+    [ "$(wc -l <"$work/numbers")" -gt 3 ]
+    awk '$1 >= 64 { print $1 }' "$out" | cmp - "$work/numbers"
+)
 
 a_vector_in_c_is_open_once() (
     a_behaviour_of_a_vector_in_c lock

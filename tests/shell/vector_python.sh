@@ -1,6 +1,8 @@
 # The vector that threads of Python grow (examples/python/cvec_vector.py), over the library for threads of C.
 
-# ---- the shared library, built as docs/use/threads.md says
+# ---- the shared library, built once as docs/use/threads.md says, beside the folder of a test's files
+
+built=$work-built
 
 # The Python that has numpy: the one that the path finds, or Debian's own. Where none has it, the former.
 python=python3
@@ -15,13 +17,15 @@ has_python_vector() { has_c && has python3 'the vector for Python'; }
 
 make_python_vector() {
     make_threads_library
-    cc -std=c99 -O2 -fPIC -Wall -Wextra -Werror -pedantic -c "$c/cvec_vector.c" -o "$work/cvec_vector.o"
-    cc -shared -o "$work/libcvec_vector.so" "$work/cvec_vector.o" "$threads_library" "$kit_library" -lpthread
+    mkdir -p "$built"
+    if [ -e "$built/libcvec_vector.so" ]; then return; fi
+    cc -std=c99 -O2 -fPIC -Wall -Wextra -Werror -pedantic -c "$c/cvec_vector.c" -o "$built/cvec_vector.o"
+    cc -shared -o "$built/libcvec_vector.so" "$built/cvec_vector.o" "$threads_library" "$kit_library" -lpthread
 }
 
 # Runs this program in Python with further words.
 python_vector_runs() {
-    CVEC_VECTOR_LIBRARY=$work/libcvec_vector.so PYTHONDONTWRITEBYTECODE=1 \
+    CVEC_VECTOR_LIBRARY=$built/libcvec_vector.so PYTHONDONTWRITEBYTECODE=1 \
         PYTHONPATH=$top/examples/python:$top/tests/bindings${PYTHONPATH:+:$PYTHONPATH} timeout 120 "$python" "$@"
 }
 
@@ -107,6 +111,10 @@ a_python_appender_grows_by_blocks() (
 )
 
 # ---- refusals
+
+each_status_in_python_has_the_sentence_of_c() (
+    is_so_without_numpy each_status_has_the_sentence_of_c
+)
 
 a_python_vector_names_each_refusal() (
     is_so_with_and_without_numpy each_refusal

@@ -1,29 +1,37 @@
 # The vector that threads of Rust, as rustc compiles it, grow (examples/rust/cvec_vector.rs), over the library for threads of C.
 
-# ---- its programs, built as docs/use/threads.md says
+# ---- its programs, built as docs/use/threads.md says; what several tests take once, beside the folder of a test's files
+
+built=$work-built
 
 has_rust_vector() { has_c && has rustc 'the vector for plain Rust'; }
 
 make_rust_vector() {
     make_threads_library
-    cc -std=c99 -O2 -fPIC -Wall -Wextra -Werror -pedantic -c "$c/cvec_vector.c" -o "$work/cvec_vector.o"
-    rustc --edition 2024 -D warnings --crate-type rlib --crate-name cvec_vector -o "$work/libcvec_vector.rlib" \
+    mkdir -p "$built"
+    if [ -e "$built/libcvec_vector.rlib" ]; then return; fi
+    cc -std=c99 -O2 -fPIC -Wall -Wextra -Werror -pedantic -c "$c/cvec_vector.c" -o "$built/cvec_vector.o"
+    rustc --edition 2024 -D warnings --crate-type rlib --crate-name cvec_vector -o "$built/libcvec_vector.rlib" \
         "$top/examples/rust/cvec_vector.rs"
 }
 
 # Compiles this program.
 make_rust_program() {
-    rustc --edition 2024 -D warnings -o "$2" "$1" --extern "cvec_vector=$work/libcvec_vector.rlib" \
-        -C "link-arg=$work/cvec_vector.o" -C "link-arg=$threads_library" -C "link-arg=$kit_library"
+    rustc --edition 2024 -D warnings -o "$2" "$1" --extern "cvec_vector=$built/libcvec_vector.rlib" \
+        -C "link-arg=$built/cvec_vector.o" -C "link-arg=$threads_library" -C "link-arg=$kit_library"
+}
+
+make_rust_cases() {
+    has_rust_vector || exit $is_skipped
+    make_rust_vector
+    [ -e "$built/cases" ] || make_rust_program "$top/tests/bindings/vector_cases.rs" "$built/cases"
 }
 
 # A test of tests/bindings/vector_cases.rs.
 is_so_in_rust() {
-    has_rust_vector || exit $is_skipped
-    make_rust_vector
-    make_rust_program "$top/tests/bindings/vector_cases.rs" "$work/cases"
+    make_rust_cases
     mkdir "$work/files"
-    timeout 120 "$work/cases" "$1" "$work/files/t.cv" >"$work/told_by_rust"
+    timeout 120 "$built/cases" "$1" "$work/files/t.cv" >"$work/told_by_rust"
 }
 
 # The file of that test has these lines, as the program reads it.
@@ -75,7 +83,7 @@ the_build_of_the_page_makes_both() (
 the_rust_document_compiles() (
     has_rust_vector && has rustdoc 'the examples in documents of plain Rust' || exit $is_skipped
     make_rust_vector
-    rustdoc --test --edition 2024 --crate-name cvec_vector -L "$work" "$top/examples/rust/cvec_vector.rs" >"$out"
+    rustdoc --test --edition 2024 --crate-name cvec_vector -L "$built" "$top/examples/rust/cvec_vector.rs" >"$out"
     grep -q '^test result: ok. 1 passed' "$out"
 )
 
@@ -104,7 +112,7 @@ a_rust_vector_is_full_until_it_is_opened_again() (
 a_rust_vector_is_in_use_by_another_program() (
     is_so_in_rust forks
     status=0
-    flock "$work/files/t.cv" "$work/cases" write "$work/files/t.cv" 0 1 1 >"$out" 2>"$err" || status=$?
+    flock "$work/files/t.cv" "$built/cases" write "$work/files/t.cv" 0 1 1 >"$out" 2>"$err" || status=$?
     [ "$status" -ne 0 ]
     tells InUse
     [ ! -s "$out" ]
@@ -117,12 +125,11 @@ a_forked_rust_process_is_refused_by_a_vector() (
 
 # The signal of a file that would be longer than `ulimit -f` allows doesn't end it.
 a_full_device_leaves_what_rust_settled() (
-    has python3 'what compares a file with blocks' && has_rust_vector || exit $is_skipped
-    make_rust_vector
-    make_rust_program "$top/tests/bindings/vector_cases.rs" "$work/cases"
+    has python3 'what compares a file with blocks' || exit $is_skipped
+    make_rust_cases
     (
         ulimit -f 8
-        exec "$work/cases" fills "$work/t.cv" >"$out"
+        exec "$built/cases" fills "$work/t.cv" >"$out"
     )
     PYTHONDONTWRITEBYTECODE=1 PYTHONPATH=$top/tests/bindings python3 - "$work/t.cv" "$(cat "$out")" <<'PY'
 import sys
@@ -134,7 +141,7 @@ PY
 
 compile_wrong() {
     rustc --edition 2024 --crate-type lib --emit=metadata -o "$work/wrong" "$work/wrong.rs" \
-        --extern "cvec_vector=$work/libcvec_vector.rlib" 2>"$err"
+        --extern "cvec_vector=$built/libcvec_vector.rlib" 2>"$err"
 }
 
 is_refused_by_rustc() {
@@ -168,15 +175,13 @@ the_compiler_refuses_what_a_seat_is_not_for() (
 
 # No round of kills: 8 threads with 20 growths each are all told.
 threads_of_rust_grow_whole_blocks() (
-    has python3 'what compares a file with blocks' && has_rust_vector || exit $is_skipped
-    make_rust_vector
-    make_rust_program "$top/tests/bindings/vector_cases.rs" "$work/cases"
-    PYTHONDONTWRITEBYTECODE=1 timeout 120 python3 "$top/tests/bindings/vector_killed.py" "$work/t.cv" 0 "$work/cases" write
+    has python3 'what compares a file with blocks' || exit $is_skipped
+    make_rust_cases
+    PYTHONDONTWRITEBYTECODE=1 timeout 120 python3 "$top/tests/bindings/vector_killed.py" "$work/t.cv" 0 "$built/cases" write
 )
 
 threads_of_rust_that_are_killed_lose_nothing_settled() (
-    has python3 'what compares a file with blocks' && has_rust_vector || exit $is_skipped
-    make_rust_vector
-    make_rust_program "$top/tests/bindings/vector_cases.rs" "$work/cases"
-    PYTHONDONTWRITEBYTECODE=1 timeout 120 python3 "$top/tests/bindings/vector_killed.py" "$work/t.cv" 12 "$work/cases" write
+    has python3 'what compares a file with blocks' || exit $is_skipped
+    make_rust_cases
+    PYTHONDONTWRITEBYTECODE=1 timeout 120 python3 "$top/tests/bindings/vector_killed.py" "$work/t.cv" 12 "$built/cases" write
 )

@@ -305,6 +305,16 @@ static void refusals(const char *path) {
     }
 }
 
+/* Tells each status that has a sentence of its own. */
+static void texts(const char *path) {
+    const char *unknown = cvec_vector_status_text(UINT32_MAX);
+    for (uint32_t status = 0; status < 1000; status++) {
+        const char *text = cvec_vector_status_text(status);
+        if (strcmp(text, unknown) != 0) printf("%" PRIu32 " %s\n", status, text);
+    }
+    HOLDS(access(path, F_OK) != 0);
+}
+
 /* Memory for either write of a commit is refused once: nothing is lost, and the next wait goes on. */
 static void memory(const char *path) {
     uint64_t number = 0, count = 9;
@@ -380,7 +390,7 @@ int main(int argc, char **argv) {
         void (*run)(const char *);
     } behaviours[] = {{"grow", grows},         {"lock", locks},         {"busy", is_busy},  {"fork", forks},
                       {"parts", parts},        {"faults", faults},      {"memory", memory}, {"full", full},
-                      {"too_large", too_large}, {"refusals", refusals}, {"leader", leads}};
+                      {"too_large", too_large}, {"refusals", refusals}, {"leader", leads}, {"texts", texts}};
     if (argc != 3) return 2;
     for (size_t k = 0; k < sizeof behaviours / sizeof *behaviours; k++)
         if (strcmp(argv[1], behaviours[k].name) == 0) {

@@ -37,36 +37,6 @@ namespace cvec {
 
 namespace detail {
 
-inline const char *text_of(std::uint32_t status) noexcept {
-    switch (status) {
-    case CVEC_DONE: return "done";
-    case CVEC_UNBORN: return "no vector was begun in it";
-    case CVEC_NOT_SEGMENT: return "not a segment file";
-    case CVEC_VERSION: return "a version that isn't known";
-    case CVEC_WIDTH: return "its records are no rows of this type";
-    case CVEC_DAMAGED: return "a frame of it is damaged";
-    case CVEC_MEMORY: return "memory was refused";
-    case CVEC_EMPTY: return "a growth without a row";
-    case CVEC_OUT_OF_RANGE: return "past the greatest length of a vector, or no such growth";
-    case CVEC_TOO_LARGE: return "more rows than one growth may have";
-    case CVEC_FILE_FULL: return "the file is full";
-    case CVEC_EXISTS: return "something is there already";
-    case CVEC_IN_USE: return "in use";
-    case CVEC_BROKEN: return "broken by an earlier write or sync that failed: open it again";
-    case CVEC_DISK_OPEN: return "it can't be opened";
-    case CVEC_DISK_LENGTH: return "its length can't be found";
-    case CVEC_DISK_READ: return "a read failed";
-    case CVEC_DISK_WRITE: return "a write failed";
-    case CVEC_DISK_SYNC: return "a sync failed: restart the system before it is opened again";
-    case CVEC_FORKED: return "a forked process may not use it";
-    case CVEC_NOT_FILE: return "not a file";
-    case CVEC_NOT_SO: return "no such version, or no such number of seats";
-    case CVEC_FULL: return "no more growths until it is opened again";
-    case CVEC_BUSY: return "another thread is inside a call";
-    default: return "refused";
-    }
-}
-
 inline bool is_of_the_system(std::uint32_t status) noexcept { return status >= CVEC_DISK_OPEN && status <= CVEC_DISK_SYNC; }
 
 inline std::string sentence(const std::string &path, const std::string &text, int system) {
@@ -147,7 +117,7 @@ class patience {
 class word_file {
   public:
     word_file(const std::string &path, const options &wanted) : limit_(wanted.seats), process_(::getpid()), path_(path) {
-        if (limit_ == 0 || limit_ > most_seats) refuse(CVEC_NOT_SO);
+        if (limit_ == 0 || limit_ > most_seats) refuse(CVEC_NOT_SO, "a vector has 1 to 64 seats");
         begin(wanted);
         remember_path();
         if (!seat_another()) abandon(CVEC_MEMORY);
@@ -213,7 +183,7 @@ class word_file {
     // For who looks at a length before it grows: one at a time.
     std::mutex &turn() noexcept { return turn_; }
 
-    [[noreturn]] void refuse(std::uint32_t status) const { refuse(status, text_of(status)); }
+    [[noreturn]] void refuse(std::uint32_t status) const { refuse(status, cvec_vector_status_text(status)); }
 
     [[noreturn]] void refuse(std::uint32_t status, const std::string &text) const {
         throw error(status, path_, text, is_of_the_system(status) ? errno : 0);
