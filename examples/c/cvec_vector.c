@@ -18,12 +18,15 @@ struct cvec_vector {
     int fd;
     pid_t process;
     pthread_mutex_t mutex; /* guards all below but `committer` and `made`, which who commits has */
-    pthread_cond_t settled;
+    pthread_cond_t settled;  /* a commit has ended */
+    pthread_cond_t flushing; /* a loop of a flusher is to end, or has */
     cvec_handle phase, committer;
-    uint64_t made;    /* of the calls that are listed so many are made */
-    uint64_t durable; /* so many growths are */
-    uint32_t seats;   /* that aren't closed */
-    bool committing, broken;
+    uint64_t made;     /* of the calls that are listed so many are made */
+    uint64_t durable;  /* so many growths are */
+    uint64_t begun;    /* so many growths there are, or are coming */
+    uint32_t seats;    /* that aren't closed */
+    uint32_t flushers; /* whose loops run */
+    bool committing, broken, stopped; /* stopped: no loop of a flusher goes on */
 };
 
 struct cvec_vector_seat {
@@ -38,6 +41,9 @@ static uint64_t no_room[1];
 
 /* The seats of one vector, and for how many nanoseconds a growth that came second sleeps at first and at most. */
 enum { MOST_SEATS = 64, FIRST_NAP = 2000, LONGEST_NAP = 200000 };
+
+/* No deadline is further away, in milliseconds: 31 years. */
+static const uint64_t LONGEST_WAIT = 1000000000000;
 
 /* ---- calls of the system, each made whole */
 
@@ -201,17 +207,23 @@ static void give_up(cvec_vector *vector) {
     cvec_phase_close(&vector->committer);
     if (vector->fd >= 0) close_quietly(vector->fd);
     pthread_cond_destroy(&vector->settled);
+    pthread_cond_destroy(&vector->flushing);
     pthread_mutex_destroy(&vector->mutex);
     free(vector);
 }
 
 static cvec_vector *vector_of(void) {
+    pthread_condattr_t steady;
     cvec_vector *vector = calloc(1, sizeof *vector);
     if (vector == NULL) return NULL;
     vector->fd = -1;
     vector->process = getpid();
+    pthread_condattr_init(&steady);
+    pthread_condattr_setclock(&steady, CLOCK_MONOTONIC);
     pthread_mutex_init(&vector->mutex, NULL);
-    pthread_cond_init(&vector->settled, NULL);
+    pthread_cond_init(&vector->settled, &steady);
+    pthread_cond_init(&vector->flushing, &steady);
+    pthread_condattr_destroy(&steady);
     return vector;
 }
 
@@ -287,12 +299,21 @@ static uint32_t leave(cvec_vector *vector) {
     return CVEC_FORKED;
 }
 
+/* With the mutex: ends the loops of flushers, and waits until each has. */
+static void end_flushers(cvec_vector *vector) {
+    vector->stopped = true;
+    pthread_cond_broadcast(&vector->flushing);
+    while (vector->flushers > 0) pthread_cond_wait(&vector->flushing, &vector->mutex);
+}
+
 uint32_t cvec_vector_close(cvec_vector *vector) {
     if (vector->process != getpid()) return leave(vector);
     pthread_mutex_lock(&vector->mutex);
-    uint32_t answer = vector->seats > 0 ? CVEC_BUSY : vector->broken ? CVEC_BROKEN : commit_rest(vector);
+    bool busy = vector->seats > 0;
+    if (!busy) end_flushers(vector);
+    uint32_t answer = busy ? CVEC_BUSY : vector->broken ? CVEC_BROKEN : commit_rest(vector);
     pthread_mutex_unlock(&vector->mutex);
-    if (answer == CVEC_BUSY) return answer;
+    if (busy) return answer;
     give_up(vector);
     return answer;
 }
@@ -336,11 +357,19 @@ uint32_t cvec_vector_close_seat(cvec_vector_seat *seat) {
     return CVEC_DONE;
 }
 
-static bool is_broken(cvec_vector *vector) {
+static uint32_t begin_growth(cvec_vector *vector) {
     pthread_mutex_lock(&vector->mutex);
     bool broken = vector->broken;
+    vector->begun += !broken;
     pthread_mutex_unlock(&vector->mutex);
-    return broken;
+    return broken ? CVEC_BROKEN : CVEC_DONE;
+}
+
+/* A growth that has begun was refused. */
+static void take_back(cvec_vector *vector) {
+    pthread_mutex_lock(&vector->mutex);
+    vector->begun--;
+    pthread_mutex_unlock(&vector->mutex);
 }
 
 /* Sleeps so that who came first can go on, each time longer. */
@@ -365,19 +394,55 @@ uint32_t cvec_vector_grow(cvec_vector_seat *seat, const uint64_t *records, size_
     cvec_receipt unasked;
     uint32_t answer = enter(seat);
     if (answer != CVEC_DONE) return answer;
-    answer = is_broken(seat->vector) ? CVEC_BROKEN
-                                     : grow_in_turn(seat, count > 0 ? records : no_records, count, receipt ? receipt : &unasked);
+    answer = begin_growth(seat->vector);
+    if (answer == CVEC_DONE) {
+        answer = grow_in_turn(seat, count > 0 ? records : no_records, count, receipt ? receipt : &unasked);
+        if (answer != CVEC_DONE) take_back(seat->vector);
+    }
     leave_seat(seat);
     return answer;
 }
 
-/* With the mutex: waits until so many growths are durable. */
-static uint32_t await_count(cvec_vector *vector, uint64_t count) {
+/* ---- waiting, and who commits for nobody */
+
+/* So many milliseconds from now on, by the clock of the conditions. */
+static struct timespec moment_in(uint64_t milliseconds) {
+    struct timespec moment;
+    if (milliseconds > LONGEST_WAIT) milliseconds = LONGEST_WAIT;
+    clock_gettime(CLOCK_MONOTONIC, &moment);
+    moment.tv_sec += (time_t)(milliseconds / 1000);
+    moment.tv_nsec += (long)(milliseconds % 1000) * 1000000;
+    if (moment.tv_nsec >= 1000000000) {
+        moment.tv_sec++;
+        moment.tv_nsec -= 1000000000;
+    }
+    return moment;
+}
+
+/* No moment never passes. */
+static bool has_passed(const struct timespec *moment) {
+    struct timespec now;
+    if (moment == NULL) return false;
+    clock_gettime(CLOCK_MONOTONIC, &now);
+    return now.tv_sec > moment->tv_sec || (now.tv_sec == moment->tv_sec && now.tv_nsec >= moment->tv_nsec);
+}
+
+/* With the mutex: until a commit of another has ended, and no longer than to this moment. */
+static void await_other(cvec_vector *vector, const struct timespec *until) {
+    if (until == NULL)
+        pthread_cond_wait(&vector->settled, &vector->mutex);
+    else
+        pthread_cond_timedwait(&vector->settled, &vector->mutex, until);
+}
+
+/* With the mutex: waits until so many growths are durable, for others no longer than to this moment. */
+static uint32_t await_count(cvec_vector *vector, uint64_t count, const struct timespec *until) {
     uint64_t growths = 0;
-    while (vector->durable < count) {
+    for (bool late = false; vector->durable < count; late = has_passed(until)) {
         if (vector->broken) return CVEC_BROKEN;
+        if (late) return CVEC_LATE;
         if (vector->committing) {
-            pthread_cond_wait(&vector->settled, &vector->mutex);
+            await_other(vector, until);
             continue;
         }
         uint32_t answer = lead(vector, &growths);
@@ -387,19 +452,69 @@ static uint32_t await_count(cvec_vector *vector, uint64_t count) {
     return CVEC_DONE;
 }
 
-uint32_t cvec_vector_await(cvec_vector_seat *seat, uint64_t number) {
+static uint32_t await_until(cvec_vector_seat *seat, uint64_t number, const struct timespec *until) {
     uint32_t answer = enter(seat);
     if (answer != CVEC_DONE) return answer;
-    if (number == UINT64_MAX) {
-        leave_seat(seat);
-        return CVEC_OUT_OF_RANGE;
-    }
     pthread_mutex_lock(&seat->vector->mutex);
-    answer = await_count(seat->vector, number + 1);
+    answer = number == UINT64_MAX ? CVEC_OUT_OF_RANGE : await_count(seat->vector, number + 1, until);
     pthread_mutex_unlock(&seat->vector->mutex);
     leave_seat(seat);
     return answer;
 }
+
+uint32_t cvec_vector_await(cvec_vector_seat *seat, uint64_t number) { return await_until(seat, number, NULL); }
+
+uint32_t cvec_vector_await_for(cvec_vector_seat *seat, uint64_t number, uint64_t milliseconds) {
+    struct timespec until = moment_in(milliseconds);
+    return await_until(seat, number, &until);
+}
+
+/* With the mutex: commits what there is now, by as many commits as that takes. */
+static uint32_t flush(cvec_vector *vector) {
+    const uint64_t wanted = vector->begun;
+    uint64_t growths = 1;
+    uint32_t answer = CVEC_DONE;
+    while (answer == CVEC_DONE && growths > 0 && vector->durable < wanted && !vector->stopped) {
+        if (vector->broken)
+            answer = CVEC_BROKEN;
+        else if (vector->committing)
+            await_other(vector, NULL);
+        else
+            answer = lead(vector, &growths);
+    }
+    return answer;
+}
+
+/* With the mutex: waits until this moment, or the loop is to end. */
+static void rest(cvec_vector *vector, struct timespec until) {
+    while (!vector->stopped && !has_passed(&until)) pthread_cond_timedwait(&vector->flushing, &vector->mutex, &until);
+}
+
+uint32_t cvec_vector_run_flusher(cvec_vector *vector, uint64_t every_milliseconds) {
+    uint32_t answer = CVEC_DONE;
+    if (vector->process != getpid()) return CVEC_FORKED;
+    pthread_mutex_lock(&vector->mutex);
+    vector->flushers++;
+    while (answer == CVEC_DONE && !vector->stopped) {
+        answer = vector->broken ? CVEC_BROKEN : flush(vector);
+        if (answer == CVEC_DONE) rest(vector, moment_in(every_milliseconds > 0 ? every_milliseconds : 1));
+    }
+    vector->flushers--;
+    pthread_cond_broadcast(&vector->flushing);
+    pthread_mutex_unlock(&vector->mutex);
+    return answer;
+}
+
+uint32_t cvec_vector_stop_flusher(cvec_vector *vector) {
+    if (vector->process != getpid()) return CVEC_FORKED;
+    pthread_mutex_lock(&vector->mutex);
+    vector->stopped = true;
+    pthread_cond_broadcast(&vector->flushing);
+    pthread_mutex_unlock(&vector->mutex);
+    return CVEC_DONE;
+}
+
+/* ---- reading */
 
 uint32_t cvec_vector_settled(cvec_vector_seat *seat, uint64_t *count) {
     uint32_t state;
@@ -467,6 +582,7 @@ const char *cvec_vector_status_text(uint32_t status) {
     case CVEC_AGAIN: return "another growth came first";
     case CVEC_FULL: return "it was grown 1,048,568 times since it was opened: open it again";
     case CVEC_BUSY: return "another thread is inside a call, or a seat isn't closed";
+    case CVEC_LATE: return "the time has passed: it may yet become durable";
     default: return "an unknown status";
     }
 }

@@ -18,7 +18,8 @@ enum cvec_vector_status {
     CVEC_NOT_SO = 64, /* every seat is taken, or there is no such version; of the library: a handle of another end, or none */
     CVEC_AGAIN = 65,  /* of the library alone: another growth came first */
     CVEC_FULL = 66,   /* the vector was grown 1,048,568 times since it was opened: close it, and open it again */
-    CVEC_BUSY = 67    /* another thread is inside a call by this seat; of a close: a seat isn't closed */
+    CVEC_BUSY = 67,   /* another thread is inside a call by this seat; of a close: a seat isn't closed */
+    CVEC_LATE = 68    /* of cvec_vector_await_for: the time has passed. The growth may yet become durable */
 };
 
 /* ---- cvec_vector.c: not proved */
@@ -40,8 +41,9 @@ typedef struct cvec_receipt {
 uint32_t cvec_vector_create(cvec_vector **vector, const char *path, uint8_t version, uint16_t seats);
 uint32_t cvec_vector_open(cvec_vector **vector, const char *path, uint16_t seats);
 
-/* Commits what was grown, and closes the file. CVEC_BUSY, and nothing is closed, while a seat isn't closed. Whatever else it
- * answers, the vector is gone; another number than CVEC_DONE says that growths nobody awaited may be lost. */
+/* Ends the loops of flushers and waits for these, commits what was grown, and closes the file. CVEC_BUSY, and nothing ends or
+ * is closed, while a seat isn't closed. Whatever else it answers, the vector is gone; another number than CVEC_DONE says that
+ * growths nobody awaited may be lost. */
 uint32_t cvec_vector_close(cvec_vector *vector);
 
 /* A seat, for one thread at a time. */
@@ -56,6 +58,18 @@ uint32_t cvec_vector_grow(cvec_vector_seat *seat, const uint64_t *records, size_
 
 /* Waits until the growth of that number, and each before it, is durable. Who finds that nobody commits commits for all. */
 uint32_t cvec_vector_await(cvec_vector_seat *seat, uint64_t number);
+
+/* The same, but for commits of others it waits so many milliseconds at most: CVEC_LATE. A commit that it has begun itself it
+ * ends, and begins a further one only while there is time. So with 0 it commits where nobody does, and else only looks. */
+uint32_t cvec_vector_await_for(cvec_vector_seat *seat, uint64_t number, uint64_t milliseconds);
+
+/* For a thread of the caller's, which takes no seat: commits what was grown, and so again and again, this many milliseconds
+ * (at least 1) behind the last time. CVEC_DONE: it was ended by cvec_vector_stop_flusher or the close; any other number: a
+ * commit was refused, and it ends. What was grown behind its last commit is left to who waits, or to the close. */
+uint32_t cvec_vector_run_flusher(cvec_vector *vector, uint64_t every_milliseconds);
+
+/* Ends the loops of this vector, each that is begun later too. It doesn't wait for them. */
+uint32_t cvec_vector_stop_flusher(cvec_vector *vector);
 
 /* How many growths are durable: the first ones are. It doesn't wait. */
 uint32_t cvec_vector_settled(cvec_vector_seat *seat, uint64_t *count);

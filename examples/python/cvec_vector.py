@@ -15,6 +15,7 @@ import array
 import collections
 import ctypes
 import enum
+import math
 import os
 import threading
 from ctypes import POINTER, byref, c_size_t, c_uint8, c_uint16, c_uint32, c_uint64, c_void_p
@@ -52,6 +53,7 @@ class Status(enum.IntEnum):
     NOT_SO = 64
     FULL = 66
     BUSY = 67
+    LATE = 68
 
 
 # The statuses of which errno says why.
@@ -73,6 +75,7 @@ def _library() -> ctypes.CDLL:
         "close_seat": [c_void_p],
         "grow": [c_void_p, c_void_p, c_size_t, POINTER(_Receipt)],
         "await": [c_void_p, c_uint64],
+        "await_for": [c_void_p, c_uint64, c_uint64],
         "settled": [c_void_p, POINTER(c_uint64)],
         "size": [c_void_p, POINTER(c_uint64)],
         "read": [c_void_p, c_uint64, c_void_p, c_size_t, POINTER(c_uint64)],
@@ -85,7 +88,7 @@ def _library() -> ctypes.CDLL:
 
 
 _LIB = _library()
-_AWAIT = getattr(_LIB, "cvec_vector_await")
+_AWAIT, _AWAIT_FOR = getattr(_LIB, "cvec_vector_await"), _LIB.cvec_vector_await_for
 
 
 class Error(Exception):
@@ -105,6 +108,12 @@ def _pass(status: int) -> None:
 
 def _closed() -> Error:
     return Error(Status.NOT_SO, "closed")
+
+
+def _milliseconds(seconds: float) -> int:
+    if not seconds >= 0:
+        raise ValueError("a timeout is at least 0 seconds")
+    return math.ceil(min(seconds * 1000, 2.0 ** 60))
 
 
 def _name_of(path: Any) -> bytes:
@@ -244,13 +253,15 @@ class Seat:
         self._last = receipt.number
         return Receipt(receipt.number, receipt.start // self._form.words, receipt.len // self._form.words)
 
-    def settle(self, receipt: Receipt | None = None) -> None:
+    def settle(self, receipt: Receipt | None = None, timeout: float | None = None) -> None:
         """Waits until this growth and each before it is durable; without one, all that this seat grew. Who finds that nobody
-        commits commits for all that wait. Error OUT_OF_RANGE: there is no such growth; DISK_WRITE, DISK_SYNC: the file refused
-        it, and from then on all is BROKEN."""
+        commits commits for all that wait. `timeout`: how many seconds it waits for others; then Error LATE, and the growth may
+        yet become durable. Error OUT_OF_RANGE: there is no such growth; DISK_WRITE, DISK_SYNC: the file refused it, and from
+        then on all is BROKEN."""
+        limit = () if timeout is None else (_milliseconds(timeout),)
         number = self._last if receipt is None else receipt.number
         if number >= 0:
-            self._call(_AWAIT, number)
+            self._call(_AWAIT_FOR if limit else _AWAIT, number, *limit)
         else:
             self.settled()
 
@@ -431,11 +442,11 @@ class Vector:
         """As `Seat.grow`."""
         return self.seat().grow(records)
 
-    def settle(self, receipt: Receipt | None = None) -> None:
-        """Waits until this growth and each before it is durable; without one, all that any thread has grown till now. Refusals
-        as of `Seat.settle`."""
+    def settle(self, receipt: Receipt | None = None, timeout: float | None = None) -> None:
+        """Waits until this growth and each before it is durable; without one, all that any thread has grown till now. `timeout`
+        and refusals as of `Seat.settle`."""
         last = max((seat._last for seat in list(self._seats)), default=-1)
-        self.seat().settle(receipt or (Receipt(last, 0, 0) if last >= 0 else None))
+        self.seat().settle(receipt or (Receipt(last, 0, 0) if last >= 0 else None), timeout)
 
     def settled(self) -> int:
         """How many growths are durable. It doesn't wait."""

@@ -28,6 +28,7 @@ use std::ops::{Bound, RangeBounds};
 use std::os::unix::ffi::OsStrExt;
 use std::path::Path;
 use std::ptr::{self, NonNull};
+use std::time::Duration;
 
 /// A vector has at most so many seats.
 pub const MOST_SEATS: u16 = 64;
@@ -82,6 +83,8 @@ pub enum Error {
     Full,
     /// A seat was forgotten (`std::mem::forget`): the vector stays open.
     Busy,
+    /// Of `settle_for`: the time has passed. The growth may yet become durable.
+    Late,
     /// A vector has 1 to 64 seats.
     Seats,
     /// A path has a zero byte.
@@ -133,7 +136,7 @@ impl Error {
 }
 
 /// C's numbers of those refusals that have none of the system.
-const REFUSALS: [(u32, Error); 18] = [
+const REFUSALS: [(u32, Error); 19] = [
     (1, Error::Unborn),
     (2, Error::NotSegment),
     (3, Error::Version),
@@ -152,6 +155,7 @@ const REFUSALS: [(u32, Error); 18] = [
     (64, Error::NoSeat),
     (66, Error::Full),
     (67, Error::Busy),
+    (68, Error::Late),
 ];
 
 /// To be asked right behind the call that answered it.
@@ -198,6 +202,7 @@ unsafe extern "C" {
     fn cvec_vector_close_seat(seat: *mut RawSeat) -> u32;
     fn cvec_vector_grow(seat: *mut RawSeat, records: *const u64, count: usize, receipt: *mut RawReceipt) -> u32;
     fn cvec_vector_await(seat: *mut RawSeat, number: u64) -> u32;
+    fn cvec_vector_await_for(seat: *mut RawSeat, number: u64, milliseconds: u64) -> u32;
     fn cvec_vector_settled(seat: *mut RawSeat, count: *mut u64) -> u32;
     fn cvec_vector_size(seat: *mut RawSeat, size: *mut u64) -> u32;
     fn cvec_vector_read(seat: *mut RawSeat, from: u64, out: *mut u64, room: usize, count: *mut u64) -> u32;
@@ -330,6 +335,14 @@ impl<'v> Seat<'v> {
     pub fn settle(&self, receipt: &Receipt) -> Result<(), Error> {
         // SAFETY: as above.
         told(unsafe { cvec_vector_await(self.raw.as_ptr(), receipt.number) })
+    }
+
+    /// The same, but it waits for the commits of others no longer than this: `Late`. With no time at all it commits where nobody
+    /// does, and else only looks.
+    pub fn settle_for(&self, receipt: &Receipt, longest: Duration) -> Result<(), Error> {
+        let milliseconds = u64::try_from(longest.as_nanos().div_ceil(1_000_000)).unwrap_or(u64::MAX);
+        // SAFETY: as above.
+        told(unsafe { cvec_vector_await_for(self.raw.as_ptr(), receipt.number, milliseconds) })
     }
 
     /// How many growths are durable: those with a lower number are. It doesn't wait.

@@ -3,6 +3,7 @@ numpy. What a file holds is read by the reader in tests/fuzz, which shares nothi
 import array
 import errno
 import gc
+import math
 import os
 import resource
 import signal
@@ -13,7 +14,7 @@ import time
 
 if sys.argv[3:] == ["plain"]:
     sys.modules["numpy"] = None
-from cvec_vector import Error, Status, Vector, numpy
+from cvec_vector import Error, Status, Vector, _milliseconds, numpy
 from vector_blocks import block, places_of, records_of
 
 FOLDER = sys.argv[1]
@@ -325,7 +326,7 @@ def a_seat_goes_to_the_next_thread():
             run_all([vector.settled])
             raise AssertionError("a third seat")
         except Error as fault:
-            assert fault.status == Status.NOT_SO and str(fault) == "every seat is taken"
+            assert fault.status == Status.NOT_SO and str(fault) == "every seat is taken, or there is no such version"
         goes_on.set()
         thread.join()
     assert sorted(records()) == list(range(41))
@@ -425,6 +426,34 @@ begun.wait()
         assert ended.returncode == 0 and ended.stderr == b"", ended
         assert set(records()) == {5}
         os.remove(PATH)
+
+
+def a_wait_has_a_deadline():
+    """While a thread's commit is held (tests/bindings/syncs.c), a wait for it ends when its time has passed."""
+    gate = os.environ["GATE"]
+    with Vector.create(PATH) as vector:
+        first = vector.grow([5])
+        open(gate, "w").close()
+        thread = threading.Thread(target=vector.settle, args=(first,))
+        thread.start()
+        while not os.path.exists(gate + ".held"):
+            time.sleep(0.001)
+        second = vector.grow([7])
+        for settle in (vector.settle, vector.seat().settle):
+            for words in ((None, 0), (None, 0.01), (first, 0.002), (second, 0)):
+                assert refusal(settle, *words)[0] == Status.LATE
+            for timeout in (-1, -0.001, math.nan):
+                has_no(ValueError, settle, second, timeout)
+        assert vector.settled() == 0
+        os.remove(gate)
+        thread.join()
+        vector.settle(second, timeout=math.inf)
+        assert vector.settled() == 2
+        vector.grow([11])
+        vector.settle(timeout=0)  # nobody commits: it does
+        assert vector.settled() == 3
+    assert records() == [5, 7, 11]
+    assert [_milliseconds(it) for it in (0, 0.0001, 1.5, 3, 1e30)] == [0, 1, 1500, 3000, 2 ** 60]
 
 
 # ---- a process that is forked, and a device that is full

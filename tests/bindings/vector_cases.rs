@@ -7,6 +7,7 @@ use std::io::{Write, stdout};
 use std::path::Path;
 use std::sync::atomic::{AtomicU64, Ordering};
 use std::thread;
+use std::time::Duration;
 
 unsafe extern "C" {
     fn fork() -> i32;
@@ -115,6 +116,7 @@ fn has_the_sentences_of_c() {
         Error::NoSeat,
         Error::Full,
         Error::Busy,
+        Error::Late,
     ];
     let mut told: Vec<_> = disk.iter().chain(&plain).map(|it| (it.status().unwrap(), it.to_string())).collect();
     told.sort();
@@ -169,6 +171,45 @@ fn each_refusal(path: &Path) -> Result<(), Error> {
         assert_eq!(fs::read(&other).unwrap(), there);
     }
     Ok(())
+}
+
+/// While a thread's commit is held (syncs.c), a wait for it ends when its time has passed.
+fn has_a_deadline(path: &Path) -> Result<(), Error> {
+    let gate = std::env::var("GATE").unwrap();
+    let vector = Vector::create(path, 3)?;
+    let seat = vector.seat()?;
+    let first = seat.grow(&[5])?;
+    let begun = AtomicU64::new(0);
+    fs::write(&gate, "").unwrap();
+    thread::scope(|scope| {
+        let held = scope.spawn(|| vector.seat()?.settle_for(&first, Duration::ZERO));
+        while !Path::new(&format!("{gate}.held")).exists() {
+            thread::sleep(Duration::from_millis(1));
+        }
+        let second = seat.grow(&[6])?;
+        for (receipt, longest) in [(first, Duration::ZERO), (second, Duration::from_nanos(1)), (second, Duration::from_millis(9))] {
+            refused(seat.settle_for(&receipt, longest), "the time has passed: it may yet become durable");
+        }
+        assert_eq!(seat.settled()?, 0);
+        let (vector, begun) = (&vector, &begun);
+        let longest = scope.spawn(move || {
+            let seat = vector.seat()?;
+            begun.store(1, Ordering::SeqCst);
+            seat.settle_for(&second, Duration::MAX)
+        });
+        while begun.load(Ordering::SeqCst) == 0 {
+            thread::yield_now();
+        }
+        fs::remove_file(&gate).unwrap();
+        // Who commits ends its commit, though it had no time.
+        held.join().unwrap()?;
+        longest.join().unwrap()
+    })?;
+    let third = seat.grow(&[7])?;
+    seat.settle_for(&third, Duration::ZERO)?; // nobody commits: it does
+    assert_eq!(seat.settled()?, 3);
+    drop(seat);
+    vector.close()
 }
 
 /// It takes no more growths until it is opened again.
@@ -271,6 +312,7 @@ fn main() {
         "grows_and_reads" => grows_and_reads(path),
         "appends" => appends(path),
         "each_refusal" => each_refusal(path),
+        "has_a_deadline" => has_a_deadline(path),
         "is_full" => is_full(path),
         "forks" => forks(path),
         "fills" => fills(path),

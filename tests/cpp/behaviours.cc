@@ -1,8 +1,10 @@
 // Behaviours of cvec::concurrent_vector, each by its name: behaviours NAME FILE. The status is 0 where it is as promised; else
 // a line says what isn't.
 #define cvec_vector_read counted_read
+#define cvec_vector_await_for asked_await_for
 #include "told.hpp"
 #undef cvec_vector_read
+#undef cvec_vector_await_for
 
 #include <algorithm>
 #include <csignal>
@@ -24,6 +26,17 @@ extern "C" std::uint32_t counted_read(cvec_vector_seat *seat, std::uint64_t from
                                       std::uint64_t *count) {
     ++reads;
     return cvec_vector_read(seat, from, out, room, count);
+}
+
+// For how many milliseconds the vector was asked to wait at most, and what it answers in place of its own answer.
+static std::atomic<std::uint64_t> milliseconds_asked{0};
+static std::atomic<std::uint32_t> answer_instead{CVEC_DONE};
+
+extern "C" std::uint32_t cvec_vector_await_for(cvec_vector_seat *, std::uint64_t, std::uint64_t);
+extern "C" std::uint32_t asked_await_for(cvec_vector_seat *seat, std::uint64_t number, std::uint64_t milliseconds) {
+    milliseconds_asked = milliseconds;
+    const std::uint32_t answer = answer_instead;
+    return answer == CVEC_DONE ? cvec_vector_await_for(seat, number, milliseconds) : answer;
 }
 
 using numbers = cvec::concurrent_vector<std::uint64_t>;
@@ -258,6 +271,28 @@ static void receipts(const std::string &path) {
     vector.settle();
     // Without an end of the process's own, what was settled stands.
     if (wrong == 0) ::kill(::getpid(), SIGKILL);
+}
+
+static void deadlines(const std::string &path) {
+    using namespace std::chrono_literals;
+    numbers vector(path);
+    HOLDS(vector.settle_for(0s) && vector.settled() == 0);
+    const cvec::growth first = vector.append(4), second = vector.append({5, 6});
+    // Nobody commits: it does.
+    HOLDS(vector.settle_for(first, 0s) && vector.is_settled(first));
+    vector.push_back(7);
+    HOLDS(vector.settle_for(1us) && vector.settled() == 3);
+    const auto asked = [&](auto time) { return vector.settle_for(second, time) ? milliseconds_asked.load() : 99; };
+    HOLDS(asked(0s) == 0 && asked(-5s) == 0 && asked(1ns) == 1 && asked(1500us) == 2 && asked(3s) == 3000);
+    HOLDS(asked(std::chrono::duration<double>(0.25)) == 250 && asked(24h) == 86400000);
+    HOLDS(asked(std::chrono::hours::max()) == UINT64_MAX && asked(std::chrono::nanoseconds::max()) == UINT64_MAX);
+    HOLDS(status_of([&] { static_cast<void>(vector.settle_for({9, 0, 1}, 0s)); }) == CVEC_OUT_OF_RANGE);
+    answer_instead = CVEC_LATE;
+    HOLDS(!vector.settle_for(second, 1s) && !vector.settle_for(1s));
+    answer_instead = CVEC_DISK_WRITE;
+    HOLDS(status_of([&] { static_cast<void>(vector.settle_for(1s)); }) == CVEC_DISK_WRITE);
+    vector.close();
+    HOLDS(status_of([&] { static_cast<void>(vector.settle_for(1s)); }) == CVEC_NOT_SO);
 }
 
 static void appenders(const std::string &path) {
@@ -526,6 +561,7 @@ static void renewing(const std::string &path) {
     });
     HOLDS(vector.size() == threads * each + 1 && vector.is_settled(early));
     vector.settle(early);
+    HOLDS(vector.settle_for(early, std::chrono::seconds(0)));
     HOLDS(std::max_element(last.begin(), last.end(), [](auto &a, auto &b) { return a.number < b.number; })->number ==
           threads * each);
     for (std::uint64_t k = 0; k < threads; ++k) HOLDS(vector[last[k].first] == (k + 1) * each - 1);
@@ -568,6 +604,7 @@ int main(int argc, char **argv) {
         {"shared_iterator", shared_iterator},
         {"ranges", ranges},
         {"receipts", receipts},
+        {"deadlines", deadlines},
         {"appenders", appenders},
         {"closing", closing},
         {"closing_meanwhile", closing_meanwhile},

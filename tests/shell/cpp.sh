@@ -124,6 +124,10 @@ growths_have_receipts_in_cpp() (
     did '4\n5\n6\n7\n8\n'
 )
 
+a_wait_has_a_deadline_in_cpp() (
+    behaves deadlines
+)
+
 an_appender_gathers_rows_in_cpp() (
     behaves appenders
 )

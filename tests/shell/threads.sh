@@ -138,6 +138,22 @@ a_vector_in_c_commits_for_all_who_wait() (
     a_behaviour_of_a_vector_in_c leader
 )
 
+a_wait_in_c_has_a_deadline() (
+    a_behaviour_of_a_vector_in_c late
+    rm "$work/t.cv"
+    a_behaviour_of_a_vector_in_c late_between
+)
+
+a_flusher_in_c_commits_what_nobody_awaits() (
+    a_behaviour_of_a_vector_in_c flusher
+    rm "$work/t.cv"
+    a_behaviour_of_a_vector_in_c flusher_takes_all
+)
+
+a_flusher_in_c_ends_by_what_is_refused() (
+    a_behaviour_of_a_vector_in_c flusher_fails
+)
+
 no_sanitizer_complains_of_threads_in_c() (
     has_c || exit $is_skipped
     make_threads_library

@@ -158,6 +158,13 @@ a_call_of_a_python_vector_lets_threads_run() (
     is_so_without_numpy a_call_lets_other_threads_run
 )
 
+a_wait_has_a_deadline_in_python() (
+    has_python_vector || exit $is_skipped
+    cc -shared -fPIC -o "$work/syncs.so" "$top/tests/bindings/syncs.c"
+    export LD_PRELOAD="$work/syncs.so" GATE="$work/gate"
+    is_so_without_numpy a_wait_has_a_deadline
+)
+
 a_python_vector_that_is_closed_waits_for_calls() (
     is_so_without_numpy a_close_waits_for_calls
 )

@@ -104,6 +104,14 @@ a_rust_vector_names_each_refusal() (
     yes 1 | head -n 131071 | has_lines
 )
 
+a_wait_has_a_deadline_in_rust() (
+    make_rust_cases
+    cc -shared -fPIC -o "$work/syncs.so" "$top/tests/bindings/syncs.c"
+    export LD_PRELOAD="$work/syncs.so" GATE="$work/gate"
+    is_so_in_rust has_a_deadline
+    seq 5 7 | has_lines
+)
+
 a_rust_vector_is_full_until_it_is_opened_again() (
     is_so_in_rust is_full
     { seq 0 1048567; echo 9; } | has_lines

@@ -20,6 +20,40 @@ static int interrupts;          /* whether every second call is interrupted firs
 static int turn;
 static int mallocs = -1; /* the requests for memory that pass before one is refused; none is below 0 */
 
+static int timed_waits;  /* how many waits with a deadline were begun */
+
+/* While the gate is shut, who syncs is held before it. */
+static pthread_mutex_t gate = PTHREAD_MUTEX_INITIALIZER;
+static pthread_cond_t gate_moved = PTHREAD_COND_INITIALIZER;
+static int is_shut, held;
+
+static void shut_gate(int shut) {
+    pthread_mutex_lock(&gate);
+    is_shut = shut;
+    pthread_cond_broadcast(&gate_moved);
+    pthread_mutex_unlock(&gate);
+}
+
+static void pass_gate(void) {
+    pthread_mutex_lock(&gate);
+    held++;
+    pthread_cond_broadcast(&gate_moved);
+    while (is_shut) pthread_cond_wait(&gate_moved, &gate);
+    held--;
+    pthread_mutex_unlock(&gate);
+}
+
+static void until_held(void) {
+    pthread_mutex_lock(&gate);
+    while (held == 0) pthread_cond_wait(&gate_moved, &gate);
+    pthread_mutex_unlock(&gate);
+}
+
+static int test_timedwait(pthread_cond_t *condition, pthread_mutex_t *mutex, const struct timespec *until) {
+    __atomic_add_fetch(&timed_waits, 1, __ATOMIC_SEQ_CST);
+    return pthread_cond_timedwait(condition, mutex, until);
+}
+
 static int fails(void) { return left >= 0 && left-- == 0; }
 
 static int is_interrupted(void) {
@@ -39,6 +73,7 @@ static ssize_t test_pwrite(int fd, const void *bytes, size_t len, off_t at) {
 
 static int test_fdatasync(int fd) {
     if (is_interrupted()) return -1;
+    pass_gate();
     __atomic_add_fetch(&syncs, 1, __ATOMIC_SEQ_CST);
     if (!fails()) return fdatasync(fd);
     errno = EIO;
@@ -50,7 +85,9 @@ static void *test_malloc(size_t len) { return mallocs >= 0 && mallocs-- == 0 ? N
 #define malloc test_malloc
 #define pwrite test_pwrite
 #define fdatasync test_fdatasync
+#define pthread_cond_timedwait test_timedwait
 #include "cvec_vector.c"
+#undef pthread_cond_timedwait
 #undef malloc
 #undef pwrite
 #undef fdatasync
@@ -146,6 +183,7 @@ static void is_busy(const char *path) {
     seat->busy = true; /* as another thread inside a call leaves it */
     HOLDS(grow(0, &number) == CVEC_BUSY);
     HOLDS(cvec_vector_await(seat, 0) == CVEC_BUSY);
+    HOLDS(cvec_vector_await_for(seat, 0, 1) == CVEC_BUSY);
     HOLDS(cvec_vector_size(seat, &count) == CVEC_BUSY);
     HOLDS(cvec_vector_settled(seat, &count) == CVEC_BUSY);
     HOLDS(cvec_vector_read(seat, 0, &count, 1, &count) == CVEC_BUSY);
@@ -167,6 +205,8 @@ static int is_refused_in_a_fork(void) {
     return grow(7, &number) == CVEC_FORKED && cvec_vector_await(seat, 0) == CVEC_FORKED &&
            cvec_vector_size(seat, &number) == CVEC_FORKED && cvec_vector_settled(seat, &number) == CVEC_FORKED &&
            cvec_vector_read(seat, 0, &number, 1, &number) == CVEC_FORKED && cvec_vector_take_seat(vector, &other) == CVEC_FORKED &&
+           cvec_vector_await_for(seat, 0, 1) == CVEC_FORKED && cvec_vector_run_flusher(vector, 1) == CVEC_FORKED &&
+           cvec_vector_stop_flusher(vector) == CVEC_FORKED &&
            cvec_vector_close_seat(seat) == CVEC_FORKED && cvec_vector_close(vector) == CVEC_FORKED;
 }
 
@@ -384,13 +424,209 @@ static void leads(const char *path) {
     HOLDS(syncs == before);
 }
 
+/* ---- late: a wait with a deadline, while another's commit is held */
+
+struct wait {
+    pthread_t thread;
+    cvec_vector_seat *seat;
+    uint64_t number, milliseconds;
+    uint32_t status;
+};
+
+static void *run_wait(void *work) {
+    struct wait *wait = work;
+    wait->status = cvec_vector_await_for(wait->seat, wait->number, wait->milliseconds);
+    return NULL;
+}
+
+static void begin_wait(struct wait *wait, uint64_t number, uint64_t milliseconds) {
+    wait->number = number;
+    wait->milliseconds = milliseconds;
+    pthread_create(&wait->thread, NULL, run_wait, wait);
+}
+
+static uint32_t end_of(struct wait *wait) {
+    pthread_join(wait->thread, NULL);
+    return wait->status;
+}
+
+static uint64_t settled(void) {
+    uint64_t count = 0;
+    HOLDS(cvec_vector_settled(seat, &count) == CVEC_DONE);
+    return count;
+}
+
+static void nap(void) {
+    const struct timespec time = {0, 1000000};
+    nanosleep(&time, NULL);
+}
+
+/* A first wait is held in its sync, a second one has a deadline that never comes. */
+static void hold(struct wait *first, struct wait *second, uint64_t number) {
+    int before = __atomic_load_n(&timed_waits, __ATOMIC_SEQ_CST);
+    shut_gate(1);
+    begin_wait(first, number, 0);
+    until_held();
+    begin_wait(second, number + 1, UINT64_MAX);
+    while (__atomic_load_n(&timed_waits, __ATOMIC_SEQ_CST) == before) nap();
+}
+
+static void late(const char *path) {
+    struct wait first, second;
+    uint64_t number = 0;
+    make(path, 3);
+    HOLDS(cvec_vector_take_seat(vector, &first.seat) == CVEC_DONE);
+    HOLDS(cvec_vector_take_seat(vector, &second.seat) == CVEC_DONE);
+    HOLDS(grow(0, &number) == CVEC_DONE);
+    hold(&first, &second, 0);
+    HOLDS(grow(1, &number) == CVEC_DONE && number == 1);
+    for (uint64_t milliseconds = 0; milliseconds < 30; milliseconds += 7)
+        for (number = 0; number < 2; number++) HOLDS(cvec_vector_await_for(seat, number, milliseconds) == CVEC_LATE);
+    HOLDS(settled() == 0);
+    /* A wait sleeps: it isn't woken again and again. */
+    HOLDS(__atomic_load_n(&timed_waits, __ATOMIC_SEQ_CST) < 1000);
+    shut_gate(0);
+    /* Who commits ends its commit, though its time has passed. */
+    HOLDS(end_of(&first) == CVEC_DONE && end_of(&second) == CVEC_DONE && settled() == 2);
+    HOLDS(cvec_vector_await_for(seat, 1, 0) == CVEC_DONE);
+    HOLDS(grow(2, &number) == CVEC_DONE && cvec_vector_await_for(seat, number, 0) == CVEC_DONE && settled() == 3);
+    HOLDS(cvec_vector_await_for(seat, 3, 0) == CVEC_OUT_OF_RANGE);
+    HOLDS(cvec_vector_await_for(seat, UINT64_MAX, 5) == CVEC_OUT_OF_RANGE);
+    HOLDS(grow(3, &number) == CVEC_DONE);
+    hold(&first, &second, 3);
+    HOLDS(cvec_vector_await_for(seat, 2, 0) == CVEC_DONE);
+    left = 0;
+    shut_gate(0);
+    HOLDS(end_of(&first) == CVEC_DISK_SYNC && end_of(&second) == CVEC_BROKEN);
+    HOLDS(cvec_vector_await_for(seat, 3, 0) == CVEC_BROKEN);
+    HOLDS(cvec_vector_close_seat(first.seat) == CVEC_DONE && cvec_vector_close_seat(second.seat) == CVEC_DONE);
+    HOLDS(cvec_vector_close_seat(seat) == CVEC_DONE && cvec_vector_close(vector) == CVEC_BROKEN);
+    HOLDS(found(path) == 3);
+}
+
+/* In version 1 the second growth takes a commit of its own, which isn't begun where the time has passed. */
+static void late_between(const char *path) {
+    static uint64_t many[131071];
+    make(path, 1);
+    for (int k = 0; k < 2; k++) HOLDS(cvec_vector_grow(seat, many, 131071, NULL) == CVEC_DONE);
+    HOLDS(cvec_vector_await_for(seat, 1, 0) == CVEC_LATE && settled() == 1);
+    HOLDS(cvec_vector_await_for(seat, 1, 0) == CVEC_DONE && settled() == 2);
+    HOLDS(cvec_vector_close_seat(seat) == CVEC_DONE && cvec_vector_close(vector) == CVEC_DONE);
+}
+
+/* ---- flusher: growths become durable though nobody waits for them */
+
+static const uint64_t soon = 1, never = UINT64_MAX;
+
+static void *run_flusher(void *every) { return (void *)(uintptr_t)cvec_vector_run_flusher(vector, *(const uint64_t *)every); }
+
+static void begin_flusher(pthread_t *flusher, const uint64_t *every) {
+    pthread_create(flusher, NULL, run_flusher, (void *)(uintptr_t)every);
+}
+
+static uint32_t end_of_flusher(pthread_t flusher) {
+    void *status = NULL;
+    pthread_join(flusher, &status);
+    return (uint32_t)(uintptr_t)status;
+}
+
+static void until_settled(uint64_t count) {
+    while (settled() < count && !wrong) nap();
+}
+
+static void flushes(const char *path) {
+    pthread_t flusher, second;
+    uint64_t number = 0;
+    make(path, 1);
+    begin_flusher(&flusher, &soon);
+    begin_flusher(&second, &soon);
+    for (uint64_t k = 0; k < 50; k++) {
+        HOLDS(grow(k, &number) == CVEC_DONE);
+        until_settled(k + 1);
+    }
+    /* A close that is refused ends no loop. */
+    HOLDS(cvec_vector_close(vector) == CVEC_BUSY);
+    HOLDS(grow(50, &number) == CVEC_DONE);
+    until_settled(51);
+    HOLDS(cvec_vector_stop_flusher(vector) == CVEC_DONE);
+    HOLDS(end_of_flusher(flusher) == CVEC_DONE && end_of_flusher(second) == CVEC_DONE);
+    HOLDS(grow(51, &number) == CVEC_DONE);
+    HOLDS(cvec_vector_run_flusher(vector, 1) == CVEC_DONE && settled() == 51);
+    HOLDS(cvec_vector_close_seat(seat) == CVEC_DONE && cvec_vector_close(vector) == CVEC_DONE);
+    HOLDS(found(path) == 52);
+}
+
+/* The first turn takes all that it finds, also where another commits then, and more than one frame holds. */
+static void flushes_all(const char *path) {
+    static uint64_t many[131071];
+    pthread_t flusher;
+    struct wait first;
+    uint64_t number = 0, size = 0, flushers = 0;
+    make(path, 2);
+    HOLDS(cvec_vector_take_seat(vector, &first.seat) == CVEC_DONE);
+    HOLDS(grow(0, &number) == CVEC_DONE);
+    shut_gate(1);
+    begin_wait(&first, 0, 0);
+    until_held();
+    for (int k = 0; k < 3; k++) HOLDS(cvec_vector_grow(seat, many, 131071, NULL) == CVEC_DONE);
+    begin_flusher(&flusher, &never);
+    while (flushers == 0) {
+        pthread_mutex_lock(&vector->mutex);
+        flushers = vector->flushers;
+        pthread_mutex_unlock(&vector->mutex);
+    }
+    shut_gate(0);
+    HOLDS(end_of(&first) == CVEC_DONE);
+    until_settled(4);
+    /* It rests, until the close ends it, which commits what is left. */
+    HOLDS(grow(1, &number) == CVEC_DONE && settled() == 4);
+    HOLDS(cvec_vector_close_seat(first.seat) == CVEC_DONE && cvec_vector_close_seat(seat) == CVEC_DONE);
+    HOLDS(cvec_vector_close(vector) == CVEC_DONE);
+    HOLDS(end_of_flusher(flusher) == CVEC_DONE);
+    HOLDS(cvec_vector_open(&vector, path, 1) == CVEC_DONE && cvec_vector_take_seat(vector, &seat) == CVEC_DONE);
+    HOLDS(cvec_vector_size(seat, &size) == CVEC_DONE && size == 3 * 131071 + 2);
+    HOLDS(cvec_vector_close_seat(seat) == CVEC_DONE && cvec_vector_close(vector) == CVEC_DONE);
+}
+
+/* A commit that is refused ends the loop. Behind a refusal of memory it may be begun again. */
+static void flusher_fails(const char *path) {
+    pthread_t flusher;
+    uint64_t number = 0;
+    make(path, 1);
+    HOLDS(grow(0, &number) == CVEC_DONE);
+    mallocs = 0;
+    HOLDS(cvec_vector_run_flusher(vector, never) == CVEC_MEMORY && settled() == 0);
+    begin_flusher(&flusher, &soon);
+    until_settled(1);
+    left = 0;
+    HOLDS(grow(1, &number) == CVEC_DONE);
+    HOLDS(end_of_flusher(flusher) == CVEC_DISK_WRITE);
+    HOLDS(grow(2, &number) == CVEC_BROKEN && cvec_vector_run_flusher(vector, 1) == CVEC_BROKEN);
+    HOLDS(cvec_vector_close_seat(seat) == CVEC_DONE && cvec_vector_close(vector) == CVEC_BROKEN);
+    HOLDS(found(path) == 1);
+}
+
 int main(int argc, char **argv) {
     static const struct {
         const char *name;
         void (*run)(const char *);
-    } behaviours[] = {{"grow", grows},         {"lock", locks},         {"busy", is_busy},  {"fork", forks},
-                      {"parts", parts},        {"faults", faults},      {"memory", memory}, {"full", full},
-                      {"too_large", too_large}, {"refusals", refusals}, {"leader", leads}, {"texts", texts}};
+    } behaviours[] = {{"grow", grows},
+                      {"lock", locks},
+                      {"busy", is_busy},
+                      {"fork", forks},
+                      {"parts", parts},
+                      {"faults", faults},
+                      {"memory", memory},
+                      {"full", full},
+                      {"too_large", too_large},
+                      {"refusals", refusals},
+                      {"texts", texts},
+                      {"leader", leads},
+                      {"late", late},
+                      {"late_between", late_between},
+                      {"flusher", flushes},
+                      {"flusher_takes_all", flushes_all},
+                      {"flusher_fails", flusher_fails}};
     if (argc != 3) return 2;
     for (size_t k = 0; k < sizeof behaviours / sizeof *behaviours; k++)
         if (strcmp(argv[1], behaviours[k].name) == 0) {

@@ -91,6 +91,13 @@ constexpr std::size_t cache_line = 64;
 // For a file that is opened again, and that another process has meanwhile.
 constexpr std::chrono::seconds longest_wait{2};
 
+// As cvec_vector.h counts it, rounded up. A year and more is as long as it can be.
+template <class Rep, class Period> std::uint64_t milliseconds_of(const std::chrono::duration<Rep, Period> &time) {
+    if (time <= time.zero()) return 0;
+    if (time >= std::chrono::hours(365 * 24)) return UINT64_MAX;
+    return static_cast<std::uint64_t>(std::chrono::ceil<std::chrono::milliseconds>(time).count());
+}
+
 // A number for each thread: threads begin their search for a seat at different ones.
 inline std::size_t number_of_thread() noexcept {
     static std::atomic<std::size_t> next{0};
@@ -152,10 +159,24 @@ class word_file {
         if (number >= base_) require(cvec_vector_await(lent.seat(), number - base_));
     }
 
+    // The same, for others so many milliseconds at most: then false.
+    bool await_for(std::uint64_t number, std::uint64_t milliseconds) {
+        const lease lent(*this);
+        if (number < base_) return true;
+        const std::uint32_t status = cvec_vector_await_for(lent.seat(), number - base_, milliseconds);
+        if (status != CVEC_LATE) require(status);
+        return status == CVEC_DONE;
+    }
+
     // Waits for all growths that have returned.
     void await_all() {
         const std::uint64_t grown = grown_.load(std::memory_order_acquire);
         if (grown > 0) await(grown - 1);
+    }
+
+    bool await_all_for(std::uint64_t milliseconds) {
+        const std::uint64_t grown = grown_.load(std::memory_order_acquire);
+        return grown == 0 || await_for(grown - 1, milliseconds);
     }
 
     std::uint64_t settled() {
@@ -732,6 +753,17 @@ template <class T> class concurrent_vector {
 
     // Waits until this growth, and each before it, is durable.
     void settle(const growth &made) { file_->await(made.number); }
+
+    // The same two, but they wait for the commits of others no longer than this, and for a seat. False: the time has passed, and
+    // what was grown may yet become durable.
+    template <class Rep, class Period> [[nodiscard]] bool settle_for(const std::chrono::duration<Rep, Period> &longest) {
+        return file_->await_all_for(detail::milliseconds_of(longest));
+    }
+
+    template <class Rep, class Period>
+    [[nodiscard]] bool settle_for(const growth &made, const std::chrono::duration<Rep, Period> &longest) {
+        return file_->await_for(made.number, detail::milliseconds_of(longest));
+    }
 
     // How many growths are durable: the first ones are. It doesn't wait.
     [[nodiscard]] std::uint64_t settled() const { return file_->settled(); }
