@@ -199,7 +199,7 @@ has_c() { has cc 'the library for C' && has rt 'the library for C'; }
 
 # The library is there, or is built, and the file's calls are compiled.
 make_c_library() {
-    [ -e "$c_library" ] || (cd "$top/crates/cvec_c" && rt lib >/dev/null)
+    [ -e "$c_library" ] || "$top/build" cvec_c
     kit_library=$(dirname "$(rt doc)")/c/liblibc_c.a
     cc -std=c99 -O2 -fPIC -Wall -Wextra -Werror -pedantic -c "$c/cvec_file.c" -o "$work/cvec_file.o"
 }
@@ -233,7 +233,7 @@ compile_threads() {
 }
 
 make_threads_library() {
-    [ -e "$threads_library" ] || (cd "$top/crates/cvec_threads" && rt lib >/dev/null)
+    [ -e "$threads_library" ] || "$top/build" cvec_threads
     kit_library=$(dirname "$(rt doc)")/c/liblibc_c.a
 }
 
@@ -241,6 +241,56 @@ make_threads_library() {
 has_sanitizer() {
     printf 'int main(void) { return 0; }\n' >"$work/empty.c"
     cc "-fsanitize=$1" -o "$work/empty" "$work/empty.c" 2>/dev/null && "$work/empty" || lacks "cc has no -fsanitize=$1"
+}
+
+# Runs a program of examples, over this file of words of which so many are one of what it counts: thrice killed in place of a
+# sync, and then to its end, where its output is $out. Its first line says how many it found there, and each kill leaves more.
+goes_on_where_it_is_killed() {
+    file=$1 words=$2
+    shift 2
+    [ -e "$work/syncs.so" ] || cc -shared -fPIC -o "$work/syncs.so" "$top/tests/bindings/syncs.c"
+    before=0
+    for _ in 1 2 3; do
+        status=0
+        (
+            export KILL_AT=9 "LD_PRELOAD=$work/syncs.so"
+            exec "$@" >"$out" 2>"$err"
+        ) || status=$?
+        [ "$status" -eq 137 ]
+        grep -q "^found $before " "$out"
+        now=$(($("$top/cvec" list u64 "$file" | wc -l) / words))
+        [ "$now" -gt "$before" ]
+        before=$now
+    done
+    "$@" >"$out"
+    sed -n 1p "$out" | grep -q "^found $before "
+}
+
+# Pages as texts for the examples that index words, and the lines of them where a word stands.
+make_texts() {
+    for name in c commands cpp guide serve threads; do cp "$top/docs/use/$name.md" "$work/$name.txt"; done
+    LC_ALL=C grep -aniE '(^|[^A-Za-z])thread([^A-Za-z]|$)' "$work"/*.txt | cut -d : -f -2 >"$work/wanted"
+    [ "$(wc -l <"$work/wanted")" -gt 10 ]
+}
+
+# The example that indexes words, which is this command, goes on where it is killed, finds all, and each word once.
+indexes_words() {
+    make_texts
+    words_of_entry=$1
+    shift
+    goes_on_where_it_is_killed "$work/t.cv" "$words_of_entry" "$@" "$work/t.cv" Thread "$work"/*.txt
+    sed 1d "$out" | cmp "$work/wanted" -
+    "$@" "$work/t.cv" Thread "$work"/*.txt >"$out"
+    sed -n 1p "$out" | grep -qx "found $(cat "$work"/*.txt | LC_ALL=C tr -cs A-Za-z '\n' | grep -c .) words"
+}
+
+# The example of a pool of threads, which is this command, goes on where it is killed, and finds all.
+has_results_of_a_pool() {
+    goes_on_where_it_is_killed "$work/t.cv" 2 "$@" "$work/t.cv" 5000
+    awk 'BEGIN { for (n = 1; n <= 5000; n++) for (k = n; k != 1; sum++) k = k % 2 ? 3 * k + 1 : k / 2; print "5000 results, " sum " steps in all" }' \
+        >"$work/wanted"
+    sed 1d "$out" | cmp "$work/wanted" -
+    [ "$("$top/cvec" list u64 "$work/t.cv" | paste - - | sort -u | wc -l)" -eq 5000 ]
 }
 
 # ---- the program that measures

@@ -14,7 +14,7 @@ import subprocess
 import sys
 import threading
 
-sys.path.insert(0, os.path.join(os.path.dirname(os.path.abspath(__file__)), "..", "examples", "python"))
+sys.path.insert(0, os.path.join(os.path.dirname(os.path.abspath(__file__)), "..", "bindings", "python"))
 import cvec
 
 PROGRAM, CALLS, READER, FOLDER = map(os.path.abspath, sys.argv[1:5])

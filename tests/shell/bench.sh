@@ -161,7 +161,7 @@ repository_of_tokens() {
     there=$work/there
     mkdir -p "$there/crates/cvec/out" "$work/tools" "$work/files"
     cp -r "$top/bench" "$there"
-    ln -s "$top/cvec" "$top/examples" "$there"
+    ln -s "$top/cvec" "$top/examples" "$top/bindings" "$there"
     ln -s "$program" "$there/crates/cvec/out/cvec"
     PATH=$work/tools:$PATH
 }

@@ -64,7 +64,7 @@ make_arrays() {
 
 make_rust() {
     [ -e "$built/rust" ] && return
-    rustc --edition 2024 -D warnings --crate-type rlib --crate-name cvec -o "$built/libcvec.rlib" "$top/examples/rust/cvec.rs"
+    rustc --edition 2024 -D warnings --crate-type rlib --crate-name cvec -o "$built/libcvec.rlib" "$top/bindings/rust/src/lib.rs"
     rustc --edition 2024 -D warnings -o "$built/rust" "$bindings/driver.rs" --extern "cvec=$built/libcvec.rlib" \
         -C "link-arg=$built/cvec_file.o" -C "link-arg=$c_library" -C "link-arg=$kit_library"
 }
@@ -116,7 +116,7 @@ follows() {
         cd "$work/here"
         umask 022
         export "PATH=$built:$PATH" "CVEC_LIBRARY=$built/libcvec.so"
-        export "PYTHONPATH=$top/examples/python:$top/tests/fuzz" PYTHONDONTWRITEBYTECODE=1
+        export "PYTHONPATH=$top/bindings/python:$top/tests/fuzz" PYTHONDONTWRITEBYTECODE=1
         exec timeout 600 env "$@" "$work/table"
     ) <"$work/table" >"$work/answered" || ended=$?
     echo "$table by $caller, with $1:"
@@ -288,7 +288,7 @@ at_a_terminal() {
     shift 2
     rm -f "$work/t.cv"
     run create u64 "$work/t.cv"
-    PYTHONPATH=$top/examples/python PYTHONDONTWRITEBYTECODE=1 \
+    PYTHONPATH=$top/bindings/python PYTHONDONTWRITEBYTECODE=1 \
         python3 "$bindings/terminal.py" "$how" $client "$built/cvec" "$work/t.cv" "$@" >"$out"
 }
 

@@ -234,6 +234,31 @@ a_library_that_fails_is_told_and_not_left() (
     [ ! -e "$there/crates/cvec/out" ]
 )
 
+# 'rt lib' runs over the noted libraries of the copy. Where it fails, nothing is left here.
+a_static_library_is_built_over_what_is_proved() (
+    seeming_repository
+    of_three_crates
+    sed -i 's/^middle:.*/middle staticlib: low/' "$there/crates.txt"
+    sed -i '2i [ "$1" != lib ] || { echo "a line of lib" && cat ../low/out/rlib/stamp >out/libmiddle.a && [ ! -e ../low/src/fails ]; exit; }' \
+        "$there/bin/rt"
+    builds() {
+        status=0
+        PATH=$there/bin:/usr/bin:/bin "$there/build" middle >"$out" 2>"$err" || status=$?
+        [ "$status" -eq "$1" ]
+    }
+    touch "$there/crates/low/src/fails"
+    builds 1
+    tells 'a line of lib'
+    tells 'middle is not built'
+    [ ! -e "$there/crates/middle/out" ]
+    [ ! -e "$there/crates/low/out" ]
+    rm "$there/crates/low/src/fails"
+    builds 0
+    [ "$(cat "$there/crates/middle/out/libmiddle.a")" = 'sources of low' ]
+    [ "$(cat "$there/crates/low/out/rlib/stamp")" = 'sources of low' ]
+    if tells 'a line of lib'; then return 1; fi
+)
+
 # The toolchain is ended too.
 a_build_that_is_ended_leaves_nothing_half() (
     seeming_repository

@@ -165,23 +165,9 @@ threads_grow_and_read_whole_rows_in_cpp() (
 
 # What was told to be durable stands, at whatever moment the process is killed.
 rows_of_killed_threads_stand_in_cpp() (
-    has_cpp && has python3 'the rows of threads' || exit $is_skipped
-    make_cpp threads
-    told=0
-    for moment in 02 05 09 2 35 5 8; do
-        rm -f "$work/t.cv"
-        "$built/threads" "$work/t.cv" 8 20000 1 >"$work/durable" &
-        child=$!
-        sleep "0.$moment"
-        kill -9 $child
-        wait $child 2>/dev/null || :
-        grep -q . "$work/durable" || continue
-        told=$((told + 1))
-        python3 "$cpp_tests/rows.py" "$work/t.cv" 8 "$work/durable"
-        run check u64 "$work/t.cv"
-        [ "$status" -eq 0 ]
-    done
-    [ "$told" -gt 3 ]
+    has_cpp && has python3 'what compares a file with blocks' || exit $is_skipped
+    make_cpp writer
+    PYTHONDONTWRITEBYTECODE=1 timeout 120 python3 "$top/tests/bindings/vector_killed.py" "$work/t.cv" 12 "$built/writer"
 )
 
 # ---- sanitizers
@@ -225,21 +211,15 @@ threads_are_in_order_in_cpp() (
 
 # ---- the page, the examples, and oneTBB
 
-# The page's programs are built as its last block of commands says.
-the_programs_of_the_page_for_cpp_run() (
+the_program_of_the_page_for_cpp_runs() (
     has_cpp || exit $is_skipped
-    make_threads_library
-    mkdir "$work/here"
-    for name in examples crates; do ln -s "$top/$name" "$work/here/$name"; done
-    cd "$work/here"
-    shown_in use/cpp.md cpp >first.cpp
-    kit=$(dirname "$(rt doc)")
-    shown_in use/cpp.md sh | grep -v '^(cd ' >build.sh
-    mkdir -p out
-    ( . ./build.sh )
-    [ "$(out/first numbers.cv)" = '3 rows from position 0' ]
-    [ "$(out/first numbers.cv)" = '3 rows from position 3' ]
-    run list u64 "$work/here/numbers.cv"
+    make_cpp
+    shown_in use/cpp.md cpp >"$work/first.cpp"
+    cd "$work"
+    link_cpp -o first first.cpp
+    [ "$(./first numbers.cv)" = '3 rows from position 0' ]
+    [ "$(./first numbers.cv)" = '3 rows from position 3' ]
+    run list u64 "$work/numbers.cv"
     did '5\n7\n11\n5\n7\n11\n'
 )
 
@@ -262,6 +242,20 @@ sensors_go_on_where_they_were_killed() (
         before=$(wc -l <"$work/samples_there")
         [ "$turn" -gt 1 ] || [ "$before" -gt 0 ]
     done
+)
+
+words_are_indexed_in_cpp() (
+    has_cpp || exit $is_skipped
+    make_cpp
+    link_cpp -o "$work/word_index" "$cpp/word_index.cc"
+    indexes_words 4 "$work/word_index"
+)
+
+results_of_a_pool_are_kept_in_cpp() (
+    has_cpp || exit $is_skipped
+    make_cpp
+    link_cpp -o "$work/pool" "$cpp/pool.cc"
+    has_results_of_a_pool "$work/pool"
 )
 
 has_tbb() {

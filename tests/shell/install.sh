@@ -92,7 +92,7 @@ a_c_program_is_built_by_pkg_config() (
     can_install && has pkg-config 'the library for C' || exit $is_skipped
     installs_once
     export PKG_CONFIG_PATH="$prefix/lib/pkgconfig"
-    for program_in_c in use append_blocks; do
+    for program_in_c in use append_blocks use_vector; do
         cp "$c/$program_in_c.c" "$work"
         eval "cc -std=c99 -Wall -Wextra -Werror -o '$work/$program_in_c' '$work/$program_in_c.c' \
             $(pkg-config --cflags --libs cvec)"
@@ -101,6 +101,21 @@ a_c_program_is_built_by_pkg_config() (
     [ "$(tr '\n' ' ' <"$out")" = '5 7 11 13 ' ]
     is_shown_as_written u64 "$work/file"
     [ "cvec $(pkg-config --modversion cvec)" = "$("$program" --version | head -n 1)" ]
+    [ "$("$work/use_vector" "$work/t.cv" 4 50)" = 0 ]
+    run check u64 "$work/t.cv"
+    [ "$(cut -d ' ' -f -7 "$out")" = 'ok version 1 width 8 size 600' ]
+)
+
+a_cpp_program_is_built_by_pkg_config() (
+    can_install && has pkg-config 'the library for C' && has c++ 'the vector for C++' || exit $is_skipped
+    installs_once
+    export PKG_CONFIG_PATH="$prefix/lib/pkgconfig"
+    cp "$top/examples/cpp/primes.cc" "$work"
+    cd "$work"
+    eval "c++ -std=c++17 -Wall -Wextra -Werror -o primes primes.cc $(pkg-config --cflags --libs cvec)"
+    [ "$(./primes)" = '9592 primes, whose sum is 454396537' ]
+    run check u64 "$work/primes.cv"
+    [ "$(cut -d ' ' -f 6-7 "$out")" = 'size 9592' ]
 )
 
 a_c_program_is_built_by_cmake() (
@@ -112,6 +127,13 @@ a_c_program_is_built_by_cmake() (
     cmake --build "$work/built" >>"$work/log"
     "$work/built/use" "$work/file" >"$out"
     [ "$(tr '\n' ' ' <"$out")" = '5 7 11 13 ' ]
+    # A project of C++ alone finds it too.
+    mkdir "$work/cpp"
+    cp "$top/examples/cpp/primes.cc" "$work/cpp/use.cc"
+    sed 's/use C)/use CXX)/; s/use\.c)/use.cc)/' "$work/CMakeLists.txt" >"$work/cpp/CMakeLists.txt"
+    cmake -S "$work/cpp" -B "$work/cpp/built" "-DCMAKE_PREFIX_PATH=$prefix" >"$work/log"
+    cmake --build "$work/cpp/built" >>"$work/log"
+    [ "$(cd "$work" && cpp/built/use)" = '9592 primes, whose sum is 454396537' ]
     # No other first number of the version serves, and no later one.
     for version in 0.1 1.999 2.0; do
         sed -i "s/find_package(cvec.*/find_package(cvec $version REQUIRED)/" "$work/CMakeLists.txt"
@@ -126,15 +148,45 @@ a_python_program_finds_the_installed_modules() (
     cp "$top/examples/python/use.py" "$work"
     cat >"$work/client.py" <<'CLIENT'
 import sys
-import cvec, cvec_client
-sys.exit(0 if all(it.__file__.startswith(sys.argv[1]) for it in (cvec, cvec_client)) else "they are found elsewhere")
+import cvec, cvec_client, cvec_vector
+found = cvec, cvec_client, cvec_vector
+sys.exit(0 if all(it.__file__.startswith(sys.argv[1]) for it in found) else "they are found elsewhere")
 CLIENT
-    unset CVEC_LIBRARY
+    unset CVEC_LIBRARY CVEC_VECTOR_LIBRARY
     export PYTHONPATH="$prefix/lib/python3/dist-packages" PYTHONDONTWRITEBYTECODE=1
     python3 "$work/client.py" "$prefix/"
     python3 "$work/use.py" "$work/file" >"$out"
     [ "$(tr '\n' ' ' <"$out")" = '5 7 11 13 ' ]
     is_shown_as_written u64 "$work/file"
+    cp "$top/examples/python/use_vector.py" "$work"
+    python3 "$work/use_vector.py" "$work/t.cv" >"$out"
+    sed -n 1p "$out" | grep -qx '286 records of 15 growths'
+)
+
+# The folder of the repository as pip takes it, with no network: the modules, and the library beside them.
+pip_installs_the_modules() (
+    can_install && has python3 'the modules of Python' || exit $is_skipped
+    python3 -m pip --version >/dev/null 2>&1 || lacks 'there is no pip for the modules of Python' || exit $is_skipped
+    installs_once
+    cp -R "$top/bindings/python" "$work/python"
+    CVEC_LIB=$prefix/lib/python3/dist-packages python3 -m pip install --quiet --no-index --no-cache-dir \
+        --disable-pip-version-check --target "$work/site" "$work/python" 2>"$err" || { cat "$err" && exit 1; }
+    for name in cvec.py cvec_client.py cvec_records.py cvec_vector.py libcvec.so; do
+        cmp "$prefix/lib/python3/dist-packages/$name" "$work/site/$name"
+    done
+    [ "cvec $(sed -n 's/^Version: //p' "$work/site"/cvec-*.dist-info/METADATA)" = "$("$program" --version | head -n 1)" ]
+    unset CVEC_LIBRARY CVEC_VECTOR_LIBRARY
+    export PYTHONPATH="$work/site" PYTHONDONTWRITEBYTECODE=1
+    cp "$top/examples/python/use.py" "$top/examples/python/use_vector.py" "$work"
+    python3 "$work/use.py" "$work/file" >"$out"
+    [ "$(tr '\n' ' ' <"$out")" = '5 7 11 13 ' ]
+    python3 "$work/use_vector.py" "$work/t.cv" >"$out"
+    sed -n 1p "$out" | grep -qx '286 records of 15 growths'
+    # Nothing is installed without the library.
+    if CVEC_LIB=$work python3 -m pip install --quiet --no-index --no-cache-dir --disable-pip-version-check \
+        --target "$work/other" "$work/python" >"$out" 2>&1; then exit 1; fi
+    grep -q 'there is no libcvec.so' "$out"
+    [ ! -e "$work/other/cvec.py" ]
 )
 
 a_rust_program_is_built_by_rustc() (
@@ -142,24 +194,53 @@ a_rust_program_is_built_by_rustc() (
     installs_once
     rust=$prefix/share/cvec/rust
     rustc --edition 2024 -D warnings --crate-type rlib --crate-name cvec -L "native=$prefix/lib" -l static=cvec \
-        -o "$work/libcvec.rlib" "$rust/cvec.rs"
-    rustc --edition 2024 -D warnings -o "$work/use" "$rust/use.rs" --extern "cvec=$work/libcvec.rlib"
+        -o "$work/libcvec.rlib" "$rust/src/lib.rs"
+    rustc --edition 2024 -D warnings -o "$work/use" "$rust/examples/use.rs" --extern "cvec=$work/libcvec.rlib"
     "$work/use" "$work/file" >"$out"
     [ "$(tr '\n' ' ' <"$out")" = '5 7 11 13 ' ]
 )
 
+# One program takes both crates.
 a_rust_program_is_built_by_cargo() (
     can_install && has cargo 'a crate of plain Rust' || exit $is_skipped
     installs_once
-    mkdir "$work/src"
-    cp "$top/examples/rust/use.rs" "$work/src/main.rs"
+    mkdir -p "$work/src/bin"
+    cp "$top/bindings/rust/examples/use.rs" "$work/src/bin"
+    cp "$top/bindings/rust/vector/examples/use_vector.rs" "$work/src/bin"
+    cat >"$work/src/bin/both.rs" <<'RUST'
+fn main() {
+    let path = std::env::args().nth(1).unwrap();
+    cvec::File::<u64>::create(path.as_ref()).unwrap().append(&[5, 7, 11]).unwrap();
+    println!("{:?}", cvec_vector::Vector::open(path.as_ref(), 1).unwrap().seat().unwrap().read(..).unwrap());
+}
+RUST
     {
         printf '[package]\nname = "use"\nedition = "2024"\n[dependencies]\n'
         printf 'cvec = { path = "%s" }\n' "$prefix/share/cvec/rust"
+        printf 'cvec_vector = { path = "%s" }\n' "$prefix/share/cvec/rust/vector"
     } >"$work/Cargo.toml"
+    unset CVEC_LIB
     cargo build --quiet --offline --manifest-path "$work/Cargo.toml" --target-dir "$work/target"
     "$work/target/debug/use" "$work/file" >"$out"
     [ "$(tr '\n' ' ' <"$out")" = '5 7 11 13 ' ]
+    [ "$("$work/target/debug/both" "$work/other")" = '[5, 7, 11]' ]
+    "$work/target/debug/use_vector" "$work/t.cv" >"$out"
+    sed -n 1p "$out" | grep -qx '286 records of 15 growths'
+)
+
+# The folder of the repository as cargo takes it: its examples are built, and the programs of its documents run.
+cargo_tests_the_crates() (
+    can_install && has cargo 'a crate of plain Rust' || exit $is_skipped
+    installs_once
+    cp -R "$top/bindings/rust" "$work/rust"
+    cd "$work/rust"
+    CVEC_LIB=$prefix/lib cargo test --quiet --offline --target-dir "$work/target" >"$out" 2>&1 || { cat "$out" && exit 1; }
+    [ "$(grep -c '^test result: ok. 1 passed' "$out")" -eq 2 ]
+    for crate in . vector; do
+        [ "cvec $(sed -n 's/^version = "\(.*\)\.0"$/\1/p' "$crate/Cargo.toml")" = "$("$program" --version | head -n 1)" ]
+    done
+    if CVEC_LIB=$work cargo build --quiet --offline --target-dir "$work/target" >"$out" 2>&1; then exit 1; fi
+    grep -q 'there is no libcvec.a' "$out"
 )
 
 # ---- where, over what, and how it is taken away
@@ -172,7 +253,7 @@ an_uninstall_takes_away_what_was_installed() (
     found_in "$work/there" >"$work/before"
     make_there install "PREFIX=$work/there"
     unset PYTHONDONTWRITEBYTECODE PYTHONPYCACHEPREFIX
-    PYTHONPATH=$work/there/lib/python3/dist-packages python3 -c 'import cvec, cvec_client'
+    PYTHONPATH=$work/there/lib/python3/dist-packages python3 -c 'import cvec, cvec_client, cvec_vector'
     [ -d "$work/there/lib/python3/dist-packages/__pycache__" ]
     make_there uninstall "PREFIX=$work/there"
     found_in "$work/there" | diff "$work/before" -
@@ -273,7 +354,7 @@ nothing_of_others_is_overwritten() (
 make_alone_tells_what_there_is() (
     has make 'an install' || exit $is_skipped
     make_there >"$out"
-    for words in 'make build' 'make install' 'make uninstall' 'PREFIX is /usr/local' DESTDIR docs/use/install.md; do
+    for words in 'make build' 'make libraries' 'make install' 'make uninstall' 'PREFIX is /usr/local' DESTDIR docs/use/install.md; do
         grep -qF "$words" "$out"
     done
 )
@@ -300,40 +381,45 @@ a_prefix_is_a_whole_path() (
     done
 )
 
-# 'rt' only seems one, and tells what it was asked for.
+# './build' only seems one, and tells what it was asked for.
 an_older_library_is_built_again() (
     has make 'an install' || exit $is_skipped
     there=$work/there
-    mkdir -p "$there/bin" "$there/crates/low/src" "$there/crates/beside/src" "$there/crates/cvec_c/out"
+    mkdir -p "$there/bin" "$there/crates/cvec_c/out" "$there/crates/cvec_threads/out"
+    for name in low high beside; do mkdir -p "$there/crates/$name/src"; done
     cp -R "$top/Makefile" "$top/tools" "$there"
-    printf 'low: clap\nbeside: low\ncvec_c staticlib: low\n' >"$there/crates.txt"
+    printf 'low: clap\nhigh: low\nbeside: low\ncvec_c staticlib: low\ncvec_threads staticlib: low high\n' >"$there/crates.txt"
     printf '#!/bin/sh\n' >"$there/cvec"
-    cat >"$there/bin/rt" <<RT
+    printf '#!/bin/sh\n' >"$there/bin/rt"
+    cat >"$there/build" <<BUILD
 #!/bin/sh
-echo "\$@" >>"$work/asked"
-echo 'a fault of the build'
-[ ! -e broken ] && : >out/libcvec_c.a
-RT
-    chmod +x "$there/cvec" "$there/bin/rt"
+echo "\$1" >>"$work/asked"
+echo 'a fault of the build' >&2
+[ ! -e "$there/broken" ] && : >"$there/crates/\$1/out/lib\$1.a"
+BUILD
+    chmod +x "$there/cvec" "$there/bin/rt" "$there/build"
     touch -d '1 hour ago' "$there/crates/low/src/lib.rt"
     builds() {
         : >"$work/asked"
         status=0
         PATH=$there/bin:$PATH make -s -C "$there" build 2>"$err" || status=$?
-        [ "$(cat "$work/asked")" = "$1" ]
+        [ "$(paste -sd ' ' "$work/asked")" = "$1" ]
     }
-    builds lib
+    builds 'cvec_c cvec_threads'
     builds ''
     touch -d '1 hour' "$there/crates/beside/src/lib.rt"
     builds ''
+    touch -d '1 hour' "$there/crates/high/src/lib.rt"
+    builds cvec_threads
+    touch -d '1 hour ago' "$there/crates/high/src/lib.rt"
     touch -d '1 hour' "$there/crates/low/src/lib.rt"
-    builds lib
+    builds 'cvec_c cvec_threads'
     [ "$status" -eq 0 ]
-    : >"$there/crates/cvec_c/broken"
-    builds lib
+    : >"$there/broken"
+    builds cvec_c
     [ "$status" -ne 0 ]
     tells 'a fault of the build'
-    tells 'the library for C was not built'
+    tells 'the library cvec_c was not built'
     echo 'exit 1' >"$there/cvec"
     builds ''
     [ "$status" -ne 0 ]

@@ -15,7 +15,8 @@ done
 python_runs() {
     example=$1
     shift
-    CVEC_LIBRARY=$work/libcvec.so PYTHONDONTWRITEBYTECODE=1 "$python" "$top/examples/python/$example.py" "$@" >"$out" 2>"$err"
+    CVEC_LIBRARY=$work/libcvec.so PYTHONPATH=$top/bindings/python PYTHONDONTWRITEBYTECODE=1 \
+        "$python" "$top/examples/python/$example.py" "$@" >"$out" 2>"$err"
 }
 
 a_python_program_appends_and_reads() (
@@ -31,7 +32,7 @@ the_python_program_that_is_shown_reads() (
     make_python_library
     python_runs use "$work/numbers.cvec"
     shown_in use/c.md python >"$work/shown.py"
-    (cd "$work" && flock numbers.cvec env "CVEC_LIBRARY=$work/libcvec.so" "PYTHONPATH=$top/examples/python" PYTHONDONTWRITEBYTECODE=1 \
+    (cd "$work" && flock numbers.cvec env "CVEC_LIBRARY=$work/libcvec.so" "PYTHONPATH=$top/bindings/python" PYTHONDONTWRITEBYTECODE=1 \
         "$python" shown.py >"$out")
     [ "$(tr '\n' ' ' <"$out")" = '4 records 5 7 11 13 ' ]
 )

@@ -96,3 +96,13 @@ the_client_that_is_shown_appends() (
     [ "$status" -eq 1 ]
     tells "each growth that it hasn't told is settled stands in the file whole, or not at all"
 )
+
+the_client_in_python_that_is_shown_appends() (
+    has python3 'the client that is shown' || exit $is_skipped
+    run create u64 "$work/t.cv"
+    PYTHONPATH=$top/bindings/python PYTHONDONTWRITEBYTECODE=1 \
+        python3 "$top/examples/python/use_server.py" "$top/cvec" "$work/t.cv" >"$out"
+    did '5 7 11\n'
+    run list u64 "$work/t.cv"
+    did '5\n7\n11\n'
+)

@@ -1,4 +1,4 @@
-# The vector that threads of Python grow (examples/python/cvec_vector.py), over the library for threads of C.
+# The vector that threads of Python grow (bindings/python/cvec_vector.py), over the library for threads of C.
 
 # ---- the shared library, built once as docs/use/threads.md says, beside the folder of a test's files
 
@@ -26,7 +26,7 @@ make_python_vector() {
 # Runs this program in Python with further words.
 python_vector_runs() {
     CVEC_VECTOR_LIBRARY=$built/libcvec_vector.so PYTHONDONTWRITEBYTECODE=1 \
-        PYTHONPATH=$top/examples/python:$top/tests/bindings${PYTHONPATH:+:$PYTHONPATH} timeout 120 "$python" "$@"
+        PYTHONPATH=$top/bindings/python:$top/tests/bindings${PYTHONPATH:+:$PYTHONPATH} timeout 120 "$python" "$@"
 }
 
 # A test of tests/bindings/vector_cases.py, without numpy.
@@ -78,6 +78,20 @@ the_python_program_of_the_page_grows_by_threads() (
     run list u64 "$work/t.cv"
     paste -d ' ' - - <"$out" | sort >"$work/blocks"
     for name in 0 1 2 3 4 5 6 7; do echo "$name $((name + 100))"; done | cmp - "$work/blocks"
+)
+
+words_are_indexed_in_python() (
+    has_python_vector || exit $is_skipped
+    make_python_vector
+    export "CVEC_VECTOR_LIBRARY=$built/libcvec_vector.so" "PYTHONPATH=$top/bindings/python" PYTHONDONTWRITEBYTECODE=1
+    indexes_words 1 "$python" "$top/examples/python/word_index.py"
+)
+
+results_of_a_pool_are_kept_in_python() (
+    has_python_vector || exit $is_skipped
+    make_python_vector
+    export "CVEC_VECTOR_LIBRARY=$built/libcvec_vector.so" "PYTHONPATH=$top/bindings/python" PYTHONDONTWRITEBYTECODE=1
+    has_results_of_a_pool "$python" "$top/examples/python/pool.py"
 )
 
 # ---- what the vector is

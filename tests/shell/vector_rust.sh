@@ -1,4 +1,4 @@
-# The vector that threads of Rust, as rustc compiles it, grow (examples/rust/cvec_vector.rs), over the library for threads of C.
+# The vector that threads of Rust, as rustc compiles it, grow (bindings/rust/vector), over the library for threads of C.
 
 # ---- its programs, built as docs/use/threads.md says; what several tests take once, beside the folder of a test's files
 
@@ -12,7 +12,7 @@ make_rust_vector() {
     if [ -e "$built/libcvec_vector.rlib" ]; then return; fi
     cc -std=c99 -O2 -fPIC -Wall -Wextra -Werror -pedantic -c "$c/cvec_vector.c" -o "$built/cvec_vector.o"
     rustc --edition 2024 -D warnings --crate-type rlib --crate-name cvec_vector -o "$built/libcvec_vector.rlib" \
-        "$top/examples/rust/cvec_vector.rs"
+        "$top/bindings/rust/vector/src/lib.rs"
 }
 
 # Compiles this program.
@@ -44,7 +44,7 @@ has_lines() {
 the_rust_example_grows_by_threads() (
     has_rust_vector || exit $is_skipped
     make_rust_vector
-    make_rust_program "$top/examples/rust/use_vector.rs" "$work/use"
+    make_rust_program "$top/bindings/rust/vector/examples/use_vector.rs" "$work/use"
     "$work/use" "$work/t.cv" >"$out"
     printf '286 records of 15 growths\n286 records, the last 249, in all 31185\n' | cmp - "$out"
     run list u64 "$work/t.cv"
@@ -52,6 +52,20 @@ the_rust_example_grows_by_threads() (
     for name in 0 1 2 3; do for turn in 0 1 2; do echo "$name $turn $((name + turn))"; done; done | cmp - "$work/blocks"
     tail -n +37 "$out" >"$work/rest"
     seq 0 249 | cmp - "$work/rest"
+)
+
+words_are_indexed_in_rust() (
+    has_rust_vector || exit $is_skipped
+    make_rust_vector
+    make_rust_program "$top/bindings/rust/vector/examples/word_index.rs" "$work/word_index"
+    indexes_words 1 "$work/word_index"
+)
+
+results_of_a_pool_are_kept_in_rust() (
+    has_rust_vector || exit $is_skipped
+    make_rust_vector
+    make_rust_program "$top/bindings/rust/vector/examples/pool.rs" "$work/pool"
+    has_results_of_a_pool "$work/pool"
 )
 
 the_rust_program_of_the_page_grows_by_threads() (
@@ -66,15 +80,18 @@ the_rust_program_of_the_page_grows_by_threads() (
     for name in 0 1 2 3 4 5 6 7; do echo "$name $((name + 100))"; done | cmp - "$work/blocks"
 )
 
-# The commands of the page's section, in a folder whose crates and examples are those of the repository.
+# The commands of the page's section, in a copy of the repository over the crates as they are built.
 the_build_of_the_page_makes_both() (
-    has_rust_vector && has python3 'the vector for Python' || exit $is_skipped
+    has_c && has make 'the libraries' && has cargo 'a crate of plain Rust' && has python3 'the vector for Python' || exit $is_skipped
+    make_c_library
     make_threads_library
     mkdir "$work/there"
     cd "$work/there"
-    ln -s "$top/crates" "$top/examples" .
+    cp -R "$top/bindings" "$top/examples" "$top/tools" "$top/Makefile" "$top/crates.txt" .
+    ln -s "$top/crates" .
     sed -n '/^## From Python/,$p' "$top/docs/use/threads.md" | sed -n '/^```sh$/,/^```$/p' | sed '/^```/d' >"$work/build.sh"
-    kit=$(dirname "$(rt doc)") PYTHONDONTWRITEBYTECODE=1 sh -e "$work/build.sh" >"$out"
+    unset CVEC_LIB
+    CARGO_NET_OFFLINE=true PYTHONDONTWRITEBYTECODE=1 sh -e "$work/build.sh" >"$out" 2>"$err" || { cat "$err" && exit 1; }
     for _ in python rust; do
         printf '286 records of 15 growths\n286 records, the last 249, in all 31185\n'
     done | cmp - "$out"
@@ -83,7 +100,7 @@ the_build_of_the_page_makes_both() (
 the_rust_document_compiles() (
     has_rust_vector && has rustdoc 'the examples in documents of plain Rust' || exit $is_skipped
     make_rust_vector
-    rustdoc --test --edition 2024 --crate-name cvec_vector -L "$built" "$top/examples/rust/cvec_vector.rs" >"$out"
+    rustdoc --test --edition 2024 --crate-name cvec_vector -L "$built" "$top/bindings/rust/vector/src/lib.rs" >"$out"
     grep -q '^test result: ok. 1 passed' "$out"
 )
 

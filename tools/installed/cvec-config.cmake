@@ -5,6 +5,7 @@ if(NOT TARGET cvec::cvec)
   set_target_properties(cvec::cvec PROPERTIES
     IMPORTED_LINK_INTERFACE_LANGUAGES C
     IMPORTED_LOCATION "${_cvec_prefix}/lib/libcvec.a"
+    INTERFACE_LINK_LIBRARIES pthread
     INTERFACE_INCLUDE_DIRECTORIES "${_cvec_prefix}/include")
 endif()
 unset(_cvec_prefix)

@@ -1,4 +1,4 @@
-"""A durable vector of uint64 that threads of this process grow, by ctypes over libcvec_vector.so (docs/use/threads.md says how
+"""A durable vector of uint64 that threads of this process grow, by ctypes over the library for C (docs/use/threads.md says how
 that is built).
 
     with Vector.create("numbers.cvec") as vector:
@@ -7,8 +7,8 @@ that is built).
         print(len(vector), vector[0], vector[receipt.start:])
 
 Each thread that calls a vector has a seat of its own, which it takes with its first call and leaves to others when it ends. A
-call lets other threads run meanwhile. The library is found by the environment's CVEC_VECTOR_LIBRARY, and else beside this
-module. With numpy records are arrays, without it those of `array`. No call comes from a signal's handler."""
+call lets other threads run meanwhile. The library is found by the environment's CVEC_VECTOR_LIBRARY, and else as libcvec.so
+beside this module. With numpy records are arrays, without it those of `array`. No call comes from a signal's handler."""
 from __future__ import annotations
 
 import array
@@ -65,7 +65,7 @@ class _Receipt(ctypes.Structure):
 
 
 def _library() -> ctypes.CDLL:
-    beside = os.path.join(os.path.dirname(os.path.abspath(__file__)), "libcvec_vector.so")
+    beside = os.path.join(os.path.dirname(os.path.abspath(__file__)), "libcvec.so")
     lib = ctypes.CDLL(os.environ.get("CVEC_VECTOR_LIBRARY", beside), use_errno=True)
     answers = {
         "create": [POINTER(c_void_p), ctypes.c_char_p, c_uint8, c_uint16],
