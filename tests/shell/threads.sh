@@ -10,6 +10,7 @@ make_threads() {
     mkdir -p "$built"
     [ -e "$built/use" ] || compile_threads "$c/use_vector.c" "$c/cvec_vector.c" -o "$built/use"
     [ -e "$built/behaviours" ] || compile_threads "$top/tests/threads/behaviours.c" -o "$built/behaviours"
+    [ -e "$built/writer" ] || compile_threads "$top/tests/threads/writer.c" "$c/cvec_vector.c" -o "$built/writer"
 }
 
 # ---- the programs of the page and the example
@@ -61,26 +62,10 @@ threads_of_c_go_on_with_a_file_of_the_program() (
 )
 
 # What was told to be durable stands, at whatever moment the process is killed.
-threads_of_c_that_are_killed_lose_nothing_durable() (
+threads_of_c_that_are_killed_lose_nothing_settled() (
+    has python3 'what compares a file with blocks' || exit $is_skipped
     make_threads
-    looked=0
-    for moment in 02 05 1 2 3; do
-        rm -f "$work/t.cv"
-        "$built/behaviours" grow "$work/t.cv" >"$work/told_durable" &
-        child=$!
-        sleep "0.$moment"
-        kill -9 $child
-        wait $child 2>/dev/null || :
-        # A last line may be cut.
-        grep -c '^durable [0-9]* end$' "$work/told_durable" >/dev/null || continue
-        run list u64 "$work/t.cv"
-        [ "$status" -eq 0 ]
-        sort -u "$out" >"$work/there"
-        sed -n 's/^durable \([0-9]*\) end$/\1/p' "$work/told_durable" | sort -u >"$work/durable"
-        [ "$(comm -13 "$work/there" "$work/durable" | wc -l)" -eq 0 ]
-        looked=$((looked + 1))
-    done
-    [ "$looked" -gt 0 ]
+    PYTHONDONTWRITEBYTECODE=1 timeout 120 python3 "$top/tests/bindings/vector_killed.py" "$work/t.cv" 12 "$built/writer"
 )
 
 # A behaviour of the shell around the library, by its name.
@@ -154,14 +139,25 @@ a_flusher_in_c_ends_by_what_is_refused() (
     a_behaviour_of_a_vector_in_c flusher_fails
 )
 
-no_sanitizer_complains_of_threads_in_c() (
+# Rounds of random calls by 1 to 16 threads, of which half are killed, under this sanitizer.
+makes_random_calls_under() {
     has_c || exit $is_skipped
+    has_sanitizer "$1" || exit $is_skipped
     make_threads_library
-    for sanitizer in address,undefined thread; do
-        has_sanitizer "$sanitizer" || exit $is_skipped
-        compile_threads "$c/use_vector.c" "$c/cvec_vector.c" -g "-fsanitize=$sanitizer" -o "$work/use"
-        rm -f "$work/t.cv"
-        [ "$(timeout 120 "$work/use" "$work/t.cv" 8 500 2>"$err")" = 0 ]
-        [ ! -s "$err" ]
-    done
+    compile_threads "$top/tests/threads/random_calls.c" "$c/cvec_vector.c" -g "-fsanitize=$1" -fno-sanitize-recover=all -o "$work/calls"
+    seed=$(od -An -N4 -tu4 /dev/urandom | tr -d ' ')
+    echo "seed $seed"
+    TSAN_OPTIONS=suppressions=$top/tests/threads/suppressed.txt timeout 300 "$work/calls" "$work/t.cv" "$seed" 8 2>"$err" ||
+        { cat "$err" && exit 1; }
+    [ ! -s "$err" ]
+    run check u64 "$work/t.cv"
+    [ "$status" -eq 0 ]
+}
+
+random_calls_in_c_use_memory_rightly() (
+    makes_random_calls_under address,undefined
+)
+
+random_calls_in_c_are_in_order() (
+    makes_random_calls_under thread
 )

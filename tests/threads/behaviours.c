@@ -136,34 +136,6 @@ static uint64_t found(const char *path) {
     return size;
 }
 
-/* ---- grow: eight threads that tell what is durable, until they are killed */
-
-static void *grow_for_ever(void *work) {
-    cvec_vector_seat *own = work;
-    cvec_receipt receipt;
-    static uint64_t next;
-    for (;;) {
-        uint64_t record = __atomic_fetch_add(&next, 1, __ATOMIC_SEQ_CST);
-        if (cvec_vector_grow(own, &record, 1, &receipt) != CVEC_DONE) return work;
-        if (cvec_vector_await(own, receipt.number) != CVEC_DONE) return work;
-        printf("durable %" PRIu64 " end\n", record);
-        fflush(stdout);
-    }
-}
-
-static void grows(const char *path) {
-    pthread_t threads[8];
-    HOLDS(cvec_vector_create(&vector, path, 1, 8) == CVEC_DONE);
-    for (int k = 0; k < 8; k++) {
-        HOLDS(cvec_vector_take_seat(vector, &seat) == CVEC_DONE);
-        pthread_create(&threads[k], NULL, grow_for_ever, seat);
-    }
-    for (int k = 0; k < 8; k++) pthread_join(threads[k], NULL);
-    wrong = 1;
-}
-
-/* ---- the others */
-
 static void locks(const char *path) {
     cvec_vector *second;
     make(path, 1);
@@ -610,8 +582,7 @@ int main(int argc, char **argv) {
     static const struct {
         const char *name;
         void (*run)(const char *);
-    } behaviours[] = {{"grow", grows},
-                      {"lock", locks},
+    } behaviours[] = {{"lock", locks},
                       {"busy", is_busy},
                       {"fork", forks},
                       {"parts", parts},
