@@ -6,9 +6,11 @@
 # figures, and leaves the words that it got beside itself.
 seeming_repository() {
     there=$work/there
-    mkdir -p "$there/crates/cvec_speed" "$there/crates/cvec_threads" "$work/tools"
+    mkdir -p "$there/crates/cvec_speed" "$work/tools"
     cp -r "$top/bench" "$there"
-    ln -s "$top/examples" "$there"
+    printf '#!/bin/sh\necho "built $1"\n' >"$there/build"
+    chmod +x "$there/build"
+    ln -s "$top/examples" "$top/bindings" "$there"
     cat >"$work/figures" <<'FIGURES'
 {"peer":"tbb.grow_by(range)","work":"grow","threads":4,"block":256,"n":8,"seconds":1,"per_second":1.5e6,"spread":1.3,"others":0}
 {"peer":"own","work":"grow","threads":4,"block":256,"n":8,"seconds":1,"per_second":3e6,"spread":1.2,"others":0}
@@ -16,11 +18,9 @@ seeming_repository() {
 FIGURES
     cat >"$work/tools/rt" <<'TOOL'
 #!/bin/sh
-case $1 in
-doc) echo /seeming/page ;;
-lib) mkdir -p out && : >out/libcvec_threads.a ;;
-*) mkdir -p out && : >out/cvec_speed && chmod +x out/cvec_speed && exit 3 ;;
-esac
+[ "$1" != doc ] || exec echo /seeming/page
+mkdir -p out && : >out/cvec_speed && chmod +x out/cvec_speed
+exit 3
 TOOL
     cat >"$work/tools/g++" <<TOOL
 #!/bin/sh
@@ -102,6 +102,7 @@ a_run_measures_own_figures_among_the_peers() (
         --work=grow,append,beside,read,memory,durable,open --work=grow,durable --threads=1,4 --reps=5 |
         cmp - "$work/run/build/peers.words"
     [ -x "$work/run/build/native" ]
+    grep -qx 'built cvec_threads' "$out"
     grep -qx seeming "$work/run/env.txt"
     [ ! -e "$work/run/scratch" ]
     if has python3 'tables of a run'; then

@@ -264,9 +264,12 @@ a_build_that_is_ended_leaves_nothing_half() (
     seeming_repository
     of_three_crates
     mkdir "$there/.git"
-    sed -i "1a trap 'touch \"$there/is_ended\"; exit 1' TERM; mkdir -p crates/low/out/rlib; sleep 5 & wait" "$there/bin/rt"
+    sed -i "1a trap 'touch \"$there/is_ended\"; exit 1' TERM; mkdir -p crates/low/out/rlib; : >'$there/has_begun'; sleep 60 & wait" "$there/bin/rt"
+    PATH=$there/bin:/usr/bin:/bin "$there/build" cvec 2>"$err" &
+    until [ -e "$there/has_begun" ]; do sleep 0.05; done
+    kill $!
     status=0
-    PATH=$there/bin:/usr/bin:/bin timeout 1 "$there/build" cvec 2>"$err" || status=$?
+    wait $! || status=$?
     [ "$status" -ne 0 ]
     [ -e "$there/is_ended" ]
     [ ! -e "$there/crates/low/out/rlib" ]

@@ -229,10 +229,12 @@ sensors_go_on_where_they_were_killed() (
     make_cpp
     link_cpp -o "$work/samples" "$cpp/samples.cc"
     before=0
-    for turn in 1 2 3 4; do
+    for _ in 1 2 3 4; do
         "$work/samples" "$work/t.cv" >"$out" 2>"$err" &
         child=$!
-        sleep 0.4
+        until grep -q '^found' "$out"; do sleep 0.02; done
+        # Also beside it the file shows what is there.
+        until [ "$("$top/cvec" list u64 "$work/t.cv" | wc -l)" -gt $((3 * before)) ]; do sleep 0.02; done
         kill -9 $child
         wait $child 2>/dev/null || :
         [ ! -s "$err" ]
@@ -240,7 +242,6 @@ sensors_go_on_where_they_were_killed() (
         "$top/cvec" list u64 "$work/t.cv" | paste - - - >"$work/samples_there"
         awk '$2 != next_of[$1]++ { exit 1 }' "$work/samples_there"
         before=$(wc -l <"$work/samples_there")
-        [ "$turn" -gt 1 ] || [ "$before" -gt 0 ]
     done
 )
 
