@@ -10,6 +10,7 @@
 #include <stdlib.h>
 #include <string.h>
 #include <sys/file.h>
+#include <sys/mman.h>
 #include <sys/stat.h>
 #include <time.h>
 #include <unistd.h>
@@ -17,16 +18,17 @@
 struct cvec_vector {
     int fd;
     pid_t process;
-    pthread_mutex_t mutex; /* guards all below but `committer` and `made`, which who commits has */
+    pthread_mutex_t mutex; /* guards all below but `begun`, and `committer` and `made`, which who commits has */
     pthread_cond_t settled;  /* a commit has ended */
     pthread_cond_t flushing; /* a loop of a flusher is to end, or has */
     cvec_handle phase, committer;
     uint64_t made;     /* of the calls that are listed so many are made */
     uint64_t durable;  /* so many growths are */
-    uint64_t begun;    /* so many growths there are, or are coming */
+    uint64_t begun;    /* by __atomic: so many growths there are, or are coming */
     uint32_t seats;    /* that aren't closed */
     uint32_t flushers; /* whose loops run */
-    bool committing, broken, stopped; /* stopped: no loop of a flusher goes on */
+    bool committing, stopped; /* stopped: no loop of a flusher goes on */
+    bool broken;              /* is written with the mutex, and by __atomic */
 };
 
 struct cvec_vector_seat {
@@ -44,6 +46,34 @@ enum { MOST_SEATS = 64, FIRST_NAP = 2000, LONGEST_NAP = 200000 };
 
 /* No deadline is further away, in milliseconds: 31 years. */
 static const uint64_t LONGEST_WAIT = 1000000000000;
+
+/* ---- which process this is */
+
+/* The process's number, or 0 behind a fork: the system wipes it in the child. NULL: it is asked for each time. */
+static pid_t *noted_process;
+static pthread_once_t noting = PTHREAD_ONCE_INIT;
+
+static void note_process(void) {
+#ifdef MADV_WIPEONFORK
+    void *page = mmap(NULL, sizeof *noted_process, PROT_READ | PROT_WRITE, MAP_PRIVATE | MAP_ANONYMOUS, -1, 0);
+    if (page == MAP_FAILED) return;
+    if (madvise(page, sizeof *noted_process, MADV_WIPEONFORK) == 0)
+        noted_process = page;
+    else
+        munmap(page, sizeof *noted_process);
+#endif
+}
+
+/* As getpid, but mostly without a call of the system. */
+static pid_t this_process(void) {
+    if (noted_process == NULL) return getpid();
+    pid_t process = __atomic_load_n(noted_process, __ATOMIC_RELAXED);
+    if (process == 0) {
+        process = getpid();
+        __atomic_store_n(noted_process, process, __ATOMIC_RELAXED);
+    }
+    return process;
+}
 
 /* ---- calls of the system, each made whole */
 
@@ -194,7 +224,7 @@ static uint32_t lead(cvec_vector *vector, uint64_t *growths) {
     pthread_mutex_lock(&vector->mutex);
     vector->committing = false;
     if (answer == CVEC_DONE) vector->durable = durable;
-    if (is_lasting(answer)) vector->broken = true;
+    if (is_lasting(answer)) __atomic_store_n(&vector->broken, true, __ATOMIC_RELAXED);
     pthread_cond_broadcast(&vector->settled);
     return answer;
 }
@@ -217,7 +247,8 @@ static cvec_vector *vector_of(void) {
     cvec_vector *vector = calloc(1, sizeof *vector);
     if (vector == NULL) return NULL;
     vector->fd = -1;
-    vector->process = getpid();
+    pthread_once(&noting, note_process);
+    vector->process = this_process();
     pthread_condattr_init(&steady);
     pthread_condattr_setclock(&steady, CLOCK_MONOTONIC);
     pthread_mutex_init(&vector->mutex, NULL);
@@ -307,7 +338,7 @@ static void end_flushers(cvec_vector *vector) {
 }
 
 uint32_t cvec_vector_close(cvec_vector *vector) {
-    if (vector->process != getpid()) return leave(vector);
+    if (vector->process != this_process()) return leave(vector);
     pthread_mutex_lock(&vector->mutex);
     bool busy = vector->seats > 0;
     if (!busy) end_flushers(vector);
@@ -322,7 +353,7 @@ uint32_t cvec_vector_close(cvec_vector *vector) {
 
 uint32_t cvec_vector_take_seat(cvec_vector *vector, cvec_vector_seat **taken) {
     *taken = NULL;
-    if (vector->process != getpid()) return CVEC_FORKED;
+    if (vector->process != this_process()) return CVEC_FORKED;
     cvec_vector_seat *seat = calloc(1, sizeof *seat);
     if (seat == NULL) return CVEC_MEMORY;
     seat->vector = vector;
@@ -339,7 +370,7 @@ uint32_t cvec_vector_take_seat(cvec_vector *vector, cvec_vector_seat **taken) {
 
 /* Takes the seat for one call. Two calls at once on one handle would be undefined. */
 static uint32_t enter(cvec_vector_seat *seat) {
-    if (seat->vector->process != getpid()) return CVEC_FORKED;
+    if (seat->vector->process != this_process()) return CVEC_FORKED;
     return __atomic_exchange_n(&seat->busy, true, __ATOMIC_ACQUIRE) ? CVEC_BUSY : CVEC_DONE;
 }
 
@@ -358,19 +389,13 @@ uint32_t cvec_vector_close_seat(cvec_vector_seat *seat) {
 }
 
 static uint32_t begin_growth(cvec_vector *vector) {
-    pthread_mutex_lock(&vector->mutex);
-    bool broken = vector->broken;
-    vector->begun += !broken;
-    pthread_mutex_unlock(&vector->mutex);
-    return broken ? CVEC_BROKEN : CVEC_DONE;
+    if (__atomic_load_n(&vector->broken, __ATOMIC_RELAXED)) return CVEC_BROKEN;
+    __atomic_fetch_add(&vector->begun, 1, __ATOMIC_RELAXED);
+    return CVEC_DONE;
 }
 
 /* A growth that has begun was refused. */
-static void take_back(cvec_vector *vector) {
-    pthread_mutex_lock(&vector->mutex);
-    vector->begun--;
-    pthread_mutex_unlock(&vector->mutex);
-}
+static void take_back(cvec_vector *vector) { __atomic_fetch_sub(&vector->begun, 1, __ATOMIC_RELAXED); }
 
 /* Sleeps so that who came first can go on, each time longer. */
 static void give_way(long *nap) {
@@ -471,7 +496,7 @@ uint32_t cvec_vector_await_for(cvec_vector_seat *seat, uint64_t number, uint64_t
 
 /* With the mutex: commits what there is now, by as many commits as that takes. */
 static uint32_t flush(cvec_vector *vector) {
-    const uint64_t wanted = vector->begun;
+    const uint64_t wanted = __atomic_load_n(&vector->begun, __ATOMIC_RELAXED);
     uint64_t growths = 1;
     uint32_t answer = CVEC_DONE;
     while (answer == CVEC_DONE && growths > 0 && vector->durable < wanted && !vector->stopped) {
@@ -492,7 +517,7 @@ static void rest(cvec_vector *vector, struct timespec until) {
 
 uint32_t cvec_vector_run_flusher(cvec_vector *vector, uint64_t every_milliseconds) {
     uint32_t answer = CVEC_DONE;
-    if (vector->process != getpid()) return CVEC_FORKED;
+    if (vector->process != this_process()) return CVEC_FORKED;
     pthread_mutex_lock(&vector->mutex);
     vector->flushers++;
     while (answer == CVEC_DONE && !vector->stopped) {
@@ -506,7 +531,7 @@ uint32_t cvec_vector_run_flusher(cvec_vector *vector, uint64_t every_millisecond
 }
 
 uint32_t cvec_vector_stop_flusher(cvec_vector *vector) {
-    if (vector->process != getpid()) return CVEC_FORKED;
+    if (vector->process != this_process()) return CVEC_FORKED;
     pthread_mutex_lock(&vector->mutex);
     vector->stopped = true;
     pthread_cond_broadcast(&vector->flushing);

@@ -182,12 +182,27 @@ static int is_refused_in_a_fork(void) {
            cvec_vector_close_seat(seat) == CVEC_FORKED && cvec_vector_close(vector) == CVEC_FORKED;
 }
 
+/* The child has vectors of its own, and what was its parent's stays refused beside them. */
+static int has_its_own_in_a_fork(const char *path) {
+    char own[4096];
+    uint64_t number = 0;
+    cvec_vector_seat *parents = seat;
+    snprintf(own, sizeof own, "%s.child", path);
+    make(own, 1);
+    return grow(9, &number) == CVEC_DONE && cvec_vector_settled(parents, &number) == CVEC_FORKED &&
+           cvec_vector_await(seat, 0) == CVEC_DONE && cvec_vector_close_seat(seat) == CVEC_DONE &&
+           cvec_vector_close(vector) == CVEC_DONE;
+}
+
 static void forks(const char *path) {
     uint64_t number = 0;
     int status = 1;
     make(path, 2);
     pid_t child = fork();
     if (child == 0) _exit(is_refused_in_a_fork() ? 0 : 1);
+    HOLDS(waitpid(child, &status, 0) == child && status == 0);
+    child = fork();
+    if (child == 0) _exit(has_its_own_in_a_fork(path) ? 0 : 1);
     HOLDS(waitpid(child, &status, 0) == child && status == 0);
     HOLDS(grow(0, &number) == CVEC_DONE);
     HOLDS(cvec_vector_close_seat(seat) == CVEC_DONE);
