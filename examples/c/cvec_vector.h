@@ -65,7 +65,8 @@ uint32_t cvec_vector_await_for(cvec_vector_seat *seat, uint64_t number, uint64_t
 
 /* For a thread of the caller's, which takes no seat: commits what was grown, and so again and again, this many milliseconds
  * (at least 1) behind the last time. CVEC_DONE: it was ended by cvec_vector_stop_flusher or the close; any other number: a
- * commit was refused, and it ends. What was grown behind its last commit is left to who waits, or to the close. */
+ * commit was refused, and it ends. What was grown behind its last commit is left to who waits, or to the close. As any other
+ * call it has to have begun before the close does: who can't know that stops it and joins its thread first. */
 uint32_t cvec_vector_run_flusher(cvec_vector *vector, uint64_t every_milliseconds);
 
 /* Ends the loops of this vector, each that is begun later too. It doesn't wait for them. */
