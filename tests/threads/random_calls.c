@@ -168,9 +168,10 @@ static void close_too_early(struct thread *own) {
     HOLDS(cvec_vector_close(vector) == CVEC_BUSY);
 }
 
-static void (*const calls[])(struct thread *) = {grow,      grow,          grow,       grow,        grow_what_is_refused, read_own,
-                                                 read_any,  ask_size,      ask_settled, await_own,  await_own_for,        await_none,
-                                                 change_seat, call_common, close_too_early};
+static void (*const calls[])(struct thread *) = {
+    grow,      grow,          grow,       grow,        grow_what_is_refused, read_own,        read_any, ask_size, ask_settled,
+    await_own, await_own_for, await_none, change_seat, call_common,          close_too_early,
+};
 
 /* ---- a round */
 
