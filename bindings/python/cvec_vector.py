@@ -76,6 +76,8 @@ def _library() -> ctypes.CDLL:
         "grow": [c_void_p, c_void_p, c_size_t, POINTER(_Receipt)],
         "await": [c_void_p, c_uint64],
         "await_for": [c_void_p, c_uint64, c_uint64],
+        "run_flusher": [c_void_p, c_uint64],
+        "stop_flusher": [c_void_p],
         "settled": [c_void_p, POINTER(c_uint64)],
         "size": [c_void_p, POINTER(c_uint64)],
         "read": [c_void_p, c_uint64, c_void_p, c_size_t, POINTER(c_uint64)],
@@ -368,6 +370,7 @@ class Vector:
         """Not to be called: `create` and `open` do."""
         self._handle, self._form, self._process = handle, form, os.getpid()
         self._lock, self._local = threading.Lock(), threading.local()
+        self._flushers, self._flusher_left = 0, threading.Condition(self._lock)
         self._seats: list[Seat] = []
         self._free: collections.deque[Seat] = collections.deque()
 
@@ -448,6 +451,31 @@ class Vector:
         last = max((seat._last for seat in list(self._seats)), default=-1)
         self.seat().settle(receipt or (Receipt(last, 0, 0) if last >= 0 else None), timeout)
 
+    def run_flusher(self, every: float) -> None:
+        """For a thread of the caller's, which takes no seat: commits what was grown, and so again and again, so many seconds (at
+        least 0.001) behind the last time, until `stop_flusher` or the close. Error: a commit was refused, which ends it."""
+        limit = _milliseconds(every)
+        self._check_process()
+        with self._lock:
+            if self._handle is None:
+                raise _closed()
+            handle = self._handle
+            self._flushers += 1
+        try:
+            _pass(_LIB.cvec_vector_run_flusher(handle, limit))
+        finally:
+            with self._lock:
+                self._flushers -= 1
+                self._flusher_left.notify_all()
+
+    def stop_flusher(self) -> None:
+        """Ends the loops of flushers, each that is begun later too. It doesn't wait for them."""
+        self._check_process()
+        with self._lock:
+            if self._handle is None:
+                raise _closed()
+            _pass(_LIB.cvec_vector_stop_flusher(self._handle))
+
     def settled(self) -> int:
         """How many growths are durable. It doesn't wait."""
         return self.seat().settled()
@@ -501,8 +529,12 @@ class Vector:
             for seat in self._seats:
                 seat._give_up()
             handle, self._handle = self._handle, None
-        if handle is not None:
-            _pass(_LIB.cvec_vector_close(handle))
+            if handle is None:
+                return
+            _LIB.cvec_vector_stop_flusher(handle)
+            while self._flushers > 0:
+                self._flusher_left.wait()
+        _pass(_LIB.cvec_vector_close(handle))
 
     # Who is inside a call holds the vector, so none is here.
     __del__ = close

@@ -14,6 +14,7 @@ import time
 
 if sys.argv[3:] == ["plain"]:
     sys.modules["numpy"] = None
+import cvec_vector
 from cvec_vector import Error, Status, Vector, _milliseconds, numpy
 from vector_blocks import block, places_of, records_of
 
@@ -456,6 +457,71 @@ def a_wait_has_a_deadline():
     assert [_milliseconds(it) for it in (0, 0.0001, 1.5, 3, 1e30)] == [0, 1, 1500, 3000, 2 ** 60]
 
 
+def a_flusher_commits_what_nobody_settles():
+    def until_settled(vector, count):
+        while vector.settled() < count:
+            time.sleep(0.001)
+
+    vector, ended = Vector.create(PATH), []
+
+    def run(every):
+        vector.run_flusher(every)
+        ended.append(every)
+
+    threads = [threading.Thread(target=run, args=(every,)) for every in (0, math.inf)]
+    for thread in threads:
+        thread.start()
+    for number in range(9):
+        vector.grow([number])
+        until_settled(vector, number + 1)
+    vector.close()  # which ends them
+    for thread in threads:
+        thread.join()
+    assert sorted(ended) == [0, math.inf]
+    for call in (lambda: vector.run_flusher(1), vector.stop_flusher):
+        assert refusal(call) == (Status.NOT_SO, "closed")
+    with Vector.open(PATH) as vector:
+        has_no(ValueError, vector.run_flusher, -1)
+        vector.stop_flusher()
+        vector.grow([9])
+        vector.run_flusher(math.inf)
+        assert vector.settled() == 0
+    assert records() == list(range(10))
+    _, hard = resource.getrlimit(resource.RLIMIT_FSIZE)
+    with Vector.open(PATH) as vector:
+        resource.setrlimit(resource.RLIMIT_FSIZE, (4096, hard))
+        vector.grow(range(1000))
+        assert refusal(vector.run_flusher, math.inf) == (Status.DISK_WRITE, "the file can't be written: File too large")
+        assert refusal(vector.close)[0] == Status.BROKEN
+
+
+def a_close_waits_for_a_flusher_that_is_late():
+    """One that has begun, and comes to the library when the close has begun too."""
+    library, order, begun, closed = cvec_vector._LIB, [], threading.Event(), threading.Event()
+    run, close = library.cvec_vector_run_flusher, library.cvec_vector_close
+
+    def run_late(*words):
+        begun.set()
+        closed.wait(0.3)
+        status = run(*words)
+        order.append("flusher")
+        return status
+
+    def close_noted(*words):
+        order.append("close")
+        closed.set()
+        return close(*words)
+
+    library.cvec_vector_run_flusher, library.cvec_vector_close = run_late, close_noted
+    vector = Vector.create(PATH)
+    thread = threading.Thread(target=vector.run_flusher, args=(math.inf,))
+    thread.start()
+    begun.wait()
+    vector.close()
+    thread.join()
+    assert order == ["flusher", "close"]
+
+
 # ---- a process that is forked, and a device that is full
 
 def a_forked_process_is_refused():
@@ -467,7 +533,7 @@ def a_forked_process_is_refused():
     child = os.fork()
     if child == 0:
         signal.alarm(20)
-        calls = (vector.seat, vector.settle, vector.settled, lambda: vector.grow([6]), lambda: len(vector), lambda: vector[0],
+        calls = (vector.seat, vector.settle, vector.settled, lambda: vector.run_flusher(1), vector.stop_flusher, lambda: vector.grow([6]), lambda: len(vector), lambda: vector[0],
                  seat.settle, seat.size, lambda: seat.grow([7]), seat.close)
         refused = all(refusal(call)[0] == Status.FORKED for call in calls)
         vector.close()

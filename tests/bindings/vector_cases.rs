@@ -212,6 +212,27 @@ fn has_a_deadline(path: &Path) -> Result<(), Error> {
     vector.close()
 }
 
+/// What nobody settles is settled by a flusher, until that is stopped.
+fn flushes(path: &Path) -> Result<(), Error> {
+    let vector = &Vector::create(path, 1)?;
+    let seat = vector.seat()?;
+    thread::scope(|scope| {
+        let flusher = scope.spawn(|| vector.run_flusher(Duration::from_nanos(1)));
+        for number in 0..9 {
+            seat.grow(&[number])?;
+            while seat.settled()? <= number {
+                thread::sleep(Duration::from_millis(1));
+            }
+        }
+        vector.stop_flusher()?;
+        flusher.join().unwrap()
+    })?;
+    seat.grow(&[9])?;
+    vector.run_flusher(Duration::MAX)?;
+    assert_eq!(seat.settled()?, 9);
+    Ok(())
+}
+
 /// It takes no more growths until it is opened again.
 fn is_full(path: &Path) -> Result<(), Error> {
     let vector = Vector::create(path, 1)?;
@@ -313,6 +334,7 @@ fn main() {
         "appends" => appends(path),
         "each_refusal" => each_refusal(path),
         "has_a_deadline" => has_a_deadline(path),
+        "flushes" => flushes(path),
         "is_full" => is_full(path),
         "forks" => forks(path),
         "fills" => fills(path),

@@ -179,6 +179,12 @@ a_wait_has_a_deadline_in_python() (
     is_so_without_numpy a_wait_has_a_deadline
 )
 
+a_flusher_in_python_commits_what_nobody_settles() (
+    is_so_without_numpy a_flusher_commits_what_nobody_settles
+    rm -rf "$work/files"
+    is_so_without_numpy a_close_waits_for_a_flusher_that_is_late
+)
+
 a_python_vector_that_is_closed_waits_for_calls() (
     is_so_without_numpy a_close_waits_for_calls
 )

@@ -129,6 +129,11 @@ a_wait_has_a_deadline_in_rust() (
     seq 5 7 | has_lines
 )
 
+a_flusher_in_rust_commits_what_nobody_settles() (
+    is_so_in_rust flushes
+    seq 0 9 | has_lines
+)
+
 a_rust_vector_is_full_until_it_is_opened_again() (
     is_so_in_rust is_full
     { seq 0 1048567; echo 9; } | has_lines

@@ -203,6 +203,8 @@ unsafe extern "C" {
     fn cvec_vector_grow(seat: *mut RawSeat, records: *const u64, count: usize, receipt: *mut RawReceipt) -> u32;
     fn cvec_vector_await(seat: *mut RawSeat, number: u64) -> u32;
     fn cvec_vector_await_for(seat: *mut RawSeat, number: u64, milliseconds: u64) -> u32;
+    fn cvec_vector_run_flusher(vector: *mut RawVector, every_milliseconds: u64) -> u32;
+    fn cvec_vector_stop_flusher(vector: *mut RawVector) -> u32;
     fn cvec_vector_settled(seat: *mut RawSeat, count: *mut u64) -> u32;
     fn cvec_vector_size(seat: *mut RawSeat, size: *mut u64) -> u32;
     fn cvec_vector_read(seat: *mut RawSeat, from: u64, out: *mut u64, room: usize, count: *mut u64) -> u32;
@@ -212,6 +214,11 @@ unsafe extern "C" {
 /// A path with a zero byte is none that the system has a name for.
 fn name_of(path: &Path) -> Result<CString, Error> {
     CString::new(path.as_os_str().as_bytes()).map_err(|_| Error::Path)
+}
+
+/// As C counts it, rounded up.
+fn milliseconds_of(time: Duration) -> u64 {
+    u64::try_from(time.as_nanos().div_ceil(1_000_000)).unwrap_or(u64::MAX)
 }
 
 fn check_seats(seats: u16) -> Result<(), Error> {
@@ -281,6 +288,19 @@ impl Vector {
         NonNull::new(raw).map(|raw| Seat { raw, of: PhantomData, alone: PhantomData }).ok_or(Error::Memory)
     }
 
+    /// For a thread of the caller's, which takes no seat: commits what was grown, and so again and again, this long (at least a
+    /// millisecond) behind the last time, until `stop_flusher`. An error is that of a commit that was refused, which ends it.
+    pub fn run_flusher(&self, every: Duration) -> Result<(), Error> {
+        // SAFETY: the vector is open as long as `self` is there.
+        told(unsafe { cvec_vector_run_flusher(self.raw.as_ptr(), milliseconds_of(every)) })
+    }
+
+    /// Ends the loops of flushers, each that is begun later too. It doesn't wait for them.
+    pub fn stop_flusher(&self) -> Result<(), Error> {
+        // SAFETY: as above.
+        told(unsafe { cvec_vector_stop_flusher(self.raw.as_ptr()) })
+    }
+
     /// Commits what was grown, and closes the file. An error says that growths nobody has settled may be lost; the vector is gone
     /// then too, but for `Busy`. In a forked process it lets go of the file alone, and is `Forked`.
     pub fn close(self) -> Result<(), Error> {
@@ -340,9 +360,8 @@ impl<'v> Seat<'v> {
     /// The same, but it waits for the commits of others no longer than this: `Late`. With no time at all it commits where nobody
     /// does, and else only looks.
     pub fn settle_for(&self, receipt: &Receipt, longest: Duration) -> Result<(), Error> {
-        let milliseconds = u64::try_from(longest.as_nanos().div_ceil(1_000_000)).unwrap_or(u64::MAX);
         // SAFETY: as above.
-        told(unsafe { cvec_vector_await_for(self.raw.as_ptr(), receipt.number, milliseconds) })
+        told(unsafe { cvec_vector_await_for(self.raw.as_ptr(), receipt.number, milliseconds_of(longest)) })
     }
 
     /// How many growths are durable: those with a lower number are. It doesn't wait.
