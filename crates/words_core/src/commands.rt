@@ -56,24 +56,46 @@ fn waiting<'a>(alloc: Global) -> Arg<'a> {
         .default_missing_value(FOR_GOOD)
 }
 
+/// The command with one more word, unless memory was refused before.
+fn with<'a>(
+    command: Result<Command<'a>, AllocError>,
+    word: Arg<'a>,
+) -> Result<Command<'a>, AllocError> {
+    command?.arg(word)
+}
+
+/// The same with a word that is tied to others, for which memory may be refused too.
+fn with_tied<'a>(
+    command: Result<Command<'a>, AllocError>,
+    word: Result<Arg<'a>, AllocError>,
+) -> Result<Command<'a>, AllocError> {
+    with(command, word?)
+}
+
 /// A command with the words that all have over a file.
-fn with_file<'a>(alloc: Global, command: Command<'a>) -> Result<Command<'a>, AllocError> {
-    command.arg(word(alloc, "FILE"))?.arg(flag(alloc, "quiet"))
+fn with_file<'a>(
+    alloc: Global,
+    command: Result<Command<'a>, AllocError>,
+) -> Result<Command<'a>, AllocError> {
+    with(with(command, word(alloc, "FILE")), flag(alloc, "quiet"))
 }
 
 /// A command that may have to wait for its file.
-fn with_locked_file<'a>(alloc: Global, command: Command<'a>) -> Result<Command<'a>, AllocError> {
-    with_file(alloc, command)?.arg(waiting(alloc))
+fn with_locked_file<'a>(
+    alloc: Global,
+    command: Result<Command<'a>, AllocError>,
+) -> Result<Command<'a>, AllocError> {
+    with(with_file(alloc, command), waiting(alloc))
 }
 
 /// A command over a file.
 fn over_file<'a>(alloc: Global, name: &'a str) -> Result<Command<'a>, AllocError> {
-    with_locked_file(alloc, typed(alloc, name)?)
+    with_locked_file(alloc, typed(alloc, name))
 }
 
 /// A command over a file, with a word of its own.
 fn with_word<'a>(alloc: Global, name: &'a str, word: Arg<'a>) -> Result<Command<'a>, AllocError> {
-    over_file(alloc, name)?.arg(word)
+    with(over_file(alloc, name), word)
 }
 
 /// A command over a file, with two words of its own.
@@ -83,7 +105,7 @@ fn with_words<'a>(
     first: Arg<'a>,
     second: Arg<'a>,
 ) -> Result<Command<'a>, AllocError> {
-    with_word(alloc, name, first)?.arg(second)
+    with(with_word(alloc, name, first), second)
 }
 
 /// A value that has to be there.
@@ -101,9 +123,10 @@ fn given_records<'a>(alloc: Global) -> Result<Arg<'a>, AllocError> {
 
 /// `set`, with the words that are its own.
 fn setting<'a>(alloc: Global, name: &'a str) -> Result<Command<'a>, AllocError> {
-    with_words(alloc, name, word(alloc, "START"), given_records(alloc)?)?
-        .arg(flag(alloc, "input"))?
-        .arg(flag(alloc, "lenient").conflicts_with("records")?)
+    let command = with_word(alloc, name, word(alloc, "START"));
+    let command = with_tied(command, given_records(alloc));
+    let command = with(command, flag(alloc, "input"));
+    with_tied(command, flag(alloc, "lenient").conflicts_with("records"))
 }
 
 /// A command that reads, with the words that are its own.
@@ -117,20 +140,19 @@ fn reading<'a>(alloc: Global, name: &'a str) -> Result<Command<'a>, AllocError> 
 
 /// `follow`, with the words that are its own. It takes no lock, so it never waits for one.
 fn following<'a>(alloc: Global, name: &'a str) -> Result<Command<'a>, AllocError> {
-    with_file(alloc, typed(alloc, name)?)?
-        .arg(valued(alloc, "from").conflicts_with("events")?)?
-        .arg(flag(alloc, "once"))?
-        .arg(valued(alloc, "poll"))?
-        .arg(flag(alloc, "events"))?
-        .arg(valued(alloc, "after").requires_arg("events")?)
+    let command = with_file(alloc, typed(alloc, name));
+    let command = with_tied(command, valued(alloc, "from").conflicts_with("events"));
+    let command = with(command, flag(alloc, "once"));
+    let command = with(command, valued(alloc, "poll"));
+    let command = with(command, flag(alloc, "events"));
+    with_tied(command, valued(alloc, "after").requires_arg("events"))
 }
 
 /// `append`, with the words that are its own.
 fn appending<'a>(alloc: Global, name: &'a str) -> Result<Command<'a>, AllocError> {
-    let command = with_words(alloc, name, valued(alloc, "block"), valued(alloc, "every"))?;
-    command
-        .arg(flag(alloc, "progress"))?
-        .arg(flag(alloc, "lenient"))
+    let command = with_words(alloc, name, valued(alloc, "block"), valued(alloc, "every"));
+    let command = with(command, flag(alloc, "progress"));
+    with(command, flag(alloc, "lenient"))
 }
 
 /// A command that appends, with the words that are its own.
@@ -152,9 +174,10 @@ fn making<'a>(alloc: Global, name: &'a str) -> Result<Command<'a>, AllocError> {
     match name {
         "create" => with_words(alloc, name, format(alloc), flag(alloc, "over")),
         "upgrade" => with_word(alloc, name, word(alloc, "NEW")),
-        _ => with_words(alloc, name, word(alloc, "NEW"), format(alloc))?.arg(valued(
-            alloc, "block",
-        )),
+        _ => {
+            let command = with_words(alloc, name, word(alloc, "NEW"), format(alloc));
+            with(command, valued(alloc, "block"))
+        }
     }
 }
 
@@ -163,9 +186,8 @@ fn changing<'a>(alloc: Global, name: &'a str) -> Result<Command<'a>, AllocError>
     match name {
         "set" => setting(alloc, name),
         "resize" => {
-            with_words(alloc, name, word(alloc, "N"), needed(alloc, "record"))?.arg(flag(
-                alloc, "parts",
-            ))
+            let command = with_words(alloc, name, word(alloc, "N"), needed(alloc, "record"));
+            with(command, flag(alloc, "parts"))
         }
         _ => over_file(alloc, name),
     }
@@ -173,7 +195,8 @@ fn changing<'a>(alloc: Global, name: &'a str) -> Result<Command<'a>, AllocError>
 
 /// `stat`, which takes no word of a type.
 fn stat_command<'a>(alloc: Global) -> Result<Command<'a>, AllocError> {
-    with_locked_file(alloc, Command::new(alloc, "stat"))?.arg(flag(alloc, "json"))
+    let command = with_locked_file(alloc, Ok(Command::new(alloc, "stat")));
+    with(command, flag(alloc, "json"))
 }
 
 /// `help`, which may be asked of a command.

@@ -312,6 +312,49 @@ Refused: file, old and FILE's first fault, new exists (remove NEW, or name anoth
 than N records), and new with the faults of a write.
 ";
 
+/// What is told of a command that changes a vector.
+fn help_of_changing(command: &str) -> Option<&'static [u8]>
+    ensures { IfSome result (λ text. IsHelpOf command.now text.now) }
+{
+    match command {
+        "set" => Some(SET),
+        "resize" => Some(RESIZE),
+        "clear" => Some(CLEAR),
+        "fold" => Some(FOLD),
+        _ => None,
+    }
+}
+
+/// What is told of a command that reads a vector, or changes it.
+fn help_of_reading(command: &str) -> Option<&'static [u8]>
+    ensures { IfSome result (λ text. IsHelpOf command.now text.now) }
+{
+    match command {
+        "check" => Some(CHECK),
+        "list" => Some(LIST),
+        "follow" => Some(FOLLOW),
+        "count" => Some(COUNT),
+        "find" => Some(FIND),
+        "stat" => Some(STAT),
+        _ => help_of_changing(command),
+    }
+}
+
+/// What is told of a command over a file.
+fn help_over_file(command: &str) -> Option<&'static [u8]>
+    ensures { IfSome result (λ text. IsHelpOf command.now text.now) }
+{
+    match command {
+        "create" => Some(CREATE),
+        "load" => Some(LOAD),
+        "append" => Some(APPEND),
+        "serve" => Some(SERVE),
+        "upgrade" => Some(UPGRADE),
+        "copy" => Some(COPY),
+        _ => help_of_reading(command),
+    }
+}
+
 /// What is told of a command.
 pub fn help_of(command: &str) -> Option<&'static [u8]>
     ensures { IfSome result (λ text. IsHelpOf command.now text.now) }
@@ -320,23 +363,7 @@ pub fn help_of(command: &str) -> Option<&'static [u8]>
         "image" => Some(IMAGE),
         "show" => Some(SHOW),
         "play" => Some(PLAY),
-        "create" => Some(CREATE),
-        "load" => Some(LOAD),
-        "append" => Some(APPEND),
-        "check" => Some(CHECK),
-        "list" => Some(LIST),
-        "follow" => Some(FOLLOW),
-        "count" => Some(COUNT),
-        "find" => Some(FIND),
-        "set" => Some(SET),
-        "resize" => Some(RESIZE),
-        "clear" => Some(CLEAR),
-        "fold" => Some(FOLD),
-        "upgrade" => Some(UPGRADE),
-        "copy" => Some(COPY),
-        "stat" => Some(STAT),
-        "serve" => Some(SERVE),
-        _ => None,
+        _ => help_over_file(command),
     }
 }
 
