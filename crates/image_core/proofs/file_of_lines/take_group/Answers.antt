@@ -1,7 +1,12 @@
 use Rattle.std.proofs.Common.{sym, ◌∙◌}
 use Rattle.segment_core.specs.declared.format.Format.TheVariants.{One}
-use Rattle.image_core.proofs.Drafts.{IsDraft_push, IsDraft_refused}
+use Rattle.image_core.proofs.Drafts.{IsDraft_push, IsDraft_stays, IsDraft_refused}
 use Rattle.image_core.proofs.file_of_lines.take_group.Goals as goal
+
+pub returns-then-is_some : goal.returns-then-is_some
+returns-then-is_some g c =
+    λ groups line draft. IsDraft_stays g.R.Record.form groups c.args.group.now.0 c.args.file.now.items c.args.too_large.now
+    (sym c.is_some.ensures ∙ c.if-is_some.true) draft
 
 pub returns-in-Ok : goal.returns-in-Ok
 returns-in-Ok g c =
