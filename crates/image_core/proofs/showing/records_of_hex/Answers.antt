@@ -1,5 +1,4 @@
 use Rattle.std.proofs.Common.{ℕ, List, sym, subst}
-use Rattle.segment_core.specs.Scanned.{IsScanOf}
 use Rattle.text_core.specs.HexLine.{IsHexLine}
 use Rattle.image_core.proofs.showing.records_of_hex.Goals as goal
 
