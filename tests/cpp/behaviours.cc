@@ -295,6 +295,34 @@ static void deadlines(const std::string &path) {
     HOLDS(status_of([&] { static_cast<void>(vector.settle_for(1s)); }) == CVEC_NOT_SO);
 }
 
+static void flushing(const std::string &path) {
+    using namespace std::chrono_literals;
+    {
+        numbers vector(path);
+        std::thread flusher([&] { vector.run_flusher(1ns); }), second([&] { vector.run_flusher(std::chrono::hours::max()); });
+        for (std::uint64_t k = 0; k < 9; ++k) {
+            const cvec::growth made = vector.append(k);
+            while (!vector.is_settled(made)) std::this_thread::sleep_for(1ms);
+        }
+        // A close ends them.
+        vector.close();
+        flusher.join();
+        second.join();
+        HOLDS(status_of([&] { vector.run_flusher(1ns); }) == CVEC_DONE);
+    }
+    numbers vector(path);
+    vector.stop_flusher();
+    vector.push_back(9);
+    vector.run_flusher(std::chrono::hours::max());
+    HOLDS(vector.settled() == 0 && vector.size() == 10);
+    vector.close();
+    numbers again(path);
+    const rlimit most{4096, 4096};
+    ::setrlimit(RLIMIT_FSIZE, &most);
+    again.grow_by(1000, 5);
+    HOLDS(status_of([&] { again.run_flusher(std::chrono::hours::max()); }) == CVEC_DISK_WRITE);
+}
+
 static void appenders(const std::string &path) {
     samples vector(path);
     {
@@ -444,6 +472,8 @@ static void forking(const std::string &path) {
     if (child == 0) {
         HOLDS(status_of([&] { vector.push_back(9); }) == CVEC_FORKED);
         HOLDS(status_of([&] { vector.settle(); }) == CVEC_FORKED && status_of([&] { rows.flush(); }) == CVEC_FORKED);
+        HOLDS(status_of([&] { vector.run_flusher(std::chrono::hours(1)); }) == CVEC_FORKED);
+        HOLDS(status_of([&] { vector.stop_flusher(); }) == CVEC_FORKED);
         HOLDS(status_of([&] { vector.close(); }) == CVEC_FORKED);
         std::fflush(stdout);
         ::_exit(wrong);
@@ -605,6 +635,7 @@ int main(int argc, char **argv) {
         {"ranges", ranges},
         {"receipts", receipts},
         {"deadlines", deadlines},
+        {"flushing", flushing},
         {"appenders", appenders},
         {"closing", closing},
         {"closing_meanwhile", closing_meanwhile},

@@ -128,6 +128,10 @@ a_wait_has_a_deadline_in_cpp() (
     behaves deadlines
 )
 
+a_flusher_in_cpp_commits_what_nobody_settles() (
+    behaves flushing
+)
+
 an_appender_gathers_rows_in_cpp() (
     behaves appenders
 )
@@ -206,7 +210,7 @@ memory_is_used_rightly_in_cpp() (
 # The library isn't built for this sanitizer, which sees how it copies records, but not by what its threads are in order: so
 # none reads here what others grow beside it.
 threads_are_in_order_in_cpp() (
-    no_complaint_of thread 0 shared_iterator closing_meanwhile few_seats many_threads turns renewing
+    no_complaint_of thread 0 flushing shared_iterator closing_meanwhile few_seats many_threads turns renewing
 )
 
 # ---- the page, the examples, and oneTBB

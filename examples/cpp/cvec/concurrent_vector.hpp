@@ -12,6 +12,7 @@
 #include <atomic>
 #include <cerrno>
 #include <chrono>
+#include <condition_variable>
 #include <cstddef>
 #include <cstdint>
 #include <cstdlib>
@@ -90,6 +91,9 @@ constexpr std::uint64_t most_records = std::uint64_t{1} << 32;
 constexpr std::size_t cache_line = 64;
 // For a file that is opened again, and that another process has meanwhile.
 constexpr std::chrono::seconds longest_wait{2};
+
+// Of a flusher, in milliseconds: a year.
+constexpr std::uint64_t longest_pause = std::uint64_t{365} * 24 * 3600 * 1000;
 
 // As cvec_vector.h counts it, rounded up. A year and more is as long as it can be.
 template <class Rep, class Period> std::uint64_t milliseconds_of(const std::chrono::duration<Rep, Period> &time) {
@@ -179,6 +183,26 @@ class word_file {
         return grown == 0 || await_for(grown - 1, milliseconds);
     }
 
+    // Waits for all growths that have returned, and so again and again behind such a pause, until stop_flusher or the close.
+    void run_flusher(std::uint64_t milliseconds) {
+        if (process_ != ::getpid()) refuse(CVEC_FORKED);
+        const std::chrono::milliseconds pause(std::clamp<std::uint64_t>(milliseconds, 1, longest_pause));
+        std::unique_lock<std::mutex> lock(flushing_);
+        while (!flushers_end_) {
+            lock.unlock();
+            if (!try_await_all()) return;
+            lock.lock();
+            flusher_wakes_.wait_for(lock, pause, [this] { return flushers_end_; });
+        }
+    }
+
+    void stop_flusher() {
+        if (process_ != ::getpid()) refuse(CVEC_FORKED);
+        const std::lock_guard<std::mutex> lock(flushing_);
+        flushers_end_ = true;
+        flusher_wakes_.notify_all();
+    }
+
     std::uint64_t settled() {
         const lease lent(*this);
         std::uint64_t count = 0;
@@ -242,6 +266,17 @@ class word_file {
       private:
         slot &slot_;
     };
+
+    // False where the file was closed meanwhile.
+    bool try_await_all() {
+        try {
+            await_all();
+        } catch (const error &) {
+            if (!closed_.load(std::memory_order_acquire)) throw;
+            return false;
+        }
+        return true;
+    }
 
     void require(std::uint32_t status) const {
         if (status != CVEC_DONE) refuse(status);
@@ -409,6 +444,7 @@ class word_file {
 
     std::uint32_t give_up() {
         if (process_ != ::getpid()) return leave();
+        stop_flusher();
         const std::lock_guard<std::mutex> lock(seating_);
         if (closed_.exchange(true, std::memory_order_acq_rel)) return CVEC_DONE;
         take_all_seats();
@@ -431,6 +467,9 @@ class word_file {
     std::string path_;
     std::atomic<bool> closed_{false};
     std::mutex seating_; // who takes further seats, or all
+    std::mutex flushing_;
+    std::condition_variable flusher_wakes_;
+    bool flushers_end_ = false; // with flushing_
     std::mutex turn_;
     std::atomic<std::uint64_t> grown_{0}; // so many growths have returned since the file was opened first
     // Read with a seat, and written with all of them.
@@ -764,6 +803,15 @@ template <class T> class concurrent_vector {
     [[nodiscard]] bool settle_for(const growth &made, const std::chrono::duration<Rep, Period> &longest) {
         return file_->await_for(made.number, detail::milliseconds_of(longest));
     }
+
+    // For a thread of the caller's: settles, and so again and again, this long (at least a millisecond) behind the last time, until
+    // stop_flusher or close is called. It throws where a commit is refused.
+    template <class Rep, class Period> void run_flusher(const std::chrono::duration<Rep, Period> &every) {
+        file_->run_flusher(detail::milliseconds_of(every));
+    }
+
+    // Ends the loops of flushers, each that is begun later too. It doesn't wait for them.
+    void stop_flusher() { file_->stop_flusher(); }
 
     // How many growths are durable: the first ones are. It doesn't wait.
     [[nodiscard]] std::uint64_t settled() const { return file_->settled(); }
