@@ -1,6 +1,6 @@
 //! What a flusher learns of the growers, and what it tells them.
 
-ghost use Rattle.std.specs.Prelude.{◌≡◌, ◌≤◌, ◌<◌, ◌+◌, ◌∷◌, ◌^◌, false, true, length, IfOk, IfErr, MatchResult};
+ghost use Rattle.std.specs.Prelude.{◌≡◌, ◌≤◌, ◌<◌, ◌+◌, ◌∷◌, ◌^◌, false, true, length, IfOk, IfErr, IsTrue, MatchResult};
 ghost use Rattle.disk_core.specs.Moments.{clock};
 ghost use Rattle.directory_core.specs.Chain.{Agree, IsLongerOf, IsPrefix, total};
 ghost use Rattle.directory_core.specs.Known.{KnowsAll};
@@ -90,6 +90,17 @@ impl<R: Record, D: Disk> Flusher<R, D> {
         prove!(self.settled <= known);
         raise_at::<D, Brand>(&mut self.mark, live.mark(), self.pen.disk(), self.settled);
         self.settled
+    }
+
+    /// Ends the directory behind the growths that it knows: from then on each growth is refused, and none can stand behind
+    /// them. `false` where another came first, of which a look learns.
+    pub fn end(&mut self, live: &Live<R>) -> bool
+        requires of { IsFlusherOf (D.keeps self.old.pen.disk) live.now self.old }
+        ensures learns { FlusherLearns self.old self.new }
+        ensures same { self.new.pass.entries ≡ self.old.pass.entries }
+        ensures all { IsTrue result → KnowsAll self.new.pass }
+    {
+        live.end_by(&mut self.pass)
     }
 
     /// Gives a seat up: what it knows is known, and what it was told by the mark is settled, and stands: whatever a crash has

@@ -52,7 +52,7 @@ impl<R: Record, D: Disk> Flusher<R, D> {
         ensures same { self.new.pass.entries ≡ self.old.pass.entries }
         ensures all { IsTrue result → (self.new.settled ≡ length self.new.pass.entries) × KnowsAll self.new.pass }
     {
-        closed && self.settled == self.known() && live.end_by(&mut self.pass)
+        closed && self.settled() == self.known() && self.end(live)
     }
 
     /// Commits and tells, until the book is closed and all is settled.

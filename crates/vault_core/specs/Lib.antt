@@ -7,6 +7,7 @@ pub mod Commands
 pub mod Settles
 pub mod Sharing
 pub mod Gathering
+pub mod Space
 pub mod Leaving
 pub mod Upgrading
 pub mod Names

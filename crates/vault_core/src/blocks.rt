@@ -253,6 +253,29 @@ impl<R: Record> Blocks<R> {
         }
     }
 
+    /// Touches the records of one part, by the calling thread alone.
+    fn touch_part_alone<T: Touch<R>>(&mut self, part: Part, touch: &T)
+        requires { IsPart self.old part }
+        ensures touched { IsTouched (T.one touch.now) (span_of part ∷ []) (joined self.old) (joined self.new) }
+        ensures lengths { map length self.new ≡ map length self.old }
+    {
+        let block = &mut self.blocks[part.block];
+        let records = &mut block[part.from..part.from + part.len];
+        touch.touch(part.at, records);
+    }
+
+    /// Touches the records of parts that stand one behind the other, by the calling thread alone.
+    pub(crate) fn touch_alone<T: Touch<R>>(&mut self, parts: &[Part], touch: &T)
+        requires parts { AreParts self.old parts.now }
+        requires ascending { are_ascending 0 (spans_of parts.now) ≡ true }
+        ensures touched { IsTouched (T.one touch.now) (spans_of parts.now) (joined self.old) (joined self.new) }
+        ensures parts { AreParts self.new parts.now }
+    {
+        for k in 0..parts.len() {
+            self.touch_part_alone(parts[k], touch);
+        }
+    }
+
     /// Puts a block behind the others.
     pub(crate) fn push(&mut self, block: Vec<R>) -> Result<(), AllocError>
         requires { length (joined self.old) + length block.items ≤ 2 ^ 32 }

@@ -1,26 +1,27 @@
 //! The end of a growth phase.
 
-ghost use Rattle.std.specs.Prelude.{◌≡◌, ◌≢◌, ℕ, ◌≤◌, ◌<◌, ◌+◌, ◌++◌, All, HoldsAt, List, length, vec_len, vec_capacity, IfSome, IfOk, IfErr, OnOk, MatchResult, MatchBool};
+ghost use Rattle.std.specs.Prelude.{◌≡◌, ◌≢◌, ℕ, ◌≤◌, ◌<◌, ◌++◌, All, HoldsAt, List, length, IfOk, IfErr, OnOk, MatchResult, MatchBool};
 ghost use Rattle.std.specs.List.{AllWithin};
 ghost use Rattle.disk_core.specs.State.{now, IsImage};
 ghost use Rattle.pen_core.specs.Typed.{OpensTo};
-ghost use Rattle.directory_core.specs.Chain.{grown_records, total, IsPrefix, IsChained};
+ghost use Rattle.directory_core.specs.Chain.{grown_records, IsPrefix, IsChained};
 ghost use Rattle.directory_core.specs.Known.{KnowsAll};
-ghost use Rattle.record_core.specs.Limits.{record_limit};
-ghost use Rattle.book_core.specs.Lists.{records_of, joined_pieces, opening_of, StandInList};
+ghost use Rattle.book_core.specs.Lists.{opening_of, StandInList};
 ghost use Rattle.flush_core.specs.Flusher.{IsFlusherOf, FlusherLearns, ToldIsLeft};
 ghost use Rattle.vault_core.specs.Vault.{list_of};
+ghost use Rattle.vault_core.specs.Space.{IsSpaceFor};
 ghost use Rattle.vault_core.specs.Gathering.{AreOfPhase, AreDistinct, IsWhole, IsGatherFault, MayGather, made_by, most_known};
 
 use crate::blocks::Blocks;
 use crate::fault::VaultFault;
+use crate::space::{Space, put_behind};
 use crate::vault::Vault;
 use book_core::{Live, Seat};
 use disk_core::Disk;
 use flush_core::Flusher;
 use pen_core::PenFault;
 use record_core::Record;
-use std::alloc::{AllocError, Global};
+use std::alloc::Global;
 
 /// A phase that wasn't ended, and why.
 #[derive(Drop)]
@@ -125,28 +126,6 @@ fn check<R: Record, D: Disk>(
     Ok(())
 }
 
-/// The records of the growths that the flusher knows, in one block.
-fn copy_growths<R: Record, D: Disk>(
-    alloc: Global,
-    live: &Live<R>,
-    flusher: &mut Flusher<R, D>,
-) -> Result<Vec<R>, AllocError>
-    requires of { IsFlusherOf (D.keeps flusher.old.pen.disk) live.now flusher.old }
-    ensures same { flusher.new ≡ flusher.old }
-    ensures copied { IfOk result (λ block. block.items ≡ grown_records flusher.old.pass.entries) }
-    ensures in_limit { OnOk result (flusher.old.before + total flusher.old.pass.entries ≤ record_limit) }
-{
-    let count = flusher.size() - live.opening_len();
-    let mut block = Vec::with_capacity(alloc, count as usize)?;
-    for number in 0..flusher.known() {
-        let Some(records) = flusher.growth(live, number) else {
-            unreachable!()
-        };
-        block.extend_from_slice(records)?;
-    }
-    Ok(block)
-}
-
 /// Gives the seats up: the flusher knows what each of them knew, and what each was told is settled, and stands. Who knew as
 /// much as each of them, or all growths of the phase, learns nothing.
 pub fn take_in_all<R: Record, D: Disk>(
@@ -172,52 +151,6 @@ pub fn take_in_all<R: Record, D: Disk>(
     }
 }
 
-/// The blocks, and behind them the last one, where it has records: in a row that has room for them.
-fn put_behind<R: Record>(row: Vec<Vec<R>>, blocks: Vec<Vec<R>>, last: Vec<R>) -> Vec<Vec<R>>
-    requires { (length row.items ≡ 0) × (vec_len blocks + 1 ≤ vec_capacity row) }
-    ensures joined { joined_pieces (records_of result.items) ≡ joined_pieces (records_of blocks.items) ++ last.items }
-    ensures few { vec_len result ≤ vec_len blocks + 1 }
-{
-    let mut row = row;
-    let mut blocks = blocks;
-    let Ok(()) = row.append(&mut blocks) else {
-        unreachable!()
-    };
-    if !last.is_empty() {
-        row.push_reserved(last);
-    }
-    row
-}
-
-/// What the end of a phase takes memory for: rows for the blocks and their ends, and the records of the growths in one
-/// block.
-#[derive(Drop)]
-struct Space<R: Record> {
-    row: Vec<Vec<R>>,
-    ends: Vec<u64>,
-    last: Vec<R>,
-}
-
-/// All memory that the end of a phase takes.
-fn take_space<R: Record, D: Disk>(
-    alloc: Global,
-    live: &Live<R>,
-    flusher: &mut Flusher<R, D>,
-) -> Option<Space<R>>
-    requires of { IsFlusherOf (D.keeps flusher.old.pen.disk) live.now flusher.old }
-    ensures same { flusher.new ≡ flusher.old }
-    ensures row { IfSome result (λ space. (length space.row.items ≡ 0) × (length live.now.blocks + 1 ≤ vec_capacity space.row)) }
-    ensures ends { IfSome result (λ space. (length space.ends.items ≡ 0) × (length live.now.blocks + 1 ≤ vec_capacity space.ends)) }
-    ensures copied { IfSome result (λ space. space.last.items ≡ grown_records flusher.old.pass.entries) }
-    ensures in_limit { IfSome result (λ _. flusher.old.before + total flusher.old.pass.entries ≤ record_limit) }
-{
-    let count = live.block_count().saturating_add(1) as usize;
-    let row = Vec::with_capacity(alloc, count).ok()?;
-    let ends = Vec::with_capacity(alloc, count).ok()?;
-    let last = copy_growths(alloc, live, flusher).ok()?;
-    Some(Space { row, ends, last })
-}
-
 /// The memory that the end of a phase takes, where nothing is in its way.
 fn prepare<R: Record, D: Disk>(
     alloc: Global,
@@ -232,15 +165,12 @@ fn prepare<R: Record, D: Disk>(
         (λ fault. IsGatherFault live.now seats.now flusher.old fault) }
     ensures stand { OnOk result (All StandInList seats.now) }
     ensures chained { OnOk result (IsChained flusher.old.pass.entries) }
-    ensures row { IfOk result (λ space. (length space.row.items ≡ 0) × (length live.now.blocks + 1 ≤ vec_capacity space.row)) }
-    ensures ends { IfOk result (λ space. (length space.ends.items ≡ 0) × (length live.now.blocks + 1 ≤ vec_capacity space.ends)) }
-    ensures copied { IfOk result (λ space. space.last.items ≡ grown_records flusher.old.pass.entries) }
-    ensures in_limit { OnOk result (flusher.old.before + total flusher.old.pass.entries ≤ record_limit) }
+    ensures space { IfOk result (IsSpaceFor live.now flusher.old) }
 {
     if let Err(fault) = check(live, seats, flusher) {
         return Err(fault);
     }
-    match take_space(alloc, live, flusher) {
+    match Space::take(alloc, live, flusher) {
         Some(space) => Ok(space),
         None => Err(VaultFault::Pen(PenFault::Memory)),
     }

@@ -8,9 +8,11 @@
 
 mod blocks;
 mod change;
+mod change_alone;
 mod committing;
 mod compact;
 mod ending;
+mod ending_known;
 mod fault;
 mod fold;
 mod found;
@@ -19,11 +21,14 @@ mod parts;
 mod pieces;
 mod resize;
 mod share;
+mod space;
 mod upgrading;
 mod vault;
 
 pub use ending::{Gathering, gather, made_in_all, take_in_all};
+pub use ending_known::gather_known;
 pub use fault::VaultFault;
 pub use pieces::VaultPieces;
+pub use space::Space;
 pub use upgrading::{UpgradeFault, copied_to, copy, format_of, greatest_piece, piece_of, upgrade};
 pub use vault::Vault;

@@ -19,8 +19,8 @@ take_in_all-requires-clause-of g c κs within =
 pub with_ends-requires-clause-few : goal.with_ends-requires-clause-few
 with_ends-requires-clause-few g c =
     let list : joined_pieces (records_of c.put_behind-blocks.result.items) ≡ opening_of c.args.live ++ grown_records c.args.flusher.pass.entries =
-    c.put_behind-blocks.ensures.joined ∙ ap₂ (λ bs rs. joined_pieces bs ++ rs) c.into_blocks.ensures c.in-Ok.ensures.copied in
-    let limit = c.in-Ok.ensures.in_limit in
+    c.put_behind-blocks.ensures.joined ∙ ap₂ (λ bs rs. joined_pieces bs ++ rs) c.into_blocks.ensures c.in-Ok.ensures.space.copied in
+    let limit = c.in-Ok.ensures.space.in_limit in
     let few = gathered_few (g.D.Disk.keeps c.args.flusher.pen.disk) c.args.live c.args.flusher (records_of c.put_behind-blocks.result.items) c.requires.flusher_of limit list in
     λ _ _. few
 
@@ -31,7 +31,7 @@ invariant_of-vault g c =
     let entries = c.take_in_all.ensures.known (subst (λ (f : FlusherOf _ _). All (λ (s : Seated _). length s.pass.entries ≤ length f.pass.entries) c.args.seats.items) (sym same)
     (none_more c.args.live c.args.seats.items c.args.flusher may)) in
     let list : joined_pieces (records_of c.put_behind-blocks.result.items) ≡ opening_of c.args.live ++ grown_records c.args.flusher.pass.entries =
-    c.put_behind-blocks.ensures.joined ∙ ap₂ (λ bs rs. joined_pieces bs ++ rs) c.into_blocks.ensures c.in-Ok.ensures.copied in
+    c.put_behind-blocks.ensures.joined ∙ ap₂ (λ bs rs. joined_pieces bs ++ rs) c.into_blocks.ensures c.in-Ok.ensures.space.copied in
     let ended : HasEnded g.D.Disk.keeps c.args.live c.args.flusher c.take_in_all.new.flusher (records_of c.put_behind-blocks.result.items) = record {
       of = c.requires.flusher_of;
       settled = may.settled;
