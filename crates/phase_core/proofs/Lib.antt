@@ -1,3 +1,5 @@
 mod LogLeft
 mod GoesOnLemmas
+mod WrittenLemmas
+mod CountLemmas
 mod Worked

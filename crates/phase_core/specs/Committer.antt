@@ -1,11 +1,12 @@
 -- Who commits for all threads of a phase.
-use Rattle.std.specs.Prelude.{ℕ, ◌==◌, List, [], if◌then◌else◌}
+use Rattle.std.specs.Prelude.{ℕ, List}
 use Rattle.std.specs.Arc.{arc_value}
 use Rattle.book_core.specs.Lists.{Phase}
 use Rattle.disk_core.specs.declared.disk.Disk.{Ghosts}
 use Rattle.relay_core.specs.declared.call.Call.{Call}
 use Rattle.relay_core.specs.declared.relay_disk.RelayDisk.{RelayDisk}
 use Rattle.phase_core.specs.declared.committer.Committer.{Committer}
+use Rattle.phase_core.specs.Listing.{calls_from}
 
 module _ {D : Type 0} {disk : Ghosts D} where
   -- the phase that it is of
@@ -16,6 +17,6 @@ module _ {D : Type 0} {disk : Ghosts D} where
   abbrev pub disk_of : Committer D disk → RelayDisk D disk
   disk_of committer = committer.flusher.pen.disk
 
-  -- the calls that the host hasn't made: those of the list, if it began behind those that it has made
+  -- the calls that the host hasn't made
   abbrev pub calls_of : Committer D disk → List Call
-  calls_of committer = if committer.flusher.pen.disk.from == committer.made then committer.flusher.pen.disk.calls.items else []
+  calls_of committer = calls_from committer.made committer.flusher.pen.disk

@@ -1,4 +1,10 @@
 pub mod Grower
 pub mod Committing
+pub mod Listing
 pub mod Committer
+pub mod HostVault
+pub mod HostCommands
+pub mod Gathering
+pub mod Sharing
+pub mod Folding
 pub mod Host

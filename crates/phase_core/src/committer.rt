@@ -9,6 +9,7 @@ ghost use Rattle.flush_core.specs.Flusher.{IsFlusherOf, ToldIsLeft};
 ghost use Rattle.relay_core.specs.Listed.{LeadTo};
 ghost use Rattle.phase_core.specs.Committing.{GoesOn, IsCallFault, IsUnplanned};
 
+use crate::listing::list_from;
 use book_core::Live;
 use disk_core::Disk;
 use flush_core::{FlushFault, Flusher, Lane, Tick};
@@ -20,10 +21,10 @@ use std::sync::Arc;
 /// the growers what is durable. One thread at a time uses it.
 #[derive(Drop)]
 pub struct Committer<D: Disk> {
-    live: Arc<Live<u64>, Global>,
-    flusher: Flusher<u64, RelayDisk<D>>,
+    pub(crate) live: Arc<Live<u64>, Global>,
+    pub(crate) flusher: Flusher<u64, RelayDisk<D>>,
     /// The moment of the disk up to which the host has made its calls.
-    made: u64,
+    pub(crate) made: u64,
     ghost of: { IsFlusherOf (D.keeps flusher.pen.disk.inner) (arc_value live) flusher },
 }
 
@@ -86,18 +87,20 @@ fn commit<D: Disk>(
 impl<D: Disk> Committer<D> {
     ghost use Rattle.phase_core.specs.Committer.{phase_of, disk_of, calls_of};
 
+    /// Who commits for a phase over a file of which the host has made the calls up to that moment.
     pub(crate) fn new(
         live: Arc<Live<u64>, Global>,
         flusher: Flusher<u64, RelayDisk<D>>,
+        made: u64,
     ) -> Committer<D>
         requires { IsFlusherOf (D.keeps flusher.pen.disk.inner) (arc_value live) flusher }
         ensures parts { (phase_of result ≡ arc_value live) × (result.flusher ≡ flusher) }
-        ensures made { result.made ≡ 1 }
+        ensures made { result.made ≡ made }
     {
         Committer {
             live,
             flusher,
-            made: 1,
+            made,
         }
     }
 
@@ -122,14 +125,7 @@ impl<D: Disk> Committer<D> {
         ensures lead { IfSome result (λ calls.
             D.keeps (disk_of self.now).inner → LeadTo (D.states (disk_of self.now).inner) self.now.made calls.now) }
     {
-        let disk = self.flusher.disk();
-        if disk.from() == self.made {
-            return disk.calls();
-        }
-        if disk.moment()? == self.made {
-            return Some(&[]);
-        }
-        None
+        list_from(self.flusher.disk(), self.made)
     }
 
     /// The host has made the calls, and each has succeeded: tells the growers what is durable, and answers how many growths

@@ -1,6 +1,6 @@
 //! A phase over a file whose calls a host makes.
 
-ghost use Rattle.std.specs.Prelude.{◌≡◌, [], length, IfOk, IfErr, IfSome, OnOk};
+ghost use Rattle.std.specs.Prelude.{◌≡◌, [], length, IfOk, IfSome, OnOk};
 ghost use Rattle.std.specs.Arc.{arc_value};
 ghost use Rattle.std.specs.Int.{w64};
 ghost use Rattle.record_core.specs.Bytes.{unsigned};
@@ -10,26 +10,23 @@ ghost use Rattle.pen_core.specs.Births.{IsExisting};
 ghost use Rattle.pen_core.specs.Opening.{IsOpened};
 ghost use Rattle.book_core.specs.Lists.{opening_of};
 ghost use Rattle.book_core.specs.Beginning.{AreNewSeats, IsNewSeat, MayBegin};
-ghost use Rattle.flush_core.specs.Flusher.{IsFlusherOf};
 
 use crate::committer::Committer;
 use crate::grower::Grower;
 use crate::host::{HostDisk, host_disk};
+use crate::lending::lend_new;
 use book_core::{Live, Seat};
-use directory_core::GROWTH_LIMIT;
-use flush_core::Flusher;
 use pen_core::{OpenFault, PenFault};
-use relay_core::RelayDisk;
 use segment_core::Format;
 use std::alloc::Global;
 use std::sync::Arc;
-use vault_core::{Vault, VaultFault};
+use vault_core::Vault;
 
 /// A phase, and the seats that nobody has.
 #[derive(Drop)]
 pub struct Phase {
-    live: Arc<Live<u64>, Global>,
-    seats: Vec<Seat<u64>>,
+    pub(crate) live: Arc<Live<u64>, Global>,
+    pub(crate) seats: Vec<Seat<u64>>,
     ghost seated: { AreNewSeats (arc_value live).directory (arc_value live).mark seats.items },
 }
 
@@ -40,47 +37,6 @@ pub enum BeginFault {
     Pen(PenFault),
     /// As a file that is there is refused.
     Open(OpenFault),
-}
-
-/// One phase for all its ends.
-fn shared(
-    alloc: Global,
-    live: Live<u64>,
-    flusher: Flusher<u64, RelayDisk<HostDisk>>,
-    seats: Vec<Seat<u64>>,
-) -> Result<(Phase, Committer<HostDisk>), BeginFault>
-    requires of { IsFlusherOf (KeepsSoFar flusher.pen.disk.inner) live flusher }
-    requires seated { AreNewSeats live.directory live.mark seats.items }
-    ensures phase { IfOk result (λ r. (arc_value r.0.live ≡ live) × (arc_value r.1.live ≡ live)) }
-    ensures flusher { IfOk result (λ r. r.1.flusher ≡ flusher) }
-    ensures refused { IfErr result (λ fault. fault ≡ BeginFault.Pen PenFault.Memory) }
-{
-    let Ok(live) = Arc::new(alloc, live) else {
-        return Err(BeginFault::Pen(PenFault::Memory));
-    };
-    let Ok(other) = live.clone() else {
-        return Err(BeginFault::Pen(PenFault::Memory));
-    };
-    Ok((Phase { live, seats }, Committer::new(other, flusher)))
-}
-
-/// Lends the vault to so many growers and to who commits.
-fn lend(
-    alloc: Global,
-    vault: Vault<u64, RelayDisk<HostDisk>>,
-    seats: u16,
-) -> Result<(Phase, Committer<HostDisk>), BeginFault>
-    ensures opening { IfOk result (λ r. (arc_value r.0.live).blocks ≡ vault.blocks) }
-    ensures one { IfOk result (λ r. arc_value r.1.live ≡ arc_value r.0.live) }
-    ensures disk { IfOk result (λ r. r.1.flusher.pen ≡ vault.pen) }
-    ensures begins { IfOk result (λ r. (r.1.flusher.settled ≡ 0) × (r.1.flusher.pass.entries ≡ [])) }
-    ensures may { OnOk result (MayBegin growth_limit seats) }
-{
-    match vault.share(GROWTH_LIMIT, seats) {
-        Ok((live, flusher, seats)) => shared(alloc, live, flusher, seats),
-        Err((_, VaultFault::Pen(fault))) => Err(BeginFault::Pen(fault)),
-        Err(_) => unreachable!(),
-    }
 }
 
 impl Phase {
@@ -99,7 +55,7 @@ impl Phase {
         ensures may { OnOk result (MayBegin growth_limit seats) }
     {
         match Vault::create_as(alloc, host_disk(alloc, bytes), format) {
-            Ok(vault) => lend(alloc, vault, seats),
+            Ok(vault) => lend_new(alloc, vault, seats),
             Err((_, fault)) => Err(BeginFault::Pen(fault)),
         }
     }
@@ -118,7 +74,7 @@ impl Phase {
         ensures may { OnOk result (MayBegin growth_limit seats) }
     {
         match Vault::open(alloc, host_disk(alloc, bytes)) {
-            Ok(vault) => lend(alloc, vault, seats),
+            Ok(vault) => lend_new(alloc, vault, seats),
             Err((_, fault)) => Err(BeginFault::Open(fault)),
         }
     }

@@ -1,0 +1,34 @@
+-- How a phase begins over a vault.
+use Rattle.std.specs.Prelude.{◌≡◌, ℕ, [], length, Option, Some, None}
+use Rattle.std.specs.Arc.{arc_value}
+use Rattle.disk_core.specs.declared.disk.Disk.{Ghosts}
+use Rattle.pen_core.specs.declared.fault.PenFault.{PenFault}
+use Rattle.pen_core.specs.declared.fault.PenFault.TheVariants.{Memory}
+use Rattle.directory_core.specs.Limits.{growth_limit}
+use Rattle.relay_core.specs.declared.relay_disk.RelayDisk.{RelayDisk}
+use Rattle.vault_core.specs.declared.fault.VaultFault.TheVariants.{Pen}
+use Rattle.vault_core.specs.Vault.{VaultOf}
+use Rattle.vault_core.specs.Sharing.{IsShareFault}
+use Rattle.phase_core.specs.declared.committer.Committer.{Committer}
+use Rattle.phase_core.specs.declared.host_vault.HostVault.{HostVault}
+use Rattle.phase_core.specs.declared.phase.Phase.{Phase}
+
+module _ {D : Type 0} {disk : Ghosts D} where
+  -- They are of one phase with so many seats: what the vault has stands in it from before, and no growth is made. Who commits
+  -- has the pen, and the host has made the calls that it had made.
+  pub record Lends (vault : VaultOf ℕ (RelayDisk D disk)) (made seats : ℕ) (phase : Phase) (committer : Committer D disk) : Type 0 where
+    pub opening : (arc_value phase.live).blocks ≡ vault.blocks
+    pub one : arc_value committer.live ≡ arc_value phase.live
+    pub seats_are : length phase.seats.items ≡ seats
+    pub pen : committer.flusher.pen ≡ vault.pen
+    pub made_same : committer.made ≡ made
+    pub begins : (committer.flusher.settled ≡ 0) × (committer.flusher.pass.entries ≡ [])
+
+  -- why it isn't lent: the vault is as it was; or there was no memory for what the ends share, and none is left
+  abbrev pub RefusesLending : VaultOf ℕ (RelayDisk D disk) → ℕ → Option (VaultOf ℕ (RelayDisk D disk)) → PenFault → Type 0
+  RefusesLending vault seats (Some left) fault = (left ≡ vault) × IsShareFault vault growth_limit seats (Pen fault)
+  RefusesLending vault seats None fault = fault ≡ Memory
+
+  abbrev pub RefusesShare : HostVault D disk → ℕ → Option (HostVault D disk) → PenFault → Type 0
+  RefusesShare it seats (Some left) fault = (left ≡ it) × IsShareFault it.vault growth_limit seats (Pen fault)
+  RefusesShare it seats None fault = fault ≡ Memory

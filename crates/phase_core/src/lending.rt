@@ -1,0 +1,107 @@
+//! How a vault is lent to a phase.
+
+ghost use Rattle.std.specs.Prelude.{◌≡◌, IfOk, IfErr, IfSome, OnOk};
+ghost use Rattle.std.specs.Arc.{arc_value};
+ghost use Rattle.directory_core.specs.Limits.{growth_limit};
+ghost use Rattle.book_core.specs.Beginning.{AreNewSeats, MayBegin};
+ghost use Rattle.flush_core.specs.Flusher.{IsFlusherOf};
+ghost use Rattle.phase_core.specs.Sharing.{Lends, RefusesLending, RefusesShare};
+
+use crate::committer::Committer;
+use crate::host::HostDisk;
+use crate::host_vault::HostVault;
+use crate::phase::{BeginFault, Phase};
+use book_core::{Live, Seat};
+use directory_core::GROWTH_LIMIT;
+use disk_core::Disk;
+use flush_core::Flusher;
+use pen_core::PenFault;
+use relay_core::RelayDisk;
+use std::alloc::Global;
+use std::sync::Arc;
+use vault_core::{Vault, VaultFault};
+
+/// One phase for all its ends. `None` where there is no memory for it: then nothing is left of it.
+fn shared<D: Disk + Drop>(
+    alloc: Global,
+    live: Live<u64>,
+    flusher: Flusher<u64, RelayDisk<D>>,
+    seats: Vec<Seat<u64>>,
+    made: u64,
+) -> Option<(Phase, Committer<D>)>
+    requires of { IsFlusherOf (D.keeps flusher.pen.disk.inner) live flusher }
+    requires seated { AreNewSeats live.directory live.mark seats.items }
+    ensures phase { IfSome result (λ r. (arc_value r.0.live ≡ live) × (arc_value r.1.live ≡ live)) }
+    ensures flusher { IfSome result (λ r. (r.1.flusher ≡ flusher) × (r.1.made ≡ made)) }
+    ensures seats { IfSome result (λ r. r.0.seats.items ≡ seats.items) }
+{
+    let Ok(live) = Arc::new(alloc, live) else {
+        return None;
+    };
+    let Ok(other) = live.clone() else {
+        return None;
+    };
+    Some((Phase { live, seats }, Committer::new(other, flusher, made)))
+}
+
+/// Lends the vault to so many growers and to who commits. Refused with the vault handed back, or with none, where there was
+/// no memory for what they share.
+fn lend<D: Disk + Drop>(
+    alloc: Global,
+    vault: Vault<u64, RelayDisk<D>>,
+    made: u64,
+    seats: u16,
+) -> Result<(Phase, Committer<D>), (Option<Vault<u64, RelayDisk<D>>>, PenFault)>
+    ensures shares { IfOk result (λ r. Lends vault made seats r.0 r.1) }
+    ensures may { OnOk result (MayBegin growth_limit seats) }
+    ensures refused { IfErr result (λ r. RefusesLending vault seats r.0 r.1) }
+{
+    match vault.share(GROWTH_LIMIT, seats) {
+        Ok((live, flusher, seats)) => match shared(alloc, live, flusher, seats, made) {
+            Some(ends) => Ok(ends),
+            None => Err((None, PenFault::Memory)),
+        },
+        Err((vault, fault)) => match fault {
+            VaultFault::Pen(fault) => Err((Some(vault), fault)),
+            _ => unreachable!(),
+        },
+    }
+}
+
+/// Lends a vault whose calls the host hasn't made.
+pub(crate) fn lend_new(
+    alloc: Global,
+    vault: Vault<u64, RelayDisk<HostDisk>>,
+    seats: u16,
+) -> Result<(Phase, Committer<HostDisk>), BeginFault>
+    ensures shares { IfOk result (λ r. Lends vault 1 seats r.0 r.1) }
+    ensures may { OnOk result (MayBegin growth_limit seats) }
+{
+    match lend(alloc, vault, 1, seats) {
+        Ok(ends) => Ok(ends),
+        Err((_, fault)) => Err(BeginFault::Pen(fault)),
+    }
+}
+
+impl<D: Disk + Drop> HostVault<D> {
+    /// Begins a phase with so many seats, from 1 to 64: what the vault has stands in it from before. Refused with the vault
+    /// handed back: `Broken`; `TooLarge`, of the seats; `Memory`. Where there was no memory for what the ends share, none is.
+    pub fn share(
+        self,
+        alloc: Global,
+        seats: u16,
+    ) -> Result<(Phase, Committer<D>), (Option<HostVault<D>>, PenFault)>
+        ensures shares { IfOk result (λ r. Lends self.vault self.made seats r.0 r.1) }
+        ensures may { OnOk result (MayBegin growth_limit seats) }
+        ensures refused { IfErr result (λ r. RefusesShare self seats r.0 r.1) }
+    {
+        let HostVault { vault, made } = self;
+        match lend(alloc, vault, made, seats) {
+            Ok(ends) => Ok(ends),
+            Err((left, fault)) => match left {
+                Some(vault) => Err((Some(HostVault { vault, made }), fault)),
+                None => Err((None, fault)),
+            },
+        }
+    }
+}
