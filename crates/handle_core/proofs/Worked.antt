@@ -1,7 +1,7 @@
 -- Worked examples: what a call makes of a handle.
 use Rattle.std.proofs.Common.{◌≡◌, None, Some, refl}
 use Rattle.handle_core.specs.declared.refusal.Refusal.{Refusal}
-use Rattle.handle_core.specs.declared.refusal.Refusal.TheVariants.{Unborn, NotSegment, Version, Width, Damaged, Memory, Empty, OutOfRange, TooLarge, FileFull, NoRoom, Exists, Broken, NotSo, Again, Full}
+use Rattle.handle_core.specs.declared.refusal.Refusal.TheVariants.{Unborn, NotSegment, Version, Width, Damaged, Memory, Empty, OutOfRange, TooLarge, FileFull, NoRoom, Exists, Broken, NotSo, Again, Full, Busy, Unfolded, Unsettled}
 use Rattle.handle_core.specs.declared.session.Role.{Role}
 use Rattle.handle_core.specs.Refusal.{code_of}
 use Rattle.handle_core.specs.Handles.{Becomes, Refused}
@@ -39,3 +39,6 @@ no_refusal Broken is = cc
 no_refusal NotSo is = cc
 no_refusal Again is = cc
 no_refusal Full is = cc
+no_refusal Busy is = cc
+no_refusal Unfolded is = cc
+no_refusal Unsettled is = cc

@@ -1,4 +1,5 @@
 pub mod Keeping
 pub mod Refusal
 pub mod Roles
+pub mod Vaults
 pub mod Handles

@@ -10,8 +10,13 @@ use Rattle.segment_core.specs.declared.fault.ScanFault.TheVariants as scans
 use Rattle.pen_core.specs.declared.fault.OpenFault.TheVariants as opens
 use Rattle.phase_core.specs.declared.phase.BeginFault.{BeginFault}
 use Rattle.phase_core.specs.declared.phase.BeginFault.TheVariants as begins
+use Rattle.vault_core.specs.declared.fault.VaultFault.{VaultFault}
+use Rattle.vault_core.specs.declared.fault.VaultFault.TheVariants as vaults
+use Rattle.phase_core.specs.declared.ending.GatherFault.{GatherFault}
+use Rattle.phase_core.specs.declared.ending.GatherFault.TheVariants as gathers
+use Rattle.pen_core.specs.declared.fault.PenFault.{PenFault}
 use Rattle.handle_core.specs.declared.refusal.Refusal.{Refusal}
-use Rattle.handle_core.specs.declared.refusal.Refusal.TheVariants.{Unborn, NotSegment, Version, Width, Damaged, Memory, Empty, OutOfRange, TooLarge, FileFull, NoRoom, Exists, Broken, NotSo, Again, Full}
+use Rattle.handle_core.specs.declared.refusal.Refusal.TheVariants.{Unborn, NotSegment, Version, Width, Damaged, Memory, Empty, OutOfRange, TooLarge, FileFull, NoRoom, Exists, Broken, NotSo, Again, Full, Busy, Unfolded, Unsettled}
 
 abbrev pub code_of : Refusal → ℕ
 code_of Unborn = 1
@@ -30,6 +35,9 @@ code_of Broken = 34
 code_of NotSo = 64
 code_of Again = 65
 code_of Full = 66
+code_of Busy = 67
+code_of Unfolded = 69
+code_of Unsettled = 70
 
 abbrev pub of_growth : GrowFault → Refusal
 of_growth faults.Closed = Full
@@ -63,3 +71,30 @@ of_begin (begins.Pen pens.TooLarge) = TooLarge
 of_begin (begins.Pen other) = Broken
 of_begin (begins.Open (opens.Scan fault)) = of_scan fault
 of_begin (begins.Open (opens.Disk cause)) = Broken
+
+-- why a phase isn't gathered
+abbrev pub of_gather : GatherFault → Refusal
+of_gather gathers.Shared = Busy
+of_gather gathers.Broken = Broken
+of_gather gathers.Strayed = Broken
+of_gather (gathers.Unsettled number) = Unsettled
+of_gather gathers.Memory = Memory
+
+-- why a command on a vault is refused: it wrote nothing, or, where a call of the file failed, is broken
+abbrev pub of_pen : PenFault → Refusal
+of_pen pens.Broken = Broken
+of_pen pens.Busy = Busy
+of_pen pens.OldFormat = Version
+of_pen pens.Runs = NotSo
+of_pen pens.OutOfRange = OutOfRange
+of_pen pens.TooLarge = TooLarge
+of_pen pens.Unfolded = Unfolded
+of_pen pens.FileFull = FileFull
+of_pen pens.Memory = Memory
+of_pen pens.Exists = Exists
+of_pen (pens.Disk cause) = Broken
+
+abbrev pub of_vault : VaultFault → Refusal
+of_vault (vaults.Pen fault) = of_pen fault
+of_vault (vaults.Unsettled number) = Unsettled
+of_vault vaults.WrongPhase = Busy

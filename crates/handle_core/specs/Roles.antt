@@ -18,6 +18,7 @@ use Rattle.phase_core.specs.Grower.{list_of, Copies}
 use Rattle.phase_core.specs.Grower as growers
 use Rattle.phase_core.specs.Committing.{GoesOn, IsUnplanned}
 use Rattle.phase_core.specs.Committer.{calls_of}
+use Rattle.phase_core.specs.HostVault as vaults
 use Rattle.flush_core.specs.declared.fault.FlushFault.{FlushFault}
 use Rattle.handle_core.specs.declared.refusal.Refusal.{Refusal}
 use Rattle.handle_core.specs.declared.refusal.Refusal.TheVariants.{Memory, Broken, NotSo}
@@ -96,6 +97,8 @@ abbrev pub RefusesSettle : Refusal → Role → Role → Type 0
 RefusesSettle refusal (roles.Committer old) (roles.Committer new) =
     (refusal ≡ Broken) × (arc_value new.live ≡ arc_value old.live) × (new.flusher ≡ old.flusher) × (new.made ≡ old.made)
 RefusesSettle refusal (roles.Committer old) new = ⊥
+RefusesSettle refusal (roles.Vault old) (roles.Vault new) = (refusal ≡ Broken) × (new.vault ≡ old.vault) × (new.made ≡ old.made)
+RefusesSettle refusal (roles.Vault old) new = ⊥
 RefusesSettle refusal old new = (refusal ≡ NotSo) × (new ≡ old)
 
 -- These are the calls that the host hasn't made: they make of the file as it has made it the file as it is to be.
@@ -103,16 +106,20 @@ abbrev pub Lists : List Call → Role → Type 0
 Lists calls (roles.Committer committer) =
     (calls ≡ calls_of committer)
     × (KeepsSoFar committer.flusher.pen.disk.inner → LeadTo (states_of committer.flusher.pen.disk.inner) committer.made calls)
+Lists calls (roles.Vault vault) =
+    (calls ≡ vaults.calls_of vault)
+    × (KeepsSoFar vault.vault.pen.disk.inner → LeadTo (states_of vault.vault.pen.disk.inner) vault.made calls)
 Lists calls role = ⊥
 
 -- The host has made all calls, and the growers are told what is in the file by them: so many growths. What they were told
--- stands: whatever a crash has left since then opens to so many growths at least.
+-- stands: whatever a crash has left since then opens to so many growths at least. Of a vault, which has told nobody, no growth.
 abbrev pub Settles : ℕ → Role → Role → Type 0
 Settles count (roles.Committer old) (roles.Committer new) =
     (arc_value new.live ≡ arc_value old.live) × (new.made ≡ clock (states_of new.flusher.pen.disk.inner))
     × (count ≡ old.flusher.settled) × (new.flusher.mark.told.count ≡ count)
     × (KeepsSoFar new.flusher.pen.disk.inner
     → ToldIsLeft (unsigned w64) (states_of new.flusher.pen.disk.inner) new.flusher new.flusher.mark.raises)
+Settles count (roles.Vault old) (roles.Vault new) = (new.vault ≡ old.vault) × (new.made ≡ clock (states_of new.vault.pen.disk.inner)) × (count ≡ 0)
 Settles count old new = ⊥
 
 -- ---- a phase

@@ -45,12 +45,16 @@ impl Session {
                 Some(calls) => Ok(calls),
                 None => Err(Refusal::Broken),
             },
+            Role::Vault(vault) => match vault.calls() {
+                Some(calls) => Ok(calls),
+                None => Err(Refusal::Broken),
+            },
             _ => Err(Refusal::NotSo),
         }
     }
 
     /// The host has made the calls, and each has succeeded: the growers are told what is durable. Answers how many growths
-    /// are.
+    /// are: 0 of a vault.
     pub fn settle(&mut self) -> Result<u64, Refusal>
         ensures settled { IfOk result (λ count. Settles count self.old.role self.new.role) }
         ensures refused { IfErr result (λ refusal. RefusesSettle refusal self.old.role self.new.role) }
@@ -58,6 +62,10 @@ impl Session {
         match &mut self.role {
             Role::Committer(committer) => match committer.settle() {
                 Some(count) => Ok(count),
+                None => Err(Refusal::Broken),
+            },
+            Role::Vault(vault) => match vault.settle() {
+                Some(()) => Ok(0),
                 None => Err(Refusal::Broken),
             },
             _ => Err(Refusal::NotSo),

@@ -9,6 +9,7 @@ mod parts;
 mod phase_calls;
 mod refusal;
 mod session;
+mod vault_calls;
 
 pub use handle::Handle;
 pub use refusal::Refusal;

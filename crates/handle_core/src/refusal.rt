@@ -1,9 +1,12 @@
 //! Why a call is refused, in numbers.
 
 ghost use Rattle.std.specs.Prelude.{◌≡◌, ◌<◌};
-ghost use Rattle.handle_core.specs.Refusal.{code_of, of_growth};
+ghost use Rattle.handle_core.specs.Refusal.{code_of, of_gather, of_growth, of_pen, of_vault};
 
 use book_core::GrowFault;
+use pen_core::PenFault;
+use phase_core::GatherFault;
+use vault_core::VaultFault;
 
 /// Why a call is refused. The numbers are those of `cvec.h`, where it has them.
 #[derive(Clone, Copy)]
@@ -40,6 +43,12 @@ pub enum Refusal {
     Again,
     /// The phase has as many growths as it may have: a new one begins with the file.
     Full,
+    /// An end of the phase isn't closed; of a vault, a job is in hand.
+    Busy,
+    /// The length falls while a change isn't folded.
+    Unfolded,
+    /// A growth isn't settled: commit first.
+    Unsettled,
 }
 
 impl Refusal {
@@ -64,6 +73,50 @@ impl Refusal {
             Refusal::NotSo => 64,
             Refusal::Again => 65,
             Refusal::Full => 66,
+            Refusal::Busy => 67,
+            Refusal::Unfolded => 69,
+            Refusal::Unsettled => 70,
+        }
+    }
+
+    /// That of a phase that isn't gathered.
+    pub(crate) fn of_gather(fault: GatherFault) -> Refusal
+        ensures { result ≡ of_gather fault }
+    {
+        match fault {
+            GatherFault::Shared => Refusal::Busy,
+            GatherFault::Broken | GatherFault::Strayed => Refusal::Broken,
+            GatherFault::Unsettled(_) => Refusal::Unsettled,
+            GatherFault::Memory => Refusal::Memory,
+        }
+    }
+
+    /// That of a pen.
+    pub(crate) fn of_pen(fault: PenFault) -> Refusal
+        ensures { result ≡ of_pen fault }
+    {
+        match fault {
+            PenFault::Broken | PenFault::Disk(_) => Refusal::Broken,
+            PenFault::Busy => Refusal::Busy,
+            PenFault::OldFormat => Refusal::Version,
+            PenFault::Runs => Refusal::NotSo,
+            PenFault::OutOfRange => Refusal::OutOfRange,
+            PenFault::TooLarge => Refusal::TooLarge,
+            PenFault::Unfolded => Refusal::Unfolded,
+            PenFault::FileFull => Refusal::FileFull,
+            PenFault::Memory => Refusal::Memory,
+            PenFault::Exists => Refusal::Exists,
+        }
+    }
+
+    /// That of a vault.
+    pub(crate) fn of_vault(fault: VaultFault) -> Refusal
+        ensures { result ≡ of_vault fault }
+    {
+        match fault {
+            VaultFault::Pen(fault) => Refusal::of_pen(fault),
+            VaultFault::Unsettled(_) => Refusal::Unsettled,
+            VaultFault::WrongPhase => Refusal::Busy,
         }
     }
 

@@ -1,6 +1,6 @@
 //! An end of a phase, as C keeps it.
 
-use phase_core::{Committer, Grower, HostDisk, Phase};
+use phase_core::{Committer, Grower, HostDisk, HostVault, Phase};
 
 /// Which end it is.
 #[derive(Drop)]
@@ -11,6 +11,10 @@ pub enum Role {
     Grower(Grower),
     /// Who commits for all.
     Committer(Committer<HostDisk>),
+    /// Who has the vector alone.
+    Vault(HostVault<HostDisk>),
+    /// None: it was given up.
+    Nothing,
 }
 
 /// An end of a phase, as C keeps it.

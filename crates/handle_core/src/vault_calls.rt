@@ -1,0 +1,187 @@
+//! The calls of a vault, and those by which an end becomes one.
+
+ghost use Rattle.std.specs.Prelude.{◌≡◌, IfOk, IfErr, OnOk};
+ghost use Rattle.handle_core.specs.Vaults.{GathersIn, RefusesGathering, SharesOut, RefusesSharing, Measures, ReadsAll, Counts, Finds, IsNoVault, Changes, RefusesChange, Resizes, RefusesResize, Clears, RefusesClear, FoldsAll, RefusesFolding};
+
+use crate::refusal::Refusal;
+use crate::session::{Role, Session};
+use phase_core::{HostDisk, HostVault};
+use std::alloc::Global;
+use std::mem;
+
+impl Session {
+    /// Who commits has the vector alone from then on. `Busy`, while another end of its phase isn't closed; `Broken`;
+    /// `Unsettled`, where not all growths are committed; `Memory`.
+    pub fn gather(&mut self, alloc: Global) -> Result<(), Refusal>
+        ensures gathers { OnOk result (GathersIn self.old.role self.new.role) }
+        ensures refused { IfErr result (λ refusal. RefusesGathering refusal self.old.role self.new.role) }
+    {
+        match mem::replace(&mut self.role, Role::Nothing) {
+            Role::Committer(committer) => match committer.gather(alloc) {
+                Ok(vault) => {
+                    self.role = Role::Vault(vault);
+                    Ok(())
+                }
+                Err((committer, fault)) => {
+                    self.role = Role::Committer(committer);
+                    Err(Refusal::of_gather(fault))
+                }
+            },
+            other => {
+                self.role = other;
+                Err(Refusal::NotSo)
+            }
+        }
+    }
+
+    /// A vault is lent to a phase with so many seats, whose end is answered, and to who commits. Where there was no memory for
+    /// what these share, the handle has no end.
+    pub fn share(&mut self, alloc: Global, seats: u16) -> Result<Box<Session>, Refusal>
+        ensures shares { IfOk result (λ end. SharesOut seats end.value.role self.old.role self.new.role) }
+        ensures refused { IfErr result (λ refusal. RefusesSharing seats refusal self.old.role self.new.role) }
+    {
+        match mem::replace(&mut self.role, Role::Nothing) {
+            Role::Vault(vault) => self.share_vault(alloc, vault, seats),
+            other => {
+                self.role = other;
+                Err(Refusal::NotSo)
+            }
+        }
+    }
+
+    /// The vault that it had is lent.
+    fn share_vault(
+        &mut self,
+        alloc: Global,
+        vault: HostVault<HostDisk>,
+        seats: u16,
+    ) -> Result<Box<Session>, Refusal>
+        requires { self.old.role ≡ Role.Nothing }
+        ensures shares { IfOk result (λ end. SharesOut seats end.value.role (Role.Vault vault) self.new.role) }
+        ensures refused { IfErr result (λ refusal. RefusesSharing seats refusal (Role.Vault vault) self.new.role) }
+    {
+        let Ok(mut end) = Box::new(
+            alloc,
+            Session {
+                role: Role::Nothing,
+            },
+        ) else {
+            self.role = Role::Vault(vault);
+            return Err(Refusal::Memory);
+        };
+        match vault.share(alloc, seats) {
+            Ok((phase, committer)) => {
+                self.role = Role::Committer(committer);
+                end.role = Role::Phase(phase);
+                Ok(end)
+            }
+            Err((left, fault)) => match left {
+                Some(vault) => {
+                    self.role = Role::Vault(vault);
+                    Err(Refusal::of_pen(fault))
+                }
+                None => Err(Refusal::Memory),
+            },
+        }
+    }
+
+    /// How many records a vault has.
+    pub fn measure(&self) -> Result<u64, Refusal>
+        ensures size { IfOk result (λ size. Measures size self.now.role self.now.role) }
+        ensures refused { IfErr result (λ refusal. IsNoVault refusal self.now.role self.now.role) }
+    {
+        match &self.role {
+            Role::Vault(vault) => Ok(vault.len()),
+            _ => Err(Refusal::NotSo),
+        }
+    }
+
+    /// Copies a vault's records from position `from` on to the front of `out`, and answers how many: as far as both reach.
+    pub fn read_all(&self, from: u64, out: &mut [u64]) -> Result<u64, Refusal>
+        ensures read { IfOk result (λ count. ReadsAll from out.old out.new count self.now.role self.now.role) }
+        ensures refused { IfErr result (λ refusal. IsNoVault refusal self.now.role self.now.role × (out.new ≡ out.old)) }
+    {
+        match &self.role {
+            Role::Vault(vault) => Ok(vault.read(from, out) as u64),
+            _ => Err(Refusal::NotSo),
+        }
+    }
+
+    /// How many records of a vault equal this one.
+    pub fn count(&self, sought: u64) -> Result<u64, Refusal>
+        ensures count { IfOk result (λ count. Counts sought count self.now.role self.now.role) }
+        ensures refused { IfErr result (λ refusal. IsNoVault refusal self.now.role self.now.role) }
+    {
+        match &self.role {
+            Role::Vault(vault) => Ok(vault.count(sought)),
+            _ => Err(Refusal::NotSo),
+        }
+    }
+
+    /// The first position from `from` on whose record equals this one, or how many records a vault has.
+    pub fn find(&self, sought: u64, from: u64) -> Result<u64, Refusal>
+        ensures found { IfOk result (λ place. Finds sought from place self.now.role self.now.role) }
+        ensures refused { IfErr result (λ refusal. IsNoVault refusal self.now.role self.now.role) }
+    {
+        match &self.role {
+            Role::Vault(vault) => Ok(vault.find(sought, from)),
+            _ => Err(Refusal::NotSo),
+        }
+    }
+
+    /// Writes records over those of a vault from position `start` on.
+    pub fn change(&mut self, start: u64, records: &[u64]) -> Result<(), Refusal>
+        ensures changes { OnOk result (Changes start records.now self.old.role self.new.role) }
+        ensures refused { IfErr result (λ refusal. RefusesChange start records.now refusal self.old.role self.new.role) }
+    {
+        match &mut self.role {
+            Role::Vault(vault) => match vault.change(start, records) {
+                Ok(()) => Ok(()),
+                Err(fault) => Err(Refusal::of_vault(fault)),
+            },
+            _ => Err(Refusal::NotSo),
+        }
+    }
+
+    /// Makes the length of a vault `size`: takes records away, or appends copies of this one.
+    pub fn resize(&mut self, size: u64, filler: u64) -> Result<(), Refusal>
+        ensures resizes { OnOk result (Resizes size filler self.old.role self.new.role) }
+        ensures refused { IfErr result (λ refusal. RefusesResize size filler refusal self.old.role self.new.role) }
+    {
+        match &mut self.role {
+            Role::Vault(vault) => match vault.resize(size, filler) {
+                Ok(()) => Ok(()),
+                Err(fault) => Err(Refusal::of_vault(fault)),
+            },
+            _ => Err(Refusal::NotSo),
+        }
+    }
+
+    /// Takes all records of a vault away.
+    pub fn clear(&mut self) -> Result<(), Refusal>
+        ensures clears { OnOk result (Clears self.old.role self.new.role) }
+        ensures refused { IfErr result (λ refusal. RefusesClear refusal self.old.role self.new.role) }
+    {
+        match &mut self.role {
+            Role::Vault(vault) => match vault.clear() {
+                Ok(()) => Ok(()),
+                Err(fault) => Err(Refusal::of_vault(fault)),
+            },
+            _ => Err(Refusal::NotSo),
+        }
+    }
+
+    /// Folds all changes of a vault, and answers whether there were some.
+    pub fn fold(&mut self) -> Result<bool, Refusal>
+        ensures folds { IfOk result (λ folded. FoldsAll folded self.old.role self.new.role) }
+        ensures refused { IfErr result (λ refusal. RefusesFolding refusal self.old.role self.new.role) }
+    {
+        match &mut self.role {
+            Role::Vault(vault) => match vault.fold() {
+                Ok(folded) => Ok(folded),
+                Err(fault) => Err(Refusal::of_vault(fault)),
+            },
+            _ => Err(Refusal::NotSo),
+        }
+    }
+}
