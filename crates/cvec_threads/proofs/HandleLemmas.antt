@@ -28,5 +28,9 @@ pub seat_lost : (grower : Grower) (old new : Role) → Seats grower old new → 
 seat_lost grower (roles.Phase old) (roles.Phase new) seats = (inr refl, seats.0)
 seat_lost grower (roles.Phase old) (roles.Grower new) seats = absurd seats
 seat_lost grower (roles.Phase old) (roles.Committer new) seats = absurd seats
+seat_lost grower (roles.Phase old) (roles.Vault new) seats = absurd seats
+seat_lost grower (roles.Phase old) roles.Nothing seats = absurd seats
 seat_lost grower (roles.Grower old) new seats = absurd seats
 seat_lost grower (roles.Committer old) new seats = absurd seats
+seat_lost grower (roles.Vault old) new seats = absurd seats
+seat_lost grower roles.Nothing new seats = absurd seats

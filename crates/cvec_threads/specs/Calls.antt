@@ -5,6 +5,7 @@ use Rattle.relay_core.specs.declared.call.Call.{Call}
 use Rattle.relay_core.specs.declared.call.Call.TheVariants.{Write, Sync}
 use Rattle.relay_core.specs.Listed.{LeadTo}
 use Rattle.phase_core.specs.Committer.{calls_of}
+use Rattle.phase_core.specs.HostVault as vaults
 use Rattle.handle_core.specs.declared.session.Role.{Role}
 use Rattle.handle_core.specs.declared.session.Role.TheVariants as roles
 use Rattle.cvec_threads.specs.declared.file_call.CvecCall.{CvecCall}
@@ -19,6 +20,9 @@ abbrev pub CountsCalls : ℕ → Role → Role → Type 0
 CountsCalls count (roles.Committer old) new =
     (new ≡ roles.Committer old) × (count ≡ length (calls_of old))
     × (KeepsSoFar old.flusher.pen.disk.inner → LeadTo (states_of old.flusher.pen.disk.inner) old.made (calls_of old))
+CountsCalls count (roles.Vault old) new =
+    (new ≡ roles.Vault old) × (count ≡ length (vaults.calls_of old))
+    × (KeepsSoFar old.vault.pen.disk.inner → LeadTo (states_of old.vault.pen.disk.inner) old.made (vaults.calls_of old))
 CountsCalls count old new = ⊥
 
 -- the call of that number is told
@@ -29,6 +33,7 @@ pub record IsToldAt (calls : List Call) (number : ℕ) (call : CvecCall) : Type 
 
 abbrev pub TellsCall : ℕ → CvecCall → Role → Role → Type 0
 TellsCall number call (roles.Committer old) new = (new ≡ roles.Committer old) × IsToldAt (calls_of old) number call
+TellsCall number call (roles.Vault old) new = (new ≡ roles.Vault old) × IsToldAt (vaults.calls_of old) number call
 TellsCall number call old new = ⊥
 
 -- it writes these bytes
@@ -44,4 +49,5 @@ pub record AreBytesAt (calls : List Call) (number : ℕ) (out : List ℕ) : Type
 
 abbrev pub CopiesCall : ℕ → List ℕ → Role → Role → Type 0
 CopiesCall number out (roles.Committer old) new = (new ≡ roles.Committer old) × AreBytesAt (calls_of old) number out
+CopiesCall number out (roles.Vault old) new = (new ≡ roles.Vault old) × AreBytesAt (vaults.calls_of old) number out
 CopiesCall number out old new = ⊥

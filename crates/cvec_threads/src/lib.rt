@@ -6,3 +6,4 @@ mod committing;
 mod file_call;
 mod growing;
 mod phases;
+mod vaults;
