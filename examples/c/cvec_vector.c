@@ -27,8 +27,11 @@ struct cvec_vector {
     uint64_t begun;    /* by __atomic: so many growths there are, or are coming */
     uint32_t seats;    /* that aren't closed */
     uint32_t flushers; /* whose loops run */
+    uint16_t most_seats;
     bool committing, stopped; /* stopped: no loop of a flusher goes on */
     bool broken;              /* is written with the mutex, and by __atomic */
+    bool full;  /* a growth was refused for it: once each seat is closed, the next one begins a new phase */
+    bool alone; /* `committer` has a vault, and `phase` nothing */
 };
 
 struct cvec_vector_seat {
@@ -229,6 +232,131 @@ static uint32_t lead(cvec_vector *vector, uint64_t *growths) {
     return answer;
 }
 
+/* ---- the whole vector, while no seat is taken: who asks has the mutex, and all handles */
+
+static void set_broken(cvec_vector *vector) { __atomic_store_n(&vector->broken, true, __ATOMIC_RELAXED); }
+
+/* Behind an answer after which nothing can be committed the vector is broken. */
+static uint32_t told(cvec_vector *vector, uint32_t answer) {
+    if (answer == CVEC_BROKEN || (answer >= CVEC_DISK_OPEN && answer <= CVEC_DISK_SYNC)) set_broken(vector);
+    return answer;
+}
+
+/* Makes the calls that are listed, and settles. */
+static uint32_t settle_listed(cvec_vector *vector) {
+    uint64_t durable;
+    uint32_t answer = make_calls(vector);
+    if (answer != CVEC_DONE) return told(vector, answer);
+    vector->made = 0;
+    return told(vector, cvec_phase_settle(&vector->committer, &durable));
+}
+
+/* A loop of a flusher may commit. Meanwhile it hasn't got the mutex. */
+static void await_commit(cvec_vector *vector) {
+    while (vector->committing) pthread_cond_wait(&vector->settled, &vector->mutex);
+}
+
+/* While nobody commits: commits all growths, closes the phase, and has the vector alone. */
+static uint32_t gather(cvec_vector *vector) {
+    uint64_t growths = 1;
+    uint32_t answer = CVEC_DONE;
+    while (answer == CVEC_DONE && growths > 0) answer = commit(vector, &growths, &vector->durable);
+    if (answer != CVEC_DONE) return told(vector, answer);
+    cvec_phase_close(&vector->phase);
+    answer = cvec_phase_gather(&vector->committer);
+    vector->alone = answer == CVEC_DONE;
+    return told(vector, answer);
+}
+
+/* Threads have it again. Where even the vault is lost, for want of memory, the file has all. */
+static uint32_t share(cvec_vector *vector) {
+    uint64_t size;
+    uint32_t answer = cvec_phase_share(&vector->committer, vector->most_seats, &vector->phase);
+    if (answer != CVEC_DONE) {
+        if (cvec_vault_size(&vector->committer, &size) != CVEC_DONE) set_broken(vector);
+        return told(vector, answer);
+    }
+    vector->alone = vector->full = false;
+    vector->durable = 0;
+    __atomic_store_n(&vector->begun, 0, __ATOMIC_RELAXED);
+    return answer;
+}
+
+/* While nobody commits, and no seat is taken: a new phase, with all its seats. */
+static uint32_t renew(cvec_vector *vector) {
+    if (vector->broken) return CVEC_BROKEN;
+    uint32_t answer = vector->alone ? CVEC_DONE : gather(vector);
+    return answer == CVEC_DONE ? share(vector) : answer;
+}
+
+/* A seat of the phase, or, where each of its seats was closed, of a new one. */
+static uint32_t seat_of(cvec_vector *vector, cvec_handle *grower) {
+    bool is_over = vector->alone || (vector->full && vector->seats == 0);
+    uint32_t answer = is_over ? CVEC_NOT_SO : cvec_phase_seat(&vector->phase, grower);
+    if (answer != CVEC_NOT_SO || vector->seats > 0) return answer;
+    await_commit(vector);
+    answer = vector->seats == 0 ? renew(vector) : CVEC_DONE;
+    return answer == CVEC_DONE ? cvec_phase_seat(&vector->phase, grower) : answer;
+}
+
+/* Takes the mutex but in a forked process, and has the vector alone where it answers CVEC_DONE. */
+static uint32_t enter_alone(cvec_vector *vector) {
+    if (vector->process != this_process()) return CVEC_FORKED;
+    pthread_mutex_lock(&vector->mutex);
+    await_commit(vector);
+    if (vector->seats > 0) return CVEC_BUSY;
+    if (vector->broken) return CVEC_BROKEN;
+    return vector->alone ? CVEC_DONE : gather(vector);
+}
+
+static uint32_t leave_alone(cvec_vector *vector, uint32_t answer) {
+    if (answer != CVEC_FORKED) pthread_mutex_unlock(&vector->mutex);
+    return answer;
+}
+
+/* Behind what a vault was asked to write. */
+static uint32_t settle_alone(cvec_vector *vector, uint32_t answer) {
+    if (answer == CVEC_DONE) answer = settle_listed(vector);
+    else if (answer == CVEC_BROKEN) set_broken(vector);
+    return leave_alone(vector, answer);
+}
+
+uint32_t cvec_vector_change(cvec_vector *vector, uint64_t start, const uint64_t *records, size_t count) {
+    uint32_t answer = enter_alone(vector);
+    if (answer == CVEC_DONE) answer = cvec_vault_change(&vector->committer, start, count > 0 ? records : no_records, count);
+    return settle_alone(vector, answer);
+}
+
+uint32_t cvec_vector_resize(cvec_vector *vector, uint64_t size, uint64_t record) {
+    uint32_t answer = enter_alone(vector);
+    if (answer == CVEC_DONE) answer = cvec_vault_resize(&vector->committer, size, record);
+    return settle_alone(vector, answer);
+}
+
+uint32_t cvec_vector_clear(cvec_vector *vector) {
+    uint32_t answer = enter_alone(vector);
+    if (answer == CVEC_DONE) answer = cvec_vault_clear(&vector->committer);
+    return settle_alone(vector, answer);
+}
+
+uint32_t cvec_vector_fold(cvec_vector *vector) {
+    uint32_t answer = enter_alone(vector);
+    if (answer == CVEC_DONE) answer = cvec_vault_fold(&vector->committer);
+    return settle_alone(vector, answer);
+}
+
+uint32_t cvec_vector_count(cvec_vector *vector, uint64_t record, uint64_t *count) {
+    uint32_t answer = enter_alone(vector);
+    if (answer == CVEC_DONE) answer = cvec_vault_count(&vector->committer, record, count);
+    return leave_alone(vector, answer);
+}
+
+uint32_t cvec_vector_find(cvec_vector *vector, uint64_t record, uint64_t from, uint64_t *place) {
+    uint32_t answer = enter_alone(vector);
+    if (answer == CVEC_DONE) answer = cvec_vault_find(&vector->committer, record, from, place);
+    return leave_alone(vector, answer);
+}
+
 /* ---- the vector */
 
 /* Gives up what a vector has. */
@@ -295,6 +423,7 @@ static uint32_t begin_at(cvec_vector **begun, const char *path, int flags, uint8
     if (seats == 0 || seats > MOST_SEATS) return CVEC_TOO_LARGE; /* before a file is made */
     cvec_vector *vector = vector_of();
     if (vector == NULL) return CVEC_MEMORY;
+    vector->most_seats = seats;
     uint32_t answer = open_alone(vector, path, flags);
     if (answer == CVEC_DONE) answer = begin(vector, version, seats);
     if (answer == CVEC_DONE) answer = commit(vector, &growths, &vector->durable);
@@ -323,6 +452,8 @@ static uint32_t commit_rest(cvec_vector *vector) {
     return answer;
 }
 
+static uint32_t commit_all(cvec_vector *vector) { return vector->alone ? settle_listed(vector) : commit_rest(vector); }
+
 /* A forked process has copies of the handles, and of a mutex that any thread may have had: it closes the file alone. */
 static uint32_t leave(cvec_vector *vector) {
     close_quietly(vector->fd);
@@ -342,7 +473,7 @@ uint32_t cvec_vector_close(cvec_vector *vector) {
     pthread_mutex_lock(&vector->mutex);
     bool busy = vector->seats > 0;
     if (!busy) end_flushers(vector);
-    uint32_t answer = busy ? CVEC_BUSY : vector->broken ? CVEC_BROKEN : commit_rest(vector);
+    uint32_t answer = busy ? CVEC_BUSY : vector->broken ? CVEC_BROKEN : commit_all(vector);
     pthread_mutex_unlock(&vector->mutex);
     if (busy) return answer;
     give_up(vector);
@@ -358,7 +489,7 @@ uint32_t cvec_vector_take_seat(cvec_vector *vector, cvec_vector_seat **taken) {
     if (seat == NULL) return CVEC_MEMORY;
     seat->vector = vector;
     pthread_mutex_lock(&vector->mutex);
-    uint32_t answer = cvec_phase_seat(&vector->phase, &seat->grower);
+    uint32_t answer = seat_of(vector, &seat->grower);
     if (answer == CVEC_DONE) vector->seats++;
     pthread_mutex_unlock(&vector->mutex);
     if (answer == CVEC_DONE)
@@ -395,7 +526,13 @@ static uint32_t begin_growth(cvec_vector *vector) {
 }
 
 /* A growth that has begun was refused. */
-static void take_back(cvec_vector *vector) { __atomic_fetch_sub(&vector->begun, 1, __ATOMIC_RELAXED); }
+static void take_back(cvec_vector *vector, uint32_t answer) {
+    __atomic_fetch_sub(&vector->begun, 1, __ATOMIC_RELAXED);
+    if (answer != CVEC_FULL) return;
+    pthread_mutex_lock(&vector->mutex);
+    vector->full = true;
+    pthread_mutex_unlock(&vector->mutex);
+}
 
 /* Sleeps so that who came first can go on, each time longer. */
 static void give_way(long *nap) {
@@ -422,7 +559,7 @@ uint32_t cvec_vector_grow(cvec_vector_seat *seat, const uint64_t *records, size_
     answer = begin_growth(seat->vector);
     if (answer == CVEC_DONE) {
         answer = grow_in_turn(seat, count > 0 ? records : no_records, count, receipt ? receipt : &unasked);
-        if (answer != CVEC_DONE) take_back(seat->vector);
+        if (answer != CVEC_DONE) take_back(seat->vector, answer);
     }
     leave_seat(seat);
     return answer;
@@ -605,9 +742,11 @@ const char *cvec_vector_status_text(uint32_t status) {
     case CVEC_NOT_FILE: return "a folder, a pipe or a device has this name";
     case CVEC_NOT_SO: return "every seat is taken, or there is no such version";
     case CVEC_AGAIN: return "another growth came first";
-    case CVEC_FULL: return "it was grown 1,048,568 times since it was opened: open it again";
+    case CVEC_FULL: return "it was grown 1,048,568 times: close each seat, and take new ones";
     case CVEC_BUSY: return "another thread is inside a call, or a seat isn't closed";
     case CVEC_LATE: return "the time has passed: it may yet become durable";
+    case CVEC_UNFOLDED: return "a change isn't folded: fold first";
+    case CVEC_UNSETTLED: return "a growth isn't committed";
     default: return "an unknown status";
     }
 }

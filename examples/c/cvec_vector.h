@@ -17,9 +17,11 @@ extern "C" {
 enum cvec_vector_status {
     CVEC_NOT_SO = 64, /* every seat is taken, or there is no such version; of the library: a handle of another end, or none */
     CVEC_AGAIN = 65,  /* of the library alone: another growth came first */
-    CVEC_FULL = 66,   /* the vector was grown 1,048,568 times since it was opened: close it, and open it again */
-    CVEC_BUSY = 67,   /* another thread is inside a call by this seat; of a close: a seat isn't closed */
-    CVEC_LATE = 68    /* of cvec_vector_await_for: the time has passed. The growth may yet become durable */
+    CVEC_FULL = 66,   /* it was grown 1,048,568 times: close each seat, and the next one goes on */
+    CVEC_BUSY = 67,   /* another thread is inside a call by this seat; of a vector's call: a seat isn't closed */
+    CVEC_LATE = 68,   /* of cvec_vector_await_for: the time has passed. The growth may yet become durable */
+    CVEC_UNFOLDED = 69, /* a resize that takes records away, or a clear, while a change isn't folded: fold first */
+    CVEC_UNSETTLED = 70 /* of the library alone: a growth isn't committed */
 };
 
 /* ---- cvec_vector.c: not proved */
@@ -49,7 +51,7 @@ uint32_t cvec_vector_close(cvec_vector *vector);
 /* A seat, for one thread at a time. */
 uint32_t cvec_vector_take_seat(cvec_vector *vector, cvec_vector_seat **seat);
 
-/* Gives it up. Its growths stay, and its number isn't taken again until the file is opened again. CVEC_BUSY: it stays. */
+/* Gives it up. Its growths stay. Once each seat is closed, all are given again. CVEC_BUSY: it stays. */
 uint32_t cvec_vector_close_seat(cvec_vector_seat *seat);
 
 /* Grows by copies of these records, as one block behind all that was grown before: all of them are in the vector, in a row,
@@ -80,6 +82,27 @@ uint32_t cvec_vector_size(cvec_vector_seat *seat, uint64_t *size);
 
 /* Copies the records from position `from` on, as far as `out` and the vector reach, durable or not; *count says how many. */
 uint32_t cvec_vector_read(cvec_vector_seat *seat, uint64_t from, uint64_t *out, size_t room, uint64_t *count);
+
+/* Of the whole vector, while no seat is taken, else CVEC_BUSY. What they do is durable when they return. Growths behind them
+ * are counted from 0. CVEC_MEMORY and CVEC_FILE_FULL: the same call may be made again.
+ *
+ * Writes the records over those from position `start` on, as one frame. */
+uint32_t cvec_vector_change(cvec_vector *vector, uint64_t start, const uint64_t *records, size_t count);
+
+/* Takes the records behind the first `size` away, or appends copies of this one. */
+uint32_t cvec_vector_resize(cvec_vector *vector, uint64_t size, uint64_t record);
+
+/* Takes all records away. */
+uint32_t cvec_vector_clear(cvec_vector *vector);
+
+/* Writes what was changed to its place in the file, which costs a write for each changed record. */
+uint32_t cvec_vector_fold(cvec_vector *vector);
+
+/* How many records equal this one. */
+uint32_t cvec_vector_count(cvec_vector *vector, uint64_t record, uint64_t *count);
+
+/* The first position from `from` on that has this record; where none has, how many records there are. */
+uint32_t cvec_vector_find(cvec_vector *vector, uint64_t record, uint64_t from, uint64_t *place);
 
 /* A status in words: one sentence for each number that the functions above answer, for any caller to show. */
 const char *cvec_vector_status_text(uint32_t status);
@@ -113,6 +136,21 @@ uint32_t cvec_phase_grow(cvec_handle *grower, const uint64_t *records, size_t co
 uint32_t cvec_phase_settled(cvec_handle *grower, uint64_t *count, uint32_t *state);
 uint32_t cvec_phase_size(cvec_handle *grower, uint64_t *size);
 uint32_t cvec_phase_read(cvec_handle *grower, uint64_t from, uint64_t *out, size_t room, uint64_t *count);
+
+/* Who commits has the vector alone, where each other handle of it is closed (else CVEC_BUSY): its handle has a vault then, for
+ * which cvec_phase_calls, _call, _bytes and _settle are too. share: threads have it again, with so many seats. */
+uint32_t cvec_phase_gather(cvec_handle *committer);
+uint32_t cvec_phase_share(cvec_handle *vault, uint16_t seats, cvec_handle *phase);
+
+/* By the handle of a vault. What writes lists its calls: make them in order, and only if each has succeeded, settle. */
+uint32_t cvec_vault_size(cvec_handle *vault, uint64_t *size);
+uint32_t cvec_vault_read(cvec_handle *vault, uint64_t from, uint64_t *out, size_t room, uint64_t *count);
+uint32_t cvec_vault_count(cvec_handle *vault, uint64_t record, uint64_t *count);
+uint32_t cvec_vault_find(cvec_handle *vault, uint64_t record, uint64_t from, uint64_t *place);
+uint32_t cvec_vault_change(cvec_handle *vault, uint64_t start, const uint64_t *records, size_t count);
+uint32_t cvec_vault_resize(cvec_handle *vault, uint64_t size, uint64_t record);
+uint32_t cvec_vault_clear(cvec_handle *vault);
+uint32_t cvec_vault_fold(cvec_handle *vault);
 
 /* By the handle of who commits: plan, make each call in order, and only if each has succeeded, settle. */
 uint32_t cvec_phase_plan(cvec_handle *committer, uint64_t *growths);

@@ -247,11 +247,17 @@ def each_refusal():
     seat.close()
     for call in (seat.settle, seat.settled, seat.size, lambda: seat.grow([1]), lambda: seat.read(0, 1)):
         assert refusal(call) == (Status.NOT_SO, "closed")
-    # The thread has another, of which what it grew is still known; then there is none.
+    # The thread has another, of which what it grew is still known. Another thread has none while this one has the last.
     vector.settle()
     assert vector.settled() == 1
+    refused = []
+    other = threading.Thread(target=lambda: refused.append(refusal(vector.settled)))
+    other.start()
+    other.join()
+    assert refused == [(Status.NOT_SO, "every seat is taken, or there is no such version")]
+    # Once each is closed they are given again, and growths are counted from 0.
     vector.seat().close()
-    assert refusal(vector.settled) == (Status.NOT_SO, "every seat is taken, or there is no such version")
+    assert vector.settled() == 0 and len(vector) == 131071
     vector.close()
     vector.close()
     for call in (vector.settled, vector.settle, vector.seat, lambda: vector[0], lambda: vector.grow([1]), lambda: len(vector)):
@@ -274,7 +280,7 @@ def each_refusal():
 def each_status_has_the_sentence_of_c():
     with open(os.path.join(os.path.dirname(os.path.abspath(__file__)), "vector_texts.txt")) as lines:
         told = {int(number): text.rstrip("\n") for number, text in (line.split(" ", 1) for line in lines)}
-    assert {int(it) for it in Status} == told.keys() - {0, 65}
+    assert {int(it) for it in Status} == told.keys() - {0, 65, 69, 70}
     for it in Status:
         assert str(Error(it)) == told[it] and str(Error(it, errno=2)) == told[it] + ": No such file or directory"
         assert Error(int(it)).status is it

@@ -27,7 +27,7 @@ fn block(round: u64, name: u64, turn: u64) -> Vec<u64> {
 
 const TOO_LARGE: &str = "more than 131,071 records in a growth, or not 1 to 64 seats";
 const IN_USE: &str = "the file is in use";
-const FULL: &str = "it was grown 1,048,568 times since it was opened: open it again";
+const FULL: &str = "it was grown 1,048,568 times: close each seat, and take new ones";
 const BROKEN: &str = "a write or a sync has failed before: open the file again";
 
 fn refused<T: Debug>(answer: Result<T, Error>, text: &str) -> Error {
@@ -122,7 +122,7 @@ fn has_the_sentences_of_c() {
     told.sort();
     let lines = include_str!("vector_texts.txt").lines().map(|it| it.split_once(' ').unwrap());
     let of_system = |number: u32| if (35..40).contains(&number) { ": No such file or directory (os error 2)" } else { "" };
-    let wanted: Vec<_> = lines.map(|it| (it.0.parse().unwrap(), it.1)).filter(|it| ![0, 65].contains(&it.0)).collect();
+    let wanted: Vec<_> = lines.map(|it| (it.0.parse().unwrap(), it.1)).filter(|it| ![0, 65, 69, 70].contains(&it.0)).collect();
     assert_eq!(told, wanted.iter().map(|it| (it.0, format!("{}{}", it.1, of_system(it.0)))).collect::<Vec<_>>());
     assert_eq!((Error::Unknown(99).to_string(), Error::Seats.status(), Error::Path.status()), ("an unknown status".into(), None, None));
 }

@@ -107,7 +107,7 @@ memory_that_a_vector_in_c_is_refused_loses_nothing() (
     a_behaviour_of_a_vector_in_c memory
 )
 
-a_vector_in_c_is_full_until_it_is_opened_again() (
+a_vector_in_c_that_is_full_goes_on_with_new_seats() (
     a_behaviour_of_a_vector_in_c full
 )
 
@@ -137,6 +137,22 @@ a_flusher_in_c_commits_what_nobody_awaits() (
 
 a_flusher_in_c_ends_by_what_is_refused() (
     a_behaviour_of_a_vector_in_c flusher_fails
+)
+
+a_whole_vector_in_c_is_changed_while_no_seat_is_taken() (
+    a_behaviour_of_a_vector_in_c alone
+    run list u64 "$work/t.cv"
+    did '0\n'
+    rm "$work/t.cv"
+    a_behaviour_of_a_vector_in_c alone_forks
+    rm "$work/t.cv"
+    a_behaviour_of_a_vector_in_c alone_waits
+    rm "$work/t.cv"
+    a_behaviour_of_a_vector_in_c alone_flushes
+)
+
+a_change_of_a_whole_vector_in_c_that_fails_breaks_it() (
+    a_behaviour_of_a_vector_in_c alone_faults
 )
 
 # Rounds of random calls by 1 to 16 threads, of which half are killed, under this sanitizer.

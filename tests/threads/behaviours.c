@@ -20,7 +20,7 @@ static int interrupts;          /* whether every second call is interrupted firs
 static int turn;
 static int mallocs = -1; /* the requests for memory that pass before one is refused; none is below 0 */
 
-static int timed_waits;  /* how many waits with a deadline were begun */
+static int waits, timed_waits; /* how many waits were begun: without a deadline, and with one */
 
 /* While the gate is shut, who syncs is held before it. */
 static pthread_mutex_t gate = PTHREAD_MUTEX_INITIALIZER;
@@ -47,6 +47,18 @@ static void until_held(void) {
     pthread_mutex_lock(&gate);
     while (held == 0) pthread_cond_wait(&gate_moved, &gate);
     pthread_mutex_unlock(&gate);
+}
+
+static int holds(void) {
+    pthread_mutex_lock(&gate);
+    int count = held;
+    pthread_mutex_unlock(&gate);
+    return count;
+}
+
+static int test_wait(pthread_cond_t *condition, pthread_mutex_t *mutex) {
+    __atomic_add_fetch(&waits, 1, __ATOMIC_SEQ_CST);
+    return pthread_cond_wait(condition, mutex);
 }
 
 static int test_timedwait(pthread_cond_t *condition, pthread_mutex_t *mutex, const struct timespec *until) {
@@ -86,7 +98,9 @@ static void *test_malloc(size_t len) { return mallocs >= 0 && mallocs-- == 0 ? N
 #define pwrite test_pwrite
 #define fdatasync test_fdatasync
 #define pthread_cond_timedwait test_timedwait
+#define pthread_cond_wait test_wait
 #include "cvec_vector.c"
+#undef pthread_cond_wait
 #undef pthread_cond_timedwait
 #undef malloc
 #undef pwrite
@@ -364,21 +378,26 @@ static void memory(const char *path) {
     HOLDS(found(path) == 2);
 }
 
-/* As many growths as there may be, and then the file is opened again. */
+/* As many growths as there may be; once each seat is closed, it goes on with the next one. */
 static void full(const char *path) {
     uint64_t number = 0, size = 0;
-    make(path, 1);
+    make(path, 2);
     for (uint64_t k = 0; k < 1048568; k++)
         if (grow(k, &number) != CVEC_DONE || number != k) HOLDS(!"it was grown");
     HOLDS(grow(7, &number) == CVEC_FULL);
     HOLDS(cvec_vector_await(seat, 1048567) == CVEC_DONE);
     HOLDS(cvec_vector_close_seat(seat) == CVEC_DONE);
-    HOLDS(cvec_vector_close(vector) == CVEC_DONE);
-    HOLDS(cvec_vector_open(&vector, path, 1) == CVEC_DONE);
     HOLDS(cvec_vector_take_seat(vector, &seat) == CVEC_DONE);
-    HOLDS(grow(7, &number) == CVEC_DONE && number == 0);
+    HOLDS(grow(1048568, &number) == CVEC_DONE && number == 0);
+    HOLDS(cvec_vector_await(seat, number) == CVEC_DONE);
     HOLDS(cvec_vector_size(seat, &size) == CVEC_DONE && size == 1048569);
     HOLDS(cvec_vector_close_seat(seat) == CVEC_DONE);
+    HOLDS(cvec_vector_take_seat(vector, &seat) == CVEC_DONE);
+    HOLDS(grow(1048569, &number) == CVEC_DONE && number == 1);
+    HOLDS(cvec_vector_close_seat(seat) == CVEC_DONE);
+    HOLDS(cvec_vector_close(vector) == CVEC_DONE);
+    HOLDS(cvec_vector_open(&vector, path, 1) == CVEC_DONE);
+    HOLDS(cvec_vector_find(vector, 1048569, 0, &number) == CVEC_DONE && number == 1048569);
     HOLDS(cvec_vector_close(vector) == CVEC_DONE);
 }
 
@@ -593,6 +612,228 @@ static void flusher_fails(const char *path) {
     HOLDS(found(path) == 1);
 }
 
+/* ---- alone: the whole vector, while no seat is taken */
+
+/* The vector has just these records, as a seat reads them. */
+static void reads(const uint64_t *records, uint64_t len) {
+    uint64_t seen[64], size = 0, count = 0;
+    HOLDS(cvec_vector_take_seat(vector, &seat) == CVEC_DONE);
+    HOLDS(cvec_vector_size(seat, &size) == CVEC_DONE && size == len);
+    HOLDS(cvec_vector_read(seat, 0, seen, 64, &count) == CVEC_DONE && count == len);
+    for (uint64_t k = 0; k < len && k < count; k++) HOLDS(seen[k] == records[k]);
+    HOLDS(cvec_vector_close_seat(seat) == CVEC_DONE);
+}
+
+/* So also once it is closed and opened again. */
+static void has(const char *path, const uint64_t *records, uint64_t len) {
+    reads(records, len);
+    HOLDS(cvec_vector_close(vector) == CVEC_DONE);
+    HOLDS(cvec_vector_open(&vector, path, 2) == CVEC_DONE);
+    if (wrong) exit(1);
+    reads(records, len);
+}
+
+/* What each call of the whole vector answers. */
+static void all_answer(uint32_t answer) {
+    uint64_t record = 1, found = 9;
+    HOLDS(cvec_vector_change(vector, 0, &record, 1) == answer);
+    HOLDS(cvec_vector_resize(vector, 1, 0) == answer);
+    HOLDS(cvec_vector_clear(vector) == answer);
+    HOLDS(cvec_vector_fold(vector) == answer);
+    HOLDS(cvec_vector_count(vector, 1, &found) == answer);
+    HOLDS(cvec_vector_find(vector, 1, 0, &found) == answer);
+    HOLDS(found == 9);
+}
+
+/* Two seats that grew 0, 1, .. 5, and are closed; the growths of the second weren't awaited. */
+static void grown(const char *path) {
+    cvec_vector_seat *first;
+    uint64_t number = 0;
+    make(path, 2);
+    for (uint64_t k = 0; k < 3; k++) HOLDS(grow(k, &number) == CVEC_DONE);
+    HOLDS(cvec_vector_await(seat, number) == CVEC_DONE);
+    first = seat;
+    all_answer(CVEC_BUSY);
+    HOLDS(cvec_vector_take_seat(vector, &seat) == CVEC_DONE);
+    if (wrong) exit(1);
+    for (uint64_t k = 3; k < 6; k++) HOLDS(grow(k, &number) == CVEC_DONE && number == k);
+    HOLDS(cvec_vector_close_seat(first) == CVEC_DONE);
+    all_answer(CVEC_BUSY);
+    HOLDS(cvec_vector_close_seat(seat) == CVEC_DONE);
+}
+
+static void alone(const char *path) {
+    const uint64_t over[] = {12, 13, 12}, changed[] = {0, 1, 12, 13, 12, 5}, longer[] = {0, 1, 12, 13, 12, 5, 8, 8};
+    uint64_t place = 9, number = 9;
+    cvec_vector_seat *second;
+    grown(path);
+    HOLDS(cvec_vector_change(vector, 2, over, 3) == CVEC_DONE);
+    HOLDS(cvec_vector_count(vector, 12, &place) == CVEC_DONE && place == 2);
+    HOLDS(cvec_vector_count(vector, 2, &place) == CVEC_DONE && place == 0);
+    HOLDS(cvec_vector_find(vector, 12, 0, &place) == CVEC_DONE && place == 2);
+    HOLDS(cvec_vector_find(vector, 12, 3, &place) == CVEC_DONE && place == 4);
+    HOLDS(cvec_vector_find(vector, 12, 5, &place) == CVEC_DONE && place == 6);
+    HOLDS(cvec_vector_find(vector, 0, 0, &place) == CVEC_DONE && place == 0);
+    has(path, changed, 6);
+    /* Outside it, and shorter while the change isn't folded: nothing is written. */
+    int before = writes;
+    HOLDS(cvec_vector_change(vector, 4, over, 3) == CVEC_OUT_OF_RANGE);
+    HOLDS(cvec_vector_resize(vector, 5, 0) == CVEC_UNFOLDED);
+    HOLDS(cvec_vector_clear(vector) == CVEC_UNFOLDED);
+    HOLDS(cvec_vector_change(vector, 6, over, 0) == CVEC_DONE);
+    HOLDS(cvec_vector_resize(vector, 6, 7) == CVEC_DONE);
+    HOLDS(writes == before);
+    HOLDS(cvec_vector_resize(vector, 8, 8) == CVEC_DONE);
+    HOLDS(writes == before + 2);
+    has(path, longer, 8);
+    /* What was changed before it was opened is folded, and what was changed since, twice or grown since. */
+    HOLDS(cvec_vector_change(vector, 1, over, 3) == CVEC_DONE);
+    HOLDS(cvec_vector_change(vector, 1, longer + 1, 7) == CVEC_DONE);
+    HOLDS(cvec_vector_fold(vector) == CVEC_DONE);
+    before = writes;
+    HOLDS(cvec_vector_fold(vector) == CVEC_DONE);
+    HOLDS(writes == before);
+    has(path, longer, 8);
+    HOLDS(cvec_vector_resize(vector, 6, 0) == CVEC_DONE);
+    has(path, changed, 6);
+    HOLDS(cvec_vector_clear(vector) == CVEC_DONE);
+    HOLDS(cvec_vector_find(vector, 0, 0, &place) == CVEC_DONE && place == 0);
+    /* Each seat is given again, and their growths are counted from 0. */
+    HOLDS(cvec_vector_take_seat(vector, &seat) == CVEC_DONE);
+    HOLDS(cvec_vector_take_seat(vector, &second) == CVEC_DONE);
+    HOLDS(grow(0, &number) == CVEC_DONE && number == 0);
+    HOLDS(cvec_vector_settled(seat, &place) == CVEC_DONE && place == 0);
+    HOLDS(cvec_vector_await(second, number) == CVEC_DONE);
+    HOLDS(cvec_vector_settled(second, &place) == CVEC_DONE && place == 1);
+    HOLDS(cvec_vector_close_seat(seat) == CVEC_DONE);
+    HOLDS(cvec_vector_close_seat(second) == CVEC_DONE);
+    HOLDS(cvec_vector_close(vector) == CVEC_DONE);
+    HOLDS(found(path) == 1);
+}
+
+/* One of the four calls of a change fails: the file has what it had, or the change, and nothing goes on until it is opened. */
+static void alone_fails_at(const char *path, int call) {
+    const uint64_t over[] = {9}, was[] = {0, 1, 2, 3, 4, 5}, is[] = {9, 1, 2, 3, 4, 5};
+    uint64_t count = 9;
+    remove(path);
+    grown(path);
+    HOLDS(cvec_vector_count(vector, 9, &count) == CVEC_DONE && count == 0);
+    left = call;
+    HOLDS(cvec_vector_change(vector, 0, over, 1) == (call % 2 == 0 ? CVEC_DISK_WRITE : CVEC_DISK_SYNC));
+    left = -1;
+    int before = writes;
+    count = 9;
+    all_answer(CVEC_BROKEN);
+    HOLDS(cvec_vector_take_seat(vector, &seat) == CVEC_BROKEN && seat == NULL);
+    HOLDS(cvec_vector_close(vector) == CVEC_BROKEN);
+    HOLDS(writes == before);
+    HOLDS(cvec_vector_open(&vector, path, 2) == CVEC_DONE);
+    HOLDS(cvec_vector_count(vector, 9, &count) == CVEC_DONE && count <= (call < 2 ? 0 : 1));
+    has(path, count == 0 ? was : is, 6);
+    HOLDS(cvec_vector_close(vector) == CVEC_DONE);
+}
+
+static void alone_faults(const char *path) {
+    const uint64_t over[] = {7, 7}, is[] = {0, 7, 7, 3, 4, 5};
+    for (int call = 0; call < 4; call++) alone_fails_at(path, call);
+    /* Growths that nobody awaited are committed first: so it fails there. */
+    remove(path);
+    grown(path);
+    left = 0;
+    HOLDS(cvec_vector_clear(vector) == CVEC_DISK_WRITE);
+    left = -1;
+    all_answer(CVEC_BROKEN);
+    HOLDS(cvec_vector_close(vector) == CVEC_BROKEN);
+    HOLDS(found(path) == 3);
+    /* Memory for either write is refused: the same call may be made again. */
+    for (int request = 0; request < 2; request++) {
+        remove(path);
+        grown(path);
+        HOLDS(cvec_vector_resize(vector, 6, 0) == CVEC_DONE);
+        mallocs = request;
+        HOLDS(cvec_vector_change(vector, 1, over, 2) == CVEC_MEMORY);
+        HOLDS(mallocs == -1);
+        HOLDS(cvec_vector_change(vector, 1, over, 2) == CVEC_DONE);
+        has(path, is, 6);
+        HOLDS(cvec_vector_close(vector) == CVEC_DONE);
+    }
+    /* Or it is closed: then it is written all the same. */
+    remove(path);
+    grown(path);
+    HOLDS(cvec_vector_resize(vector, 6, 0) == CVEC_DONE);
+    mallocs = 1;
+    HOLDS(cvec_vector_change(vector, 1, over, 2) == CVEC_MEMORY);
+    HOLDS(cvec_vector_close(vector) == CVEC_DONE);
+    HOLDS(cvec_vector_open(&vector, path, 2) == CVEC_DONE);
+    has(path, is, 6);
+    HOLDS(cvec_vector_close(vector) == CVEC_DONE);
+}
+
+static void alone_forks(const char *path) {
+    int status = 1;
+    grown(path);
+    pid_t child = fork();
+    if (child == 0) {
+        all_answer(CVEC_FORKED);
+        _exit(wrong);
+    }
+    HOLDS(waitpid(child, &status, 0) == child && status == 0);
+    HOLDS(cvec_vector_clear(vector) == CVEC_DONE);
+    HOLDS(cvec_vector_close(vector) == CVEC_DONE);
+    HOLDS(found(path) == 0);
+}
+
+static void *run_clear(void *answer) {
+    *(uint32_t *)answer = cvec_vector_clear(vector);
+    return NULL;
+}
+
+/* A call of the whole vector waits for a flusher that commits. */
+static void alone_waits(const char *path) {
+    pthread_t flusher, clear;
+    uint64_t number = 0;
+    uint32_t answer = CVEC_BUSY;
+    make(path, 1);
+    HOLDS(grow(0, &number) == CVEC_DONE);
+    HOLDS(cvec_vector_close_seat(seat) == CVEC_DONE);
+    shut_gate(1);
+    begin_flusher(&flusher, &never);
+    until_held();
+    int before = __atomic_load_n(&waits, __ATOMIC_SEQ_CST);
+    pthread_create(&clear, NULL, run_clear, &answer);
+    while (__atomic_load_n(&waits, __ATOMIC_SEQ_CST) == before && holds() < 2) nap();
+    HOLDS(holds() == 1);
+    shut_gate(0);
+    pthread_join(clear, NULL);
+    HOLDS(answer == CVEC_DONE);
+    HOLDS(cvec_vector_close(vector) == CVEC_DONE);
+    HOLDS(end_of_flusher(flusher) == CVEC_DONE);
+    HOLDS(found(path) == 0);
+}
+
+/* Beside the loops of flushers, which commit meanwhile. */
+static void alone_flushes(const char *path) {
+    const uint64_t over[] = {7};
+    pthread_t flusher;
+    uint64_t number = 0, place = 9;
+    make(path, 1);
+    begin_flusher(&flusher, &soon);
+    for (uint64_t k = 0; k < 50; k++) {
+        HOLDS(grow(k, &number) == CVEC_DONE && number == 0);
+        HOLDS(cvec_vector_close_seat(seat) == CVEC_DONE);
+        HOLDS(cvec_vector_change(vector, k, over, 1) == CVEC_DONE);
+        HOLDS(cvec_vector_count(vector, 7, &place) == CVEC_DONE && place == k + 1);
+        HOLDS(cvec_vector_take_seat(vector, &seat) == CVEC_DONE);
+    }
+    HOLDS(grow(8, &number) == CVEC_DONE);
+    until_settled(1);
+    HOLDS(cvec_vector_close_seat(seat) == CVEC_DONE && cvec_vector_close(vector) == CVEC_DONE);
+    HOLDS(end_of_flusher(flusher) == CVEC_DONE);
+    HOLDS(cvec_vector_open(&vector, path, 1) == CVEC_DONE);
+    HOLDS(cvec_vector_find(vector, 8, 0, &place) == CVEC_DONE && place == 50);
+    HOLDS(cvec_vector_close(vector) == CVEC_DONE);
+}
+
 int main(int argc, char **argv) {
     static const struct {
         const char *name;
@@ -612,7 +853,12 @@ int main(int argc, char **argv) {
                       {"late_between", late_between},
                       {"flusher", flushes},
                       {"flusher_takes_all", flushes_all},
-                      {"flusher_fails", flusher_fails}};
+                      {"flusher_fails", flusher_fails},
+                      {"alone", alone},
+                      {"alone_faults", alone_faults},
+                      {"alone_forks", alone_forks},
+                      {"alone_waits", alone_waits},
+                      {"alone_flushes", alone_flushes}};
     if (argc != 3) return 2;
     for (size_t k = 0; k < sizeof behaviours / sizeof *behaviours; k++)
         if (strcmp(argv[1], behaviours[k].name) == 0) {

@@ -79,7 +79,7 @@ pub enum Error {
     NotFile,
     /// Every seat is taken.
     NoSeat,
-    /// The vector was grown 1,048,568 times since it was opened: close it, and open it again.
+    /// The vector was grown 1,048,568 times: close each seat, and take new ones.
     Full,
     /// A seat was forgotten (`std::mem::forget`): the vector stays open.
     Busy,
