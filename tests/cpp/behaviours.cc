@@ -323,6 +323,45 @@ static void flushing(const std::string &path) {
     HOLDS(status_of([&] { again.run_flusher(std::chrono::hours::max()); }) == CVEC_DISK_WRITE);
 }
 
+// ---- shortening
+
+static void shortening(const std::string &path) {
+    samples vector(path);
+    for (std::uint64_t k = 0; k < 10; ++k) vector.push_back({k, k, 0});
+    vector.resize(4);
+    HOLDS(vector.size() == 4 && vector.back().turn == 3 && vector.settled() == 10);
+    const cvec::growth made = vector.append({7, 7, 7});
+    HOLDS(made.number == 10 && made.first == 4 && !vector.is_settled(made));
+    vector.settle(made);
+    HOLDS(vector.is_settled(made) && vector.size() == 5);
+    vector.resize(5);
+    vector.resize(7, {8, 8, 8});
+    HOLDS(vector.size() == 7 && vector[4].turn == 7 && vector[6].turn == 8);
+    vector.clear();
+    vector.clear();
+    HOLDS(vector.empty() && vector.begin() == vector.end());
+    // Beside growths of others: each stands whole or is gone, and those behind the last clear stand.
+    std::atomic<bool> over{false};
+    std::vector<std::thread> threads;
+    for (std::uint64_t k = 0; k < 3; ++k)
+        threads.emplace_back([&vector, &over, k] {
+            while (!over) vector.grow_by({{k, 1, 0}, {k, 2, 0}});
+        });
+    for (int turn = 0; turn < 20; ++turn) vector.clear();
+    over = true;
+    for (std::thread &thread : threads) thread.join();
+    HOLDS(vector.size() % 2 == 0);
+    for (std::size_t at = 0; at < vector.size(); ++at) HOLDS(vector[at].turn == at % 2 + 1);
+    vector.clear();
+    vector.push_back({9, 9, 9});
+    vector.close();
+    HOLDS(status_of([&] { vector.clear(); }) == CVEC_NOT_SO);
+    HOLDS(samples(path).size() == 1);
+}
+
+// A file in which a record was changed.
+static void shortened(const std::string &path) { numbers(path, {cvec::opening::open}).resize(2); }
+
 static void appenders(const std::string &path) {
     samples vector(path);
     {
@@ -636,7 +675,7 @@ int main(int argc, char **argv) {
         {"receipts", receipts},
         {"deadlines", deadlines},
         {"flushing", flushing},
-        {"appenders", appenders},
+        {"shortening", shortening}, {"shortened", shortened}, {"appenders", appenders},
         {"closing", closing},
         {"closing_meanwhile", closing_meanwhile},
         {"refusals", refusals},

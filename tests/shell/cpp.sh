@@ -107,6 +107,21 @@ rows_are_grown_in_cpp() (
     did '5\n7\n0\n0\n9\n9\n9\n20\n21\n22\n30\n31\n30\n31\n8\n8\n8\n0\n50\n51\n52\n53\n22\n21\n20\n'
 )
 
+rows_are_taken_away_in_cpp() (
+    behaves shortening
+    rm "$work/t.cv"
+    run create u64 "$work/t.cv"
+    given '5\n6\n7\n'
+    run append u64 "$work/t.cv"
+    run set u64 "$work/t.cv" 1 --records=9
+    did 'ok\n'
+    "$built/behaviours" shortened "$work/t.cv"
+    run check u64 "$work/t.cv"
+    [ "$(cut -d ' ' -f 6-7,10- "$out")" = 'size 2 live 0' ]
+    run list u64 "$work/t.cv"
+    did '5\n9\n'
+)
+
 rows_are_read_in_cpp() (
     behaves reading iterators pieces shared_iterator ranges
 )

@@ -225,6 +225,23 @@ class word_file {
         return static_cast<std::size_t>(count);
     }
 
+    // Takes the words behind so many away, if there are some. It waits until each call under way has ended, and has the file alone.
+    void cut(std::uint64_t length) {
+        if (process_ != ::getpid()) refuse(CVEC_FORKED);
+        const std::lock_guard<std::mutex> lock(seating_);
+        if (closed_.load(std::memory_order_acquire)) refuse_closed();
+        take_all_seats();
+        std::uint64_t size = 0;
+        std::uint32_t status = cvec_vector_size(slots_[0].seat, &size), seated = CVEC_DONE;
+        if (status == CVEC_DONE && size > length) {
+            close_seats();
+            status = cut_alone(length);
+            seated = take_seats_anew();
+        }
+        if (!closed_.load(std::memory_order_acquire)) give_all_seats_back();
+        require(status == CVEC_DONE ? seated : status);
+    }
+
     // For who looks at a length before it grows: one at a time.
     std::mutex &turn() noexcept { return turn_; }
 
@@ -233,6 +250,8 @@ class word_file {
     [[noreturn]] void refuse(std::uint32_t status, const std::string &text) const {
         throw error(status, path_, text, is_of_the_system(status) ? errno : 0);
     }
+
+    [[noreturn]] void refuse_closed() const { refuse(CVEC_NOT_SO, "it was closed"); }
 
     // Gives the file up in a constructor, and refuses.
     [[noreturn]] void abandon(std::uint32_t status) {
@@ -314,7 +333,7 @@ class word_file {
 
     slot &borrow() {
         for (patience turn;; turn.wait()) {
-            if (closed_.load(std::memory_order_acquire)) refuse(CVEC_NOT_SO, "it was closed");
+            if (closed_.load(std::memory_order_acquire)) refuse_closed();
             if (slot *found = find_idle()) return *found;
             // Who had a seat when this process was forked gives it back in the other process alone.
             if (process_ != ::getpid()) refuse(CVEC_FORKED);
@@ -431,13 +450,40 @@ class word_file {
         return status;
     }
 
+    // While no seat is taken. What was changed has to be folded before.
+    std::uint32_t cut_alone(std::uint64_t length) {
+        std::uint32_t status = cvec_vector_resize(vector_, length, 0);
+        if (status != CVEC_UNFOLDED) return status;
+        status = cvec_vector_fold(vector_);
+        return status == CVEC_DONE ? cvec_vector_resize(vector_, length, 0) : status;
+    }
+
+    // With all seats, which were closed: growths are counted from 0 by those that it takes. Where it is refused the file is closed.
+    std::uint32_t take_seats_anew() {
+        std::uint32_t status = CVEC_DONE;
+        for (std::size_t k = 0; k < seated_.load(std::memory_order_relaxed) && status == CVEC_DONE; ++k)
+            status = cvec_vector_take_seat(vector_, &slots_[k].seat);
+        if (status != CVEC_DONE) {
+            close_all();
+            closed_.store(true, std::memory_order_release);
+            return status;
+        }
+        base_ = grown_.load(std::memory_order_acquire);
+        ++openings_;
+        return status;
+    }
+
     // -- ending
 
-    std::uint32_t close_all() noexcept {
+    void close_seats() noexcept {
         for (std::size_t k = 0; k < seated_.load(std::memory_order_relaxed); ++k) {
             if (slots_[k].seat != nullptr) cvec_vector_close_seat(slots_[k].seat);
             slots_[k].seat = nullptr;
         }
+    }
+
+    std::uint32_t close_all() noexcept {
+        close_seats();
         cvec_vector *vector = std::exchange(vector_, nullptr);
         return vector == nullptr ? std::uint32_t{CVEC_DONE} : cvec_vector_close(vector);
     }
@@ -771,6 +817,19 @@ template <class T> class concurrent_vector {
             if (!first) first = grown;
         }
         return first ? *first : end();
+    }
+
+    // -- shortening: each waits until the calls under way have ended, and is durable when it returns
+
+    void clear() { file_->cut(0); }
+
+    // Rows that are missing are grown, as by grow_to_at_least.
+    void resize(size_type count, const T &value = T()) {
+        if (size() < count) {
+            grow_to_at_least(count, value);
+            return;
+        }
+        file_->cut(std::uint64_t{count} * row::words);
     }
 
     // -- growing with a receipt, by which a growth is awaited
