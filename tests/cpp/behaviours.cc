@@ -2,9 +2,11 @@
 // a line says what isn't.
 #define cvec_vector_read counted_read
 #define cvec_vector_await_for asked_await_for
+#define cvec_vector_resize refused_resize
 #include "told.hpp"
 #undef cvec_vector_read
 #undef cvec_vector_await_for
+#undef cvec_vector_resize
 
 #include <algorithm>
 #include <csignal>
@@ -37,6 +39,16 @@ extern "C" std::uint32_t asked_await_for(cvec_vector_seat *seat, std::uint64_t n
     milliseconds_asked = milliseconds;
     const std::uint32_t answer = answer_instead;
     return answer == CVEC_DONE ? cvec_vector_await_for(seat, number, milliseconds) : answer;
+}
+
+// So often a resize is refused for want of memory before it has begun.
+static int resizes_refused = 0;
+
+extern "C" std::uint32_t cvec_vector_resize(cvec_vector *, std::uint64_t, std::uint64_t);
+extern "C" std::uint32_t refused_resize(cvec_vector *vector, std::uint64_t size, std::uint64_t record) {
+    if (resizes_refused == 0) return cvec_vector_resize(vector, size, record);
+    --resizes_refused;
+    return CVEC_MEMORY;
 }
 
 using numbers = cvec::concurrent_vector<std::uint64_t>;
@@ -340,6 +352,17 @@ static void shortening(const std::string &path) {
     vector.clear();
     vector.clear();
     HOLDS(vector.empty() && vector.begin() == vector.end());
+    // Where it is refused nothing is gone, and growths are counted on.
+    const cvec::growth before = vector.append({1, 1, 1});
+    resizes_refused = 1;
+    HOLDS(status_of([&] { vector.clear(); }) == CVEC_MEMORY && vector.size() == 1);
+    HOLDS(vector.settled() == before.number + 1 && vector.is_settled(before));
+    const cvec::growth behind = vector.append({2, 2, 2});
+    HOLDS(behind.number == before.number + 1 && !vector.is_settled(behind));
+    vector.settle(behind);
+    HOLDS(vector.is_settled(behind));
+    vector.clear();
+    HOLDS(vector.empty() && vector.settled() == behind.number + 1);
     // Beside growths of others: each stands whole or is gone, and those behind the last clear stand.
     std::atomic<bool> over{false};
     std::vector<std::thread> threads;

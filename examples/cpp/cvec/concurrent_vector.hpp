@@ -232,7 +232,7 @@ class word_file {
         if (closed_.load(std::memory_order_acquire)) refuse_closed();
         take_all_seats();
         std::uint64_t size = 0;
-        std::uint32_t status = cvec_vector_size(slots_[0].seat, &size), seated = CVEC_DONE;
+        std::uint32_t status = settle_all(&size), seated = CVEC_DONE;
         if (status == CVEC_DONE && size > length) {
             close_seats();
             status = cut_alone(length);
@@ -414,7 +414,8 @@ class word_file {
     // With all seats. Where it is refused nothing has changed, and the file stays open.
     std::uint32_t settle_all(std::uint64_t *size) {
         const std::uint64_t grown = grown_.load(std::memory_order_acquire);
-        const std::uint32_t status = cvec_vector_await(slots_[0].seat, grown - 1 - base_);
+        std::uint32_t status = CVEC_DONE;
+        if (grown > base_) status = cvec_vector_await(slots_[0].seat, grown - 1 - base_);
         return status == CVEC_DONE ? cvec_vector_size(slots_[0].seat, size) : status;
     }
 
@@ -458,17 +459,20 @@ class word_file {
         return status == CVEC_DONE ? cvec_vector_resize(vector_, length, 0) : status;
     }
 
-    // With all seats, which were closed: growths are counted from 0 by those that it takes. Where it is refused the file is closed.
+    // With all seats, which were closed behind settle_all. Those that it takes count growths from 0, or, where nothing was done,
+    // on: what they tell is settled are all that they count. Where it is refused the file is closed.
     std::uint32_t take_seats_anew() {
+        std::uint64_t counted = 0;
         std::uint32_t status = CVEC_DONE;
         for (std::size_t k = 0; k < seated_.load(std::memory_order_relaxed) && status == CVEC_DONE; ++k)
             status = cvec_vector_take_seat(vector_, &slots_[k].seat);
+        if (status == CVEC_DONE) status = cvec_vector_settled(slots_[0].seat, &counted);
         if (status != CVEC_DONE) {
             close_all();
             closed_.store(true, std::memory_order_release);
             return status;
         }
-        base_ = grown_.load(std::memory_order_acquire);
+        base_ = grown_.load(std::memory_order_acquire) - counted;
         ++openings_;
         return status;
     }
