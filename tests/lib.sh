@@ -223,6 +223,16 @@ is_shown_as_written() {
 
 # ---- the library for threads of C, built as docs/use/threads.md says
 
+# Tries this command again and again until it succeeds, for a minute at least; then the test fails.
+await() {
+    tries=0
+    until "$@"; do
+        tries=$((tries + 1))
+        [ "$tries" -lt 1200 ] || return 1
+        sleep 0.05
+    done
+}
+
 threads_library=$top/crates/cvec_threads/out/libcvec_threads.a
 
 # Compiles this program of the folder over the library, with these words to the compiler.

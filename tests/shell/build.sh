@@ -266,7 +266,7 @@ a_build_that_is_ended_leaves_nothing_half() (
     mkdir "$there/.git"
     sed -i "1a trap 'touch \"$there/is_ended\"; exit 1' TERM; mkdir -p crates/low/out/rlib; : >'$there/has_begun'; sleep 60 & wait" "$there/bin/rt"
     PATH=$there/bin:/usr/bin:/bin "$there/build" cvec 2>"$err" &
-    until [ -e "$there/has_begun" ]; do sleep 0.05; done
+    await [ -e "$there/has_begun" ]
     kill $!
     status=0
     wait $! || status=$?

@@ -244,6 +244,7 @@ the_program_of_the_page_for_cpp_runs() (
 
 # Killed three times: what is found each time is what the file has by the program, each sensor's samples in order.
 sensors_go_on_where_they_were_killed() (
+    has_more_than() { [ "$("$top/cvec" list u64 "$work/t.cv" | wc -l)" -gt "$1" ]; }
     has_cpp || exit $is_skipped
     make_cpp
     link_cpp -o "$work/samples" "$cpp/samples.cc"
@@ -251,9 +252,9 @@ sensors_go_on_where_they_were_killed() (
     for _ in 1 2 3 4; do
         "$work/samples" "$work/t.cv" >"$out" 2>"$err" &
         child=$!
-        until grep -q '^found' "$out"; do sleep 0.02; done
+        await grep -q '^found' "$out"
         # Also beside it the file shows what is there.
-        until [ "$("$top/cvec" list u64 "$work/t.cv" | wc -l)" -gt $((3 * before)) ]; do sleep 0.02; done
+        await has_more_than $((3 * before))
         kill -9 $child
         wait $child 2>/dev/null || :
         [ ! -s "$err" ]
