@@ -1,5 +1,5 @@
-//! Tests of cvec_vector.rs: vector_cases NAME FILE, where NAME is that of a test below; and a writer that vector_killed.py
-//! kills: vector_cases write FILE ROUND THREADS TURNS. What a file holds is read by others.
+//! Tests of cvec_vector.rs: vector_cases NAME FILE, where NAME is that of a test below; and writers that vector_killed.py and
+//! vector_steps.py kill: vector_cases write FILE ROUND THREADS TURNS, vector_cases steps FILE. What a file holds is read by others.
 use cvec_vector::{Error, MOST_SEATS, Receipt, Seat, Vector, Version};
 use std::fmt::Debug;
 use std::fs;
@@ -13,6 +13,7 @@ unsafe extern "C" {
     fn fork() -> i32;
     fn _exit(status: i32) -> !;
     fn waitpid(process: i32, status: *mut i32, options: i32) -> i32;
+    fn alarm(seconds: u32) -> u32;
 }
 
 fn is_send<T: Send>() {}
@@ -28,6 +29,9 @@ fn block(round: u64, name: u64, turn: u64) -> Vec<u64> {
 const TOO_LARGE: &str = "more than 131,071 records in a growth, or not 1 to 64 seats";
 const IN_USE: &str = "the file is in use";
 const FULL: &str = "it was grown 1,048,568 times: close each seat, and take new ones";
+const UNFOLDED: &str = "a change isn't folded: fold first";
+const OUT_OF_RANGE: &str = "there is no such growth, or the vector would pass 2^32 records";
+const BUSY: &str = "another thread is inside a call, or a seat isn't closed";
 const BROKEN: &str = "a write or a sync has failed before: open the file again";
 
 fn refused<T: Debug>(answer: Result<T, Error>, text: &str) -> Error {
@@ -117,12 +121,13 @@ fn has_the_sentences_of_c() {
         Error::Full,
         Error::Busy,
         Error::Late,
+        Error::Unfolded,
     ];
     let mut told: Vec<_> = disk.iter().chain(&plain).map(|it| (it.status().unwrap(), it.to_string())).collect();
     told.sort();
     let lines = include_str!("vector_texts.txt").lines().map(|it| it.split_once(' ').unwrap());
     let of_system = |number: u32| if (35..40).contains(&number) { ": No such file or directory (os error 2)" } else { "" };
-    let wanted: Vec<_> = lines.map(|it| (it.0.parse().unwrap(), it.1)).filter(|it| ![0, 65, 69, 70].contains(&it.0)).collect();
+    let wanted: Vec<_> = lines.map(|it| (it.0.parse().unwrap(), it.1)).filter(|it| ![0, 65, 70].contains(&it.0)).collect();
     assert_eq!(told, wanted.iter().map(|it| (it.0, format!("{}{}", it.1, of_system(it.0)))).collect::<Vec<_>>());
     assert_eq!((Error::Unknown(99).to_string(), Error::Seats.status(), Error::Path.status()), ("an unknown status".into(), None, None));
 }
@@ -144,18 +149,34 @@ fn each_refusal(path: &Path) -> Result<(), Error> {
     refused(seat.grow(&[]), "a growth has at least one record");
     refused(seat.grow(&[1; 131_072]), TOO_LARGE);
     let receipt = seat.grow(&[1; 131_071])?;
-    refused(seat.settle(&Receipt { number: 1, ..receipt }), "there is no such growth, or the vector would pass 2^32 records");
-    refused(seat.settle(&Receipt { number: u64::MAX, ..receipt }), "there is no such growth, or the vector would pass 2^32 records");
-    // The number of a seat that is dropped isn't given again.
-    drop(vector.seat()?);
+    refused(seat.settle(&Receipt { number: 1, ..receipt }), OUT_OF_RANGE);
+    refused(seat.settle(&Receipt { number: u64::MAX, ..receipt }), OUT_OF_RANGE);
+    // A seat that is dropped is given again, and counts on.
+    for number in 1..4 {
+        assert_eq!(vector.seat()?.grow(&[3])?.number, number);
+    }
+    let other = vector.seat()?;
     assert_eq!(refused(vector.seat(), "every seat is taken, or there is no such version"), Error::NoSeat);
+    drop((seat, other));
+    let seat = vector.seat()?;
+    assert_eq!((seat.grow(&[3])?.number, seat.settled()?), (4, 1));
+    seat.settle(&receipt)?;
     drop(seat);
     vector.close()?;
     refused(Vector::create(path, 2), "something is there already");
-    // A seat that is forgotten keeps the vector open.
-    let vector = Vector::open(path, 1)?;
+    // A seat that is forgotten keeps the vector open, and as it is.
+    let mut vector = Vector::open(path, 2)?;
+    let seat = vector.seat()?;
     std::mem::forget(vector.seat()?);
-    refused(vector.close(), "another thread is inside a call, or a seat isn't closed");
+    drop(seat);
+    refused(vector.clear(), BUSY);
+    refused(vector.fold(), BUSY);
+    refused(vector.change(0, &[9]), BUSY);
+    refused(vector.resize(0, 0), BUSY);
+    refused(vector.count(1), BUSY);
+    refused(vector.find(1, 0), BUSY);
+    assert_eq!(vector.seat()?.len()?, 131_075);
+    refused(vector.close(), BUSY);
     refused(Vector::open(path, 1), IN_USE);
     let other = path.with_extension("other");
     let others: [(&[u8], Error); 5] = [
@@ -233,29 +254,211 @@ fn flushes(path: &Path) -> Result<(), Error> {
     Ok(())
 }
 
-/// It takes no more growths until it is opened again.
+/// It takes no more growths until each seat is dropped. Then they are counted on.
 fn is_full(path: &Path) -> Result<(), Error> {
-    let vector = Vector::create(path, 1)?;
-    let seat = vector.seat()?;
+    let vector = Vector::create(path, 2)?;
+    let (seat, other) = (vector.seat()?, vector.seat()?);
+    let first = seat.grow(&[0])?;
     let mut out = seat.appender(1)?;
-    for number in 0..=1_048_568 {
+    for number in 1..=1_048_568 {
         out.push(number)?;
     }
     assert_eq!((refused(out.push(5), FULL), out.kept(), seat.len()?), (Error::Full, &[1_048_568][..], 1_048_568));
     refused(out.flush(), FULL);
     drop(out);
     drop(seat);
-    vector.close()?;
-    let vector = Vector::open(path, 1)?;
+    refused(vector.seat()?.grow(&[5]), FULL);
+    refused(other.grow(&[5]), FULL);
+    assert_eq!(other.settled()?, 0);
+    drop(other);
+    // All from before is settled, and what is behind it isn't yet.
     let seat = vector.seat()?;
-    assert_eq!(seat.grow(&[9])?, Receipt { number: 0, start: 1_048_568, length: 1 });
+    assert_eq!(seat.settled()?, 1_048_568);
+    let behind = seat.grow(&[9])?;
+    assert_eq!(behind, Receipt { number: 1_048_568, start: 1_048_568, length: 1 });
+    for receipt in [first, Receipt { number: 1_048_567, ..first }] {
+        seat.settle(&receipt)?;
+        seat.settle_for(&receipt, Duration::ZERO)?;
+    }
+    assert_eq!(seat.settled()?, 1_048_568);
+    seat.settle(&behind)?;
+    assert_eq!(seat.settled()?, 1_048_569);
+    refused(seat.settle(&Receipt { number: 1_048_569, ..first }), OUT_OF_RANGE);
+    // From then on a seat that is taken settles nothing.
+    seat.grow(&[10])?;
     drop(seat);
+    assert_eq!(vector.seat()?.settled()?, 1_048_569);
     vector.close()
+}
+
+/// It reads just these records.
+fn has(vector: &Vector, records: &[u64]) {
+    assert_eq!(vector.seat().unwrap().read(..).unwrap(), records);
+}
+
+fn is_changed(path: &Path) -> Result<(), Error> {
+    let mut vector = Vector::create(path, 2)?;
+    let first = vector.seat()?.grow(&[0, 1, 2, 3, 4, 5])?;
+    vector.change(2, &[12, 13, 12])?;
+    has(&vector, &[0, 1, 12, 13, 12, 5]);
+    assert_eq!([vector.count(12)?, vector.count(5)?, vector.count(2)?], [2, 1, 0]);
+    let found = [0, 2, 3, 4, 5, 6, u64::MAX].map(|from| vector.find(12, from).unwrap());
+    assert_eq!(found, [Some(2), Some(2), Some(4), Some(4), None, None, None]);
+    assert_eq!((vector.find(0, 0)?, vector.find(5, 0)?, vector.find(2, 0)?, vector.find(0, 1)?), (Some(0), Some(5), None, None));
+    // What is refused, and what changes nothing, leaves the file.
+    let before = fs::read(path).unwrap();
+    for (start, records) in [(4, &[1, 2, 3][..]), (6, &[1]), (u64::MAX, &[1, 2])] {
+        refused(vector.change(start, records), OUT_OF_RANGE);
+    }
+    assert_eq!(refused(vector.resize(5, 0), UNFOLDED), Error::Unfolded);
+    refused(vector.clear(), UNFOLDED);
+    refused(vector.resize(131_078, 1), TOO_LARGE);
+    refused(vector.resize((1 << 32) + 1, 1), OUT_OF_RANGE);
+    refused(vector.resize(u64::MAX, 1), OUT_OF_RANGE);
+    vector.change(6, &[])?;
+    vector.resize(6, 7)?;
+    assert_eq!(fs::read(path).unwrap(), before);
+    // Each seat is there again. They count on, and growths from before are settled.
+    let (seat, other) = (vector.seat()?, vector.seat()?);
+    assert_eq!((seat.settled()?, other.settled()?), (1, 1));
+    let second = seat.grow(&[6, 7])?;
+    assert_eq!((second, seat.settled()?), (Receipt { number: 1, start: 6, length: 2 }, 1));
+    other.settle(&first)?;
+    refused(other.settle(&Receipt { number: 2, ..first }), OUT_OF_RANGE);
+    drop((seat, other));
+    vector.resize(10, u64::MAX)?;
+    has(&vector, &[0, 1, 12, 13, 12, 5, 6, 7, u64::MAX, u64::MAX]);
+    vector.fold()?;
+    let before = fs::read(path).unwrap();
+    vector.fold()?;
+    assert_eq!(fs::read(path).unwrap(), before);
+    vector.resize(4, 0)?;
+    has(&vector, &[0, 1, 12, 13]);
+    vector.seat()?.grow(&[4])?;
+    vector.clear()?;
+    vector.clear()?;
+    has(&vector, &[]);
+    assert_eq!(vector.find(0, 0)?, None);
+    let seat = vector.seat()?;
+    assert_eq!((seat.settled()?, seat.grow(&[5, 6])?), (3, Receipt { number: 3, start: 0, length: 2 }));
+    seat.settle(&second)?;
+    drop(seat);
+    vector.change(1, &[8])?;
+    vector.close()
+}
+
+/// A resize that C refuses before it has begun (refused.c): growths are counted on.
+fn is_refused(path: &Path) -> Result<(), Error> {
+    let mut vector = Vector::create(path, 2)?;
+    let first = vector.seat()?.grow(&[5, 7])?;
+    assert_eq!(refused(vector.resize(1, 0), "memory was refused"), Error::Memory);
+    let seat = vector.seat()?;
+    assert_eq!((seat.read(..)?, seat.settled()?), (vec![5, 7], 1));
+    let second = seat.grow(&[9])?;
+    assert_eq!((second, seat.settled()?), (Receipt { number: 1, start: 2, length: 1 }, 1));
+    seat.settle(&first)?;
+    seat.settle(&second)?;
+    assert_eq!(seat.settled()?, 2);
+    drop(seat);
+    vector.resize(1, 0)?;
+    assert_eq!(vector.seat()?.grow(&[11])?, Receipt { number: 2, start: 1, length: 1 });
+    vector.close()
+}
+
+/// Where the device is full, what was changed isn't, and all is broken.
+fn is_broken(path: &Path) -> Result<(), Error> {
+    let mut vector = Vector::create(path, 1)?;
+    let receipt = vector.seat()?.grow(&[5; 300])?;
+    assert_eq!(vector.count(5)?, 300);
+    assert_eq!(vector.change(0, &[7; 300]), Err(Error::DiskWrite(27)));
+    refused(vector.seat(), BROKEN);
+    refused(vector.clear(), BROKEN);
+    refused(vector.fold(), BROKEN);
+    refused(vector.change(0, &[9]), BROKEN);
+    refused(vector.resize(0, 0), BROKEN);
+    refused(vector.count(1), BROKEN);
+    refused(vector.find(1, 0), BROKEN);
+    refused(vector.close(), BROKEN);
+    // Where what was grown can't be committed the seats stay, by which it is read.
+    let mut vector = Vector::open(path, 1)?;
+    vector.seat()?.grow(&[7; 300])?;
+    assert_eq!(vector.clear(), Err(Error::DiskWrite(27)));
+    refused(vector.clear(), BROKEN);
+    let seat = vector.seat()?;
+    assert_eq!((seat.len()?, seat.settled()?), (600, 0));
+    refused(seat.settle(&receipt), BROKEN);
+    drop(seat);
+    refused(vector.close(), BROKEN);
+    Ok(())
+}
+
+/// The calls that vector_steps.py lists. It prints the number of each that is durable.
+fn steps(path: &Path) -> Result<(), Error> {
+    let told = |step: u64| stdout().lock().write_all(format!("{step}\n").as_bytes()).unwrap();
+    let grow = |vector: &Vector, records: &[u64]| {
+        let seat = vector.seat()?;
+        seat.settle(&seat.grow(records)?)
+    };
+    let mut vector = Vector::create(path, 2)?;
+    told(0);
+    grow(&vector, &[0, 1, 2, 3, 4, 5])?;
+    told(1);
+    vector.change(1, &[21, 22])?;
+    told(2);
+    vector.resize(8, 7)?;
+    told(3);
+    vector.change(0, &[9, 8])?;
+    told(4);
+    vector.fold()?;
+    told(5);
+    vector.resize(3, 0)?;
+    told(6);
+    vector.seat()?.grow(&[30, 31])?;
+    vector.clear()?;
+    told(8);
+    grow(&vector, &[40])?;
+    told(9);
+    vector.close()
+}
+
+/// Whether a forked process, which has 10 seconds, is refused.
+fn is_refused_in_a_fork(vector: &Vector, seat: &Seat) -> bool {
+    // SAFETY: the child calls nothing but what it tries, and its copies of both are dropped there alone.
+    let child = unsafe { fork() };
+    if child == 0 {
+        unsafe { alarm(10) };
+        let is_refused = vector.seat().map(drop) == Err(Error::Forked);
+        drop(unsafe { std::ptr::read(seat) });
+        let closed = unsafe { std::ptr::read(vector) }.close();
+        unsafe { _exit(if is_refused && closed == Err(Error::Forked) { 0 } else { 1 }) };
+    }
+    let mut status = 1;
+    // SAFETY: the place for the status lasts for the call.
+    unsafe { waitpid(child, &mut status, 0) == child && status == 0 }
+}
+
+/// What another thread had at the fork, the forked process doesn't wait for.
+fn forks_meanwhile(path: &Path) -> Result<(), Error> {
+    let vector = &Vector::create(path, 2)?;
+    let (seat, ends) = (vector.seat()?, AtomicU64::new(0));
+    let are_refused = thread::scope(|scope| {
+        scope.spawn(|| {
+            while ends.load(Ordering::Relaxed) == 0 {
+                drop(vector.seat().unwrap());
+            }
+        });
+        let are_refused = (0..100).all(|_| is_refused_in_a_fork(vector, &seat));
+        ends.store(1, Ordering::Relaxed);
+        are_refused
+    });
+    assert!(are_refused);
+    Ok(())
 }
 
 /// The forked process is refused, and its parent goes on.
 fn forks(path: &Path) -> Result<(), Error> {
-    let vector = Vector::create(path, 2)?;
+    forks_meanwhile(&path.with_extension("other"))?;
+    let mut vector = Vector::create(path, 2)?;
     let seat = vector.seat()?;
     let receipt = seat.grow(&[5])?;
     // SAFETY: no other thread runs, and the child calls nothing but what it tries.
@@ -264,7 +467,9 @@ fn forks(path: &Path) -> Result<(), Error> {
         let looks = [seat.settled().map(drop), seat.len().map(drop), seat.read(..).map(drop), seat.read_into(0, &mut [1]).map(drop)];
         let answers = [seat.grow(&[6]).map(drop), seat.settle(&receipt), vector.seat().map(drop)];
         drop(seat);
-        let refused = looks.iter().chain(&answers).chain([&vector.close()]).all(|it| *it == Err(Error::Forked));
+        let changes = [vector.change(0, &[1]), vector.resize(0, 0), vector.clear(), vector.fold(), vector.count(5).map(drop)];
+        let found = vector.find(5, 0).map(drop);
+        let refused = looks.iter().chain(&answers).chain(&changes).chain([&found, &vector.close()]).all(|it| *it == Err(Error::Forked));
         // SAFETY: it ends the child, with none of the parent's buffers.
         unsafe { _exit(if refused { 0 } else { 1 }) };
     }
@@ -336,6 +541,10 @@ fn main() {
         "has_a_deadline" => has_a_deadline(path),
         "flushes" => flushes(path),
         "is_full" => is_full(path),
+        "is_changed" => is_changed(path),
+        "is_broken" => is_broken(path),
+        "is_refused" => is_refused(path),
+        "steps" => steps(path),
         "forks" => forks(path),
         "fills" => fills(path),
         "write" => write(&words[1..]),

@@ -15,16 +15,20 @@ make_rust_vector() {
         "$top/bindings/rust/vector/src/lib.rs"
 }
 
-# Compiles this program.
+# Compiles this program, with further words to the compiler.
 make_rust_program() {
-    rustc --edition 2024 -D warnings -o "$2" "$1" --extern "cvec_vector=$built/libcvec_vector.rlib" \
+    rust_file=$1 rust_program=$2
+    shift 2
+    rustc --edition 2024 -D warnings -o "$rust_program" "$rust_file" --extern "cvec_vector=$built/libcvec_vector.rlib" "$@" \
         -C "link-arg=$built/cvec_vector.o" -C "link-arg=$threads_library" -C "link-arg=$kit_library"
 }
 
 make_rust_cases() {
     has_rust_vector || exit $is_skipped
     make_rust_vector
-    [ -e "$built/cases" ] || make_rust_program "$top/tests/bindings/vector_cases.rs" "$built/cases"
+    if [ -e "$built/cases" ]; then return; fi
+    cc -O1 -fPIC -c "$top/tests/bindings/refused.c" -o "$built/refused.o"
+    make_rust_program "$top/tests/bindings/vector_cases.rs" "$built/cases" -C "link-arg=$built/refused.o" -C link-arg=-Wl,--wrap=cvec_vector_resize
 }
 
 # A test of tests/bindings/vector_cases.rs.
@@ -118,7 +122,7 @@ a_rust_appender_grows_by_blocks() (
 
 a_rust_vector_names_each_refusal() (
     is_so_in_rust each_refusal
-    yes 1 | head -n 131071 | has_lines
+    { yes 1 | head -n 131071; printf '3\n3\n3\n3\n'; } | has_lines
 )
 
 a_wait_has_a_deadline_in_rust() (
@@ -134,9 +138,39 @@ a_flusher_in_rust_commits_what_nobody_settles() (
     seq 0 9 | has_lines
 )
 
-a_rust_vector_is_full_until_it_is_opened_again() (
+a_full_rust_vector_goes_on_with_new_seats() (
     is_so_in_rust is_full
-    { seq 0 1048567; echo 9; } | has_lines
+    { seq 0 1048567; seq 9 10; } | has_lines
+)
+
+a_whole_rust_vector_is_changed_and_searched() (
+    is_so_in_rust is_changed
+    printf '5\n8\n' | has_lines
+    run check u64 "$work/files/t.cv"
+    grep -q '^ok version 1 width 8 size 2 .* live 1$' "$out"
+)
+
+# What was durable is there, and nothing of the change.
+a_refused_call_of_a_whole_rust_vector_leaves_it() (
+    export REFUSED=1
+    is_so_in_rust is_refused
+    printf '5\n11\n' | has_lines
+    rm "$work/files/t.cv"
+    unset REFUSED
+    (
+        ulimit -f 8
+        exec timeout 120 "$built/cases" is_broken "$work/files/t.cv"
+    )
+    yes 5 | head -n 300 | has_lines
+)
+
+calls_of_a_whole_rust_vector_that_are_killed_are_made_or_not() (
+    has python3 'what compares a file with steps' || exit $is_skipped
+    make_rust_cases
+    cc -shared -fPIC -o "$work/syncs.so" "$top/tests/bindings/syncs.c"
+    PYTHONDONTWRITEBYTECODE=1 timeout 120 python3 "$top/tests/bindings/vector_steps.py" "$work/t.cv" "$work/syncs.so" "$built/cases" steps
+    run list u64 "$work/t.cv"
+    did '40\n'
 )
 
 a_rust_vector_is_in_use_by_another_program() (
@@ -170,16 +204,16 @@ PY
 )
 
 compile_wrong() {
-    rustc --edition 2024 --crate-type lib --emit=metadata -o "$work/wrong" "$work/wrong.rs" \
+    rustc --edition 2024 --crate-type lib --emit=metadata -o "$work/wrong" "${1:-$work/wrong.rs}" \
         --extern "cvec_vector=$built/libcvec_vector.rlib" 2>"$err"
 }
 
 is_refused_by_rustc() {
-    if compile_wrong; then return 1; fi
+    if compile_wrong "${2:-$work/wrong.rs}"; then return 1; fi
     tells "$1"
 }
 
-# The compiler sees to these: a seat is one thread's, and no vector is closed before its seats.
+# The compiler sees to these: a seat is one thread's, no vector is closed before its seats, nor changed while one is there.
 the_compiler_refuses_what_a_seat_is_not_for() (
     has_rust_vector || exit $is_skipped
     make_rust_vector
@@ -196,9 +230,15 @@ the_compiler_refuses_what_a_seat_is_not_for() (
         echo '    seat.settled()'
         echo '}'
     } >"$work/wrong.rs"
-    is_refused_by_rustc '`Cell<()>` cannot be shared between threads safely'
+    is_refused_by_rustc '`Cell<u64>` cannot be shared between threads safely'
     sed -i '/scope/d' "$work/wrong.rs"
     is_refused_by_rustc 'cannot move out of `vector` because it is borrowed'
+    for call in 'change(0, \&[5])' 'resize(0, 5)' 'clear()' 'fold()' 'count(5)' 'find(5, 0)'; do
+        sed "s/close(vector: Vector)/change(mut vector: Vector)/; s/vector\.close()/vector.$call/" "$work/wrong.rs" >"$work/changed.rs"
+        sed '/seat\.settled/s/.*/    Ok(0)/; /let seat/d' "$work/changed.rs" >"$work/right.rs"
+        compile_wrong "$work/right.rs"
+        is_refused_by_rustc 'cannot borrow `vector` as mutable because it is also borrowed as immutable' "$work/changed.rs"
+    done
     sed -i '/vector.close/d' "$work/wrong.rs"
     compile_wrong
 )

@@ -23,11 +23,13 @@ use std::cell::Cell;
 use std::ffi::{CStr, CString, c_char};
 use std::fmt;
 use std::io;
-use std::marker::PhantomData;
+use std::mem::{self, ManuallyDrop};
 use std::ops::{Bound, RangeBounds};
 use std::os::unix::ffi::OsStrExt;
 use std::path::Path;
+use std::process;
 use std::ptr::{self, NonNull};
+use std::sync::{Mutex, MutexGuard, PoisonError};
 use std::time::Duration;
 
 /// A vector has at most so many seats.
@@ -51,9 +53,9 @@ pub enum Error {
     Memory,
     /// A growth without a record.
     Empty,
-    /// The vector would have more than 2^32 records; or of `settle`, there is no such growth.
+    /// The vector would have more than 2^32 records; of `settle`, there is no such growth; of `change`, no such positions.
     OutOfRange,
-    /// A growth of more than 131,071 records.
+    /// A growth of more than 131,071 records, or a change or a resize that doesn't fit one frame.
     TooLarge,
     /// The file would become longer than 2^48 bytes.
     FileFull,
@@ -79,12 +81,15 @@ pub enum Error {
     NotFile,
     /// Every seat is taken.
     NoSeat,
-    /// The vector was grown 1,048,568 times: close each seat, and take new ones.
+    /// It was grown 1,048,568 times: drop each seat, and take new ones, which go on. All that was grown before is durable then.
+    /// What an `Appender` has `kept` is to be grown by a new seat.
     Full,
-    /// A seat was forgotten (`std::mem::forget`): the vector stays open.
+    /// A seat was forgotten (`std::mem::forget`): the vector stays as it is, and open.
     Busy,
     /// Of `settle_for`: the time has passed. The growth may yet become durable.
     Late,
+    /// Of `resize` and `clear`: a change isn't folded. `fold` first.
+    Unfolded,
     /// A vector has 1 to 64 seats.
     Seats,
     /// A path has a zero byte.
@@ -136,7 +141,7 @@ impl Error {
 }
 
 /// C's numbers of those refusals that have none of the system.
-const REFUSALS: [(u32, Error); 19] = [
+const REFUSALS: [(u32, Error); 20] = [
     (1, Error::Unborn),
     (2, Error::NotSegment),
     (3, Error::Version),
@@ -156,6 +161,7 @@ const REFUSALS: [(u32, Error); 19] = [
     (66, Error::Full),
     (67, Error::Busy),
     (68, Error::Late),
+    (69, Error::Unfolded),
 ];
 
 /// To be asked right behind the call that answered it.
@@ -208,6 +214,12 @@ unsafe extern "C" {
     fn cvec_vector_settled(seat: *mut RawSeat, count: *mut u64) -> u32;
     fn cvec_vector_size(seat: *mut RawSeat, size: *mut u64) -> u32;
     fn cvec_vector_read(seat: *mut RawSeat, from: u64, out: *mut u64, room: usize, count: *mut u64) -> u32;
+    fn cvec_vector_change(vector: *mut RawVector, start: u64, records: *const u64, count: usize) -> u32;
+    fn cvec_vector_resize(vector: *mut RawVector, size: u64, record: u64) -> u32;
+    fn cvec_vector_clear(vector: *mut RawVector) -> u32;
+    fn cvec_vector_fold(vector: *mut RawVector) -> u32;
+    fn cvec_vector_count(vector: *mut RawVector, record: u64, count: *mut u64) -> u32;
+    fn cvec_vector_find(vector: *mut RawVector, record: u64, from: u64, place: *mut u64) -> u32;
     fn cvec_vector_status_text(status: u32) -> *const c_char;
 }
 
@@ -235,16 +247,54 @@ pub enum Version {
     Two,
 }
 
+/// The seats of C, which a vector keeps: who drops one leaves it to others.
+#[derive(Debug)]
+struct Seats {
+    /// Those that nobody has.
+    idle: Vec<NonNull<RawSeat>>,
+    /// How many somebody has.
+    lent: usize,
+    /// How many growths there are, but for those of seats that somebody has.
+    grown: u64,
+    /// The first ones, which C's seats don't count any more: each is durable.
+    base: u64,
+    /// Whether C's next seat tells how many it counts.
+    is_new: bool,
+    /// Whether a growth was refused as `Full`, by a seat that was dropped.
+    is_full: bool,
+}
+
+impl Seats {
+    /// While nobody has one: waits until all that was grown is durable, and closes each. Refused, they stay.
+    fn close(&mut self) -> Result<(), Error> {
+        if let Some(raw) = self.idle.first().filter(|_| self.grown > self.base) {
+            // SAFETY: it is open, and in no call.
+            told(unsafe { cvec_vector_await(raw.as_ptr(), self.grown - 1 - self.base) })?;
+        }
+        for raw in self.idle.drain(..) {
+            // SAFETY: as above; it is closed once, since it is taken out.
+            unsafe { cvec_vector_close_seat(raw.as_ptr()) };
+        }
+        (self.is_new, self.is_full) = (true, false);
+        Ok(())
+    }
+}
+
 /// A durable vector of a file, which is locked until the vector is closed. Threads share it, and each takes a seat. A drop closes
 /// it, and can't report what fails: `close` does.
+///
+/// What takes `&mut self` is of the whole vector: no seat is there then. It settles what was grown, and what it makes is durable
+/// when it returns. `Memory` and `FileFull` lose nothing. Where a write or a sync failed all is `Broken` from then on, reads too.
 #[derive(Debug)]
 pub struct Vector {
     raw: NonNull<RawVector>,
+    process: u32,
+    seats: Mutex<Seats>,
 }
 
 // SAFETY: C guards all that its calls on a vector have in common by a mutex, and any thread may make them.
 unsafe impl Send for Vector {}
-// SAFETY: as above; the one call that wants the vector alone, the close, takes it by value or on its drop.
+// SAFETY: as above; the calls that want the vector alone take it by value, by `&mut` or on its drop. The seats are in a mutex.
 unsafe impl Sync for Vector {}
 
 impl Vector {
@@ -263,7 +313,7 @@ impl Vector {
         let (name, mut raw) = (name_of(path)?, ptr::null_mut());
         // SAFETY: the name ends with a zero, and lasts for the call, as does the place for the pointer.
         told(unsafe { cvec_vector_create(&mut raw, name.as_ptr(), number, seats) })?;
-        Vector::over(raw)
+        Vector::over(raw, seats)
     }
 
     /// Opens a file that is there, and reads it.
@@ -272,20 +322,114 @@ impl Vector {
         let (name, mut raw) = (name_of(path)?, ptr::null_mut());
         // SAFETY: as above.
         told(unsafe { cvec_vector_open(&mut raw, name.as_ptr(), seats) })?;
-        Vector::over(raw)
+        Vector::over(raw, seats)
     }
 
-    fn over(raw: *mut RawVector) -> Result<Vector, Error> {
-        NonNull::new(raw).map(|raw| Vector { raw }).ok_or(Error::Memory)
+    fn over(raw: *mut RawVector, seats: u16) -> Result<Vector, Error> {
+        let seats_kept = Seats { idle: Vec::new(), lent: 0, grown: 0, base: 0, is_new: true, is_full: false };
+        let raw = NonNull::new(raw).ok_or(Error::Memory)?;
+        let mut vector = Vector { raw, process: process::id(), seats: Mutex::new(seats_kept) };
+        // So that a drop of a seat asks for no memory.
+        vector.seats_alone().idle.try_reserve_exact(seats.into()).map_err(|_| Error::Memory)?;
+        Ok(vector)
     }
 
-    /// A seat, for one thread at a time. When it is dropped its number isn't given again until the file is opened again, so a
-    /// thread keeps its seat. `NoSeat`: every seat was taken.
+    /// A thread that had the mutex when this process was forked never lets go of it here.
+    fn check_process(&self) -> Result<(), Error> {
+        if self.process == process::id() { Ok(()) } else { Err(Error::Forked) }
+    }
+
+    fn seats(&self) -> MutexGuard<'_, Seats> {
+        self.seats.lock().unwrap_or_else(PoisonError::into_inner)
+    }
+
+    fn seats_alone(&mut self) -> &mut Seats {
+        self.seats.get_mut().unwrap_or_else(PoisonError::into_inner)
+    }
+
+    /// A seat, for one thread at a time. Who drops it leaves it to another. `NoSeat`: every seat is taken. Behind `Full`, while no
+    /// other seat is there, it first settles what was grown, and is refused where that is.
     pub fn seat(&self) -> Result<Seat<'_>, Error> {
-        let mut raw = ptr::null_mut();
+        self.check_process()?;
+        let mut seats = self.seats();
+        if seats.is_full && seats.lent == 0 {
+            seats.close()?;
+        }
+        let raw = match seats.idle.pop() {
+            Some(raw) => raw,
+            None => self.take(&mut seats)?,
+        };
+        seats.lent += 1;
+        Ok(Seat { raw, vector: self, base: seats.base, next: Cell::new(0), is_full: Cell::new(false) })
+    }
+
+    /// One more seat of C. The first one behind `Seats::close` counts no growth yet, or all of the phase with which C goes on.
+    fn take(&self, seats: &mut Seats) -> Result<NonNull<RawSeat>, Error> {
+        let (mut raw, mut counted) = (ptr::null_mut(), 0);
         // SAFETY: the vector is open as long as `self` is there; C takes seats one at a time.
         told(unsafe { cvec_vector_take_seat(self.raw.as_ptr(), &mut raw) })?;
-        NonNull::new(raw).map(|raw| Seat { raw, of: PhantomData, alone: PhantomData }).ok_or(Error::Memory)
+        let raw = NonNull::new(raw).ok_or(Error::Memory)?;
+        if mem::take(&mut seats.is_new) {
+            // SAFETY: it was just taken, so it is in no call, and none is refused.
+            unsafe { cvec_vector_settled(raw.as_ptr(), &mut counted) };
+            seats.base = seats.grown - counted;
+        }
+        Ok(raw)
+    }
+
+    /// For a call of the whole vector: no seat is taken then.
+    fn alone(&mut self) -> Result<*mut RawVector, Error> {
+        self.check_process()?;
+        let seats = self.seats_alone();
+        if seats.lent > 0 {
+            return Err(Error::Busy);
+        }
+        seats.close()?;
+        Ok(self.raw.as_ptr())
+    }
+
+    /// Writes these records over those from position `start` on: all of them or none, also over a crash. `OutOfRange`: the vector
+    /// doesn't reach so far; `TooLarge`.
+    pub fn change(&mut self, start: u64, records: &[u64]) -> Result<(), Error> {
+        // SAFETY: no seat is there; the pointer and the length are those of one slice.
+        told(unsafe { cvec_vector_change(self.alone()?, start, records.as_ptr(), records.len()) })
+    }
+
+    /// Takes the records behind the first `size` away, or appends copies of this one. `Unfolded`, where it takes some away;
+    /// `OutOfRange`, past 2^32 records; `TooLarge`.
+    pub fn resize(&mut self, size: u64, record: u64) -> Result<(), Error> {
+        // SAFETY: as above.
+        told(unsafe { cvec_vector_resize(self.alone()?, size, record) })
+    }
+
+    /// Takes all records away. `Unfolded`.
+    pub fn clear(&mut self) -> Result<(), Error> {
+        // SAFETY: as above.
+        told(unsafe { cvec_vector_clear(self.alone()?) })
+    }
+
+    /// Writes what was changed to its place in the file: a write for each record, after which the vector may become shorter.
+    pub fn fold(&mut self) -> Result<(), Error> {
+        // SAFETY: as above.
+        told(unsafe { cvec_vector_fold(self.alone()?) })
+    }
+
+    /// How many records equal this one.
+    pub fn count(&mut self, record: u64) -> Result<u64, Error> {
+        let mut count = 0;
+        // SAFETY: as above; the place for the count lasts for the call.
+        told(unsafe { cvec_vector_count(self.alone()?, record, &mut count) })?;
+        Ok(count)
+    }
+
+    /// The first position from `from` on that has this record.
+    pub fn find(&mut self, record: u64, from: u64) -> Result<Option<u64>, Error> {
+        let (mut place, mut len) = (0, 0);
+        // SAFETY: as above.
+        told(unsafe { cvec_vector_find(self.alone()?, record, from, &mut place) })?;
+        // From behind each position it answers how many there are. SAFETY: as above.
+        told(unsafe { cvec_vector_find(self.alone()?, record, u64::MAX, &mut len) })?;
+        Ok((place < len).then_some(place))
     }
 
     /// For a thread of the caller's, which takes no seat: commits what was grown, and so again and again, this long (at least a
@@ -304,21 +448,28 @@ impl Vector {
     /// Commits what was grown, and closes the file. An error says that growths nobody has settled may be lost; the vector is gone
     /// then too, but for `Busy`. In a forked process it lets go of the file alone, and is `Forked`.
     pub fn close(self) -> Result<(), Error> {
-        let raw = self.raw;
-        std::mem::forget(self);
-        // SAFETY: it is closed once: here, where no drop follows. No seat is there, since each borrows the vector.
-        told(unsafe { cvec_vector_close(raw.as_ptr()) })
+        told(ManuallyDrop::new(self).end())
+    }
+
+    /// Closes it, and answers what C does. To be called once. In a forked process C refuses to close seats.
+    fn end(&mut self) -> u32 {
+        for raw in mem::take(&mut self.seats_alone().idle) {
+            // SAFETY: nobody has this seat, and it is closed once.
+            unsafe { cvec_vector_close_seat(raw.as_ptr()) };
+        }
+        // SAFETY: no other seat is there, since each borrows the vector; C refuses it while one is forgotten.
+        unsafe { cvec_vector_close(self.raw.as_ptr()) }
     }
 }
 
 impl Drop for Vector {
     fn drop(&mut self) {
-        // SAFETY: it is closed once: here, since `close` leaves nothing to drop. No seat is there, since each borrows the vector.
-        unsafe { cvec_vector_close(self.raw.as_ptr()) };
+        // Once, since `close` leaves nothing to drop.
+        self.end();
     }
 }
 
-/// Where a growth stands. It holds as long as the vector is open.
+/// Where a growth stands, as long as the vector is open, and until its records are taken away.
 #[derive(Clone, Copy, Debug, PartialEq, Eq)]
 pub struct Receipt {
     /// How many growths since the vector was opened stand before it.
@@ -333,9 +484,13 @@ pub struct Receipt {
 #[derive(Debug)]
 pub struct Seat<'v> {
     raw: NonNull<RawSeat>,
-    of: PhantomData<&'v Vector>,
-    /// A `Cell` is in one thread at a time.
-    alone: PhantomData<Cell<()>>,
+    vector: &'v Vector,
+    /// That of the vector's seats, as long as one is there.
+    base: u64,
+    /// The number behind its last growth. A `Cell` is in one thread at a time.
+    next: Cell<u64>,
+    /// Whether a growth was refused as `Full`.
+    is_full: Cell<bool>,
 }
 
 // SAFETY: C keeps nothing of the thread that took it: its memory is malloc's, and its calls are those of any one thread.
@@ -347,21 +502,33 @@ impl<'v> Seat<'v> {
     pub fn grow(&self, records: &[u64]) -> Result<Receipt, Error> {
         let mut receipt = RawReceipt::default();
         // SAFETY: the seat is open as long as `self` is there, and in one call; the pointer and the length are those of one slice.
-        told(unsafe { cvec_vector_grow(self.raw.as_ptr(), records.as_ptr(), records.len(), &mut receipt) })?;
-        Ok(Receipt { number: receipt.number, start: receipt.start, length: receipt.len })
+        let grown = told(unsafe { cvec_vector_grow(self.raw.as_ptr(), records.as_ptr(), records.len(), &mut receipt) });
+        if grown == Err(Error::Full) {
+            self.is_full.set(true);
+        }
+        grown?;
+        let number = self.base + receipt.number;
+        self.next.set(number + 1);
+        Ok(Receipt { number, start: receipt.start, length: receipt.len })
     }
 
     /// Waits until this growth, and each before it, is durable. Who finds that nobody commits commits for all that wait.
     pub fn settle(&self, receipt: &Receipt) -> Result<(), Error> {
+        let Some(number) = receipt.number.checked_sub(self.base) else {
+            return self.settled().map(drop); // it is durable
+        };
         // SAFETY: as above.
-        told(unsafe { cvec_vector_await(self.raw.as_ptr(), receipt.number) })
+        told(unsafe { cvec_vector_await(self.raw.as_ptr(), number) })
     }
 
     /// The same, but it waits for the commits of others no longer than this: `Late`. With no time at all it commits where nobody
     /// does, and else only looks.
     pub fn settle_for(&self, receipt: &Receipt, longest: Duration) -> Result<(), Error> {
+        let Some(number) = receipt.number.checked_sub(self.base) else {
+            return self.settled().map(drop);
+        };
         // SAFETY: as above.
-        told(unsafe { cvec_vector_await_for(self.raw.as_ptr(), receipt.number, milliseconds_of(longest)) })
+        told(unsafe { cvec_vector_await_for(self.raw.as_ptr(), number, milliseconds_of(longest)) })
     }
 
     /// How many growths are durable: those with a lower number are. It doesn't wait.
@@ -369,7 +536,7 @@ impl<'v> Seat<'v> {
         let mut count = 0;
         // SAFETY: as above.
         told(unsafe { cvec_vector_settled(self.raw.as_ptr(), &mut count) })?;
-        Ok(count)
+        Ok(self.base + count)
     }
 
     /// How many records there are, durable or not.
@@ -429,8 +596,14 @@ impl<'v> Seat<'v> {
 
 impl Drop for Seat<'_> {
     fn drop(&mut self) {
-        // SAFETY: it is closed once, here, while its vector is open.
-        unsafe { cvec_vector_close_seat(self.raw.as_ptr()) };
+        if self.vector.check_process().is_err() {
+            return;
+        }
+        let mut seats = self.vector.seats();
+        seats.idle.push(self.raw);
+        seats.lent -= 1;
+        seats.grown = seats.grown.max(self.next.get());
+        seats.is_full |= self.is_full.get();
     }
 }
 
