@@ -13,9 +13,11 @@ from __future__ import annotations
 
 import array
 import collections
+import contextlib
 import ctypes
 import enum
 import math
+import operator
 import os
 import threading
 from ctypes import POINTER, byref, c_size_t, c_uint8, c_uint16, c_uint32, c_uint64, c_void_p
@@ -25,6 +27,9 @@ from cvec_records import IN_C, numpy
 
 MOST_SEATS = 64
 GREATEST_ROW = 256
+_GREATEST = 2 ** 64 - 1
+# How many rows a search reads at once.
+_PIECE = 4096
 
 
 class Status(enum.IntEnum):
@@ -54,6 +59,7 @@ class Status(enum.IntEnum):
     FULL = 66
     BUSY = 67
     LATE = 68
+    UNFOLDED = 69
 
 
 # The statuses of which errno says why.
@@ -81,6 +87,12 @@ def _library() -> ctypes.CDLL:
         "settled": [c_void_p, POINTER(c_uint64)],
         "size": [c_void_p, POINTER(c_uint64)],
         "read": [c_void_p, c_uint64, c_void_p, c_size_t, POINTER(c_uint64)],
+        "change": [c_void_p, c_uint64, c_void_p, c_size_t],
+        "resize": [c_void_p, c_uint64, c_uint64],
+        "clear": [c_void_p],
+        "fold": [c_void_p],
+        "count": [c_void_p, c_uint64, POINTER(c_uint64)],
+        "find": [c_void_p, c_uint64, c_uint64, POINTER(c_uint64)],
     }
     for name, words in answers.items():
         call = getattr(lib, "cvec_vector_" + name)
@@ -152,8 +164,11 @@ class _Numbers:
 
     def put(self, room: Any, at: int, record: Any) -> None:
         """Writes a record of such an array."""
-        packed = IN_C["u64"].pack([record])
-        room[at] = int.from_bytes(packed, "little")
+        room[at] = self.row(record)[0]
+
+    def row(self, record: Any) -> list[int]:
+        """The words of a record."""
+        return [int.from_bytes(IN_C["u64"].pack([record]), "little")]
 
     def one(self, rows: Any) -> Any:
         return int(rows[0])
@@ -185,10 +200,17 @@ class _Rows:
     def room(self, count: int) -> Any:
         return numpy.empty(count, dtype=self.dtype)
 
-    def put(self, room: Any, at: int, record: Any) -> None:
+    def _check(self, record: Any) -> None:
         if not isinstance(record, numpy.generic) or record.dtype != self.dtype:
             raise ValueError(f"no record of the type: not one of {self.dtype}")
+
+    def put(self, room: Any, at: int, record: Any) -> None:
+        self._check(record)
         room[at] = record
+
+    def row(self, record: Any) -> list[int]:
+        self._check(record)
+        return numpy.frombuffer(record.tobytes(), dtype=numpy.uint64).tolist()
 
     def one(self, rows: Any) -> Any:
         return rows[0]
@@ -202,7 +224,7 @@ def _address_of(room: Any) -> int:
 
 
 class Receipt(NamedTuple):
-    """Where a growth stands. It holds as long as the vector is open."""
+    """Where a growth stands, as long as the vector is open, and until its records are taken away."""
 
     number: int
     """How many growths since the vector was opened stand before it."""
@@ -215,10 +237,14 @@ class Receipt(NamedTuple):
 class Seat:
     """What one thread calls. `Vector.seat` gives it; a second thread that calls it meanwhile is refused (BUSY)."""
 
-    def __init__(self, vector: Vector, handle: c_void_p) -> None:
-        self._vector, self._handle, self._form = vector, handle, vector._form
+    def __init__(self, vector: Vector) -> None:
+        self._vector, self._form = vector, vector._form
+        # C's seat, which the next call takes where there is none.
+        self._handle: c_void_p | None = None
+        # Who calls by it has the turn. A call under way, or who closes it or has the vector alone, has the gate.
+        self._turn, self._gate = threading.Lock(), threading.Lock()
         # Who has the turn, and whether no other comes.
-        self._turn, self._thread, self._ends = threading.Lock(), 0, False
+        self._thread, self._ends = 0, False
         self._last = -1
 
     @property
@@ -233,27 +259,57 @@ class Seat:
             raise _closed() if self._ends else Error(Status.BUSY)
         try:
             self._thread = threading.get_ident()
-            if self._ends:
-                raise _closed()
-            _pass(function(self._handle, *words))
+            with self._gate:
+                if self._ends:
+                    raise _closed()
+                if self._handle is None:
+                    self._handle = self._vector._take_handle()
+                _pass(function(self._handle, *words))
         finally:
             self._thread = 0
             self._turn.release()
 
+    def _check_thread(self) -> None:
+        """The thread that is inside a call by it can't wait for the end of that."""
+        if self._thread == threading.get_ident():
+            raise Error(Status.BUSY)
+
+    def _grow_by(self, handle: c_void_p, at: int, count: int, receipt: _Receipt) -> int:
+        status = _LIB.cvec_vector_grow(handle, at, count, byref(receipt))
+        if status == 0:
+            receipt.number += self._vector._base
+            self._last = receipt.number
+        return status
+
+    def _grow(self, at: int, count: int, receipt: _Receipt) -> None:
+        """Where C takes no further growth, it is made once C's seats were closed."""
+        while True:
+            phase = self._vector._phase
+            try:
+                return self._call(self._grow_by, at, count, receipt)
+            except Error as refusal:
+                if refusal.status != Status.FULL:
+                    raise
+            self._vector._end_phase(phase)
+
     def grow(self, records: Any) -> Receipt:
         """Grows the vector by these records, as one block behind all that was grown before: all of them or none. Other threads
-        read them when it returns; they are durable once they are settled. Nobody changes an array meanwhile. ValueError: not
-        all are records of the vector. Error EMPTY: none; TOO_LARGE: more than 131,071 words; FULL: open the vector again;
-        BROKEN."""
+        read them when it returns; they are durable once they are settled. Nobody changes an array meanwhile. Where 1,048,568
+        growths were made it settles them first. ValueError: not all are records of the vector. Error EMPTY: none; TOO_LARGE:
+        more than 131,071 words; BROKEN."""
         held, at, count = self._form.lend(records)
         receipt = _Receipt()
         try:
-            self._call(_LIB.cvec_vector_grow, at, count, byref(receipt))
+            self._grow(at, count, receipt)
         finally:
             # A traceback must not keep an array from being resized.
             del held
-        self._last = receipt.number
         return Receipt(receipt.number, receipt.start // self._form.words, receipt.len // self._form.words)
+
+    def _await_by(self, handle: c_void_p, number: int, *limit: int) -> int:
+        """What C counts no more is durable."""
+        number -= self._vector._base
+        return 0 if number < 0 else (_AWAIT_FOR if limit else _AWAIT)(handle, number, *limit)
 
     def settle(self, receipt: Receipt | None = None, timeout: float | None = None) -> None:
         """Waits until this growth and each before it is durable; without one, all that this seat grew. Who finds that nobody
@@ -263,14 +319,19 @@ class Seat:
         limit = () if timeout is None else (_milliseconds(timeout),)
         number = self._last if receipt is None else receipt.number
         if number >= 0:
-            self._call(_AWAIT_FOR if limit else _AWAIT, number, *limit)
+            self._call(self._await_by, number, *limit)
         else:
             self.settled()
+
+    def _settled_by(self, handle: c_void_p, count: c_uint64) -> int:
+        status = _LIB.cvec_vector_settled(handle, byref(count))
+        count.value += self._vector._base
+        return status
 
     def settled(self) -> int:
         """How many growths are durable: those with a lower number are. It doesn't wait."""
         count = c_uint64()
-        self._call(_LIB.cvec_vector_settled, byref(count))
+        self._call(self._settled_by, count)
         return count.value
 
     def _words(self) -> int:
@@ -296,20 +357,39 @@ class Seat:
         """Gathers single records for this seat."""
         return Appender(self, capacity)
 
+    def _search_by(self, handle: c_void_p, row: list[int], start: int, ends: Any) -> int:
+        """Reads the rows from position `start` on, and passes on the positions of those that have these words, until it ends."""
+        words, done = len(row), c_uint64()
+        room, sought = numpy.empty((_PIECE, words), dtype=numpy.uint64), numpy.array(row, dtype=numpy.uint64)
+        while True:
+            status = _LIB.cvec_vector_read(handle, start * words, _address_of(room), _PIECE * words, byref(done))
+            count = done.value // words
+            if status != 0 or count == 0 or ends(start + numpy.flatnonzero((room[:count] == sought).all(axis=1))):
+                return status
+            start += count
+
+    def _close_handle(self) -> None:
+        """For who has the gate."""
+        handle, self._handle = self._handle, None
+        if handle is not None:
+            _LIB.cvec_vector_close_seat(handle)
+
     def _give_up(self) -> None:
         """Closes it when the call that is under way has ended."""
-        if self._thread == threading.get_ident():
-            raise Error(Status.BUSY)
+        self._check_thread()
         self._ends = True
-        with self._turn:
-            handle, self._handle = self._handle, None
-            if handle is not None:
-                _LIB.cvec_vector_close_seat(handle)
+        with self._gate:
+            self._close_handle()
 
     def close(self) -> None:
-        """Gives it up for good: what it grew stays, and its number isn't given again until the vector is opened again."""
+        """Gives it up when the call that is under way has ended: what it grew stays, and another thread may have its place."""
         self._vector._check_process()
-        self._give_up()
+        self._check_thread()
+        with self._vector._lock:
+            if not self._ends:
+                self._ends = True
+                with self._gate:
+                    self._vector._replace(self)
 
 
 class Appender:
@@ -362,17 +442,26 @@ class _Lease:
 
 class Vector:
     """A durable vector of a file, which is locked until it is closed; `create` and `open` make one. Threads may share it: each
-    call goes by the seat of its thread. A process that is forked may only close it (FORKED)."""
+    call goes by the seat of its thread. A process that is forked may only close it (FORKED).
+
+    `change`, `resize`, `clear`, `fold`, `count` and `find` are of the whole vector: each waits for calls that are under way, and
+    others wait for it. It settles what was grown, and what it makes is durable when it returns. MEMORY and FILE_FULL lose
+    nothing. DISK_WRITE, DISK_SYNC: the file refused it, and from then on all is BROKEN, reads too."""
 
     _handle: c_void_p | None = None
 
-    def __init__(self, handle: c_void_p, form: _Numbers | _Rows) -> None:
+    def __init__(self, handle: c_void_p, form: _Numbers | _Rows, limit: int) -> None:
         """Not to be called: `create` and `open` do."""
-        self._handle, self._form, self._process = handle, form, os.getpid()
+        self._handle, self._form, self._limit, self._process = handle, form, limit, os.getpid()
         self._lock, self._local = threading.Lock(), threading.local()
         self._flushers, self._flusher_left = 0, threading.Condition(self._lock)
+        # All that aren't closed, and those that nobody has.
         self._seats: list[Seat] = []
         self._free: collections.deque[Seat] = collections.deque()
+        # How often C's seats were closed, and how many growths there were then. Those below the base C's seats don't count any
+        # more: the first of them that is taken tells how many they count.
+        self._phase, self._grown, self._base = 0, 0, 0
+        self._counting, self._is_counted = threading.Lock(), False
 
     @classmethod
     def create(cls, path: Any, seats: int = MOST_SEATS, dtype: Any = None, version: int = 1) -> Vector:
@@ -403,7 +492,7 @@ class Vector:
         form = _Numbers() if dtype is None else _Rows(dtype)
         handle = c_void_p()
         _pass(call(byref(handle), _name_of(path), *version, seats))
-        return cls(handle, form)
+        return cls(handle, form, seats)
 
     def __enter__(self) -> Vector:
         return self
@@ -436,10 +525,136 @@ class Vector:
         with self._lock:
             if self._handle is None:
                 raise _closed()
-            handle = c_void_p()
-            _pass(_LIB.cvec_vector_take_seat(self._handle, byref(handle)))
-            self._seats.append(Seat(self, handle))
+            if len(self._seats) == self._limit:
+                raise Error(Status.NOT_SO)
+            self._seats.append(Seat(self))
             return self._seats[-1]
+
+    def _replace(self, seat: Seat) -> None:
+        """With the lock and the gate of this seat: another one has its place, and is free."""
+        heir = Seat(self)
+        heir._handle, heir._last, seat._handle = seat._handle, seat._last, None
+        self._seats[self._seats.index(seat)] = heir
+        self._free.append(heir)
+
+    def _take_handle(self) -> c_void_p:
+        """A seat of C. The first one tells how many growths C counts: none, or all where it goes on."""
+        with self._counting:
+            handle, counted = c_void_p(), c_uint64()
+            _pass(_LIB.cvec_vector_take_seat(self._handle, byref(handle)))
+            if not self._is_counted:
+                _LIB.cvec_vector_settled(handle, byref(counted))
+                self._base, self._is_counted = self._grown - counted.value, True
+            return handle
+
+    # ---- the whole vector
+
+    @contextlib.contextmanager
+    def _alone(self) -> Iterator[None]:
+        """When each call that is under way has ended. Others wait meanwhile."""
+        self._check_process()
+        for seat in list(self._seats):
+            seat._check_thread()
+        with contextlib.ExitStack() as held:
+            held.enter_context(self._lock)
+            if self._handle is None:
+                raise _closed()
+            for seat in self._seats:
+                held.enter_context(seat._gate)
+            yield
+
+    def _last(self) -> int:
+        """The number of the last growth that has returned, or -1."""
+        return max((seat._last for seat in list(self._seats)), default=-1)
+
+    def _close_handles(self) -> None:
+        """Alone: waits until all that was grown is durable, and closes C's seats. Refused, they stay."""
+        handles = [seat._handle for seat in self._seats if seat._handle is not None]
+        self._grown = self._last() + 1
+        if handles and self._grown > self._base:
+            _pass(_AWAIT(handles[0], self._grown - 1 - self._base))
+        for seat in self._seats:
+            seat._close_handle()
+        self._phase, self._is_counted = self._phase + 1, False
+
+    def _end_phase(self, phase: int) -> None:
+        """Has C count growths anew, but where another thread has done so since."""
+        with self._alone():
+            if phase == self._phase:
+                self._close_handles()
+
+    def _whole(self, call: Any, *words: Any) -> None:
+        """A call of the whole vector."""
+        with self._alone():
+            self._close_handles()
+            _pass(call(self._handle, *words))
+
+    def _words_before(self, position: int) -> int:
+        """Past each vector where it is too large for C."""
+        position = operator.index(position)
+        if position < 0:
+            raise ValueError("a position is below 0")
+        return min(position * self._form.words, _GREATEST)
+
+    def change(self, start: int, records: Any) -> None:
+        """Writes these records over those from position `start` on: all of them or none, also over a crash. ValueError: not all
+        are records of the vector. Error OUT_OF_RANGE: it doesn't reach so far; TOO_LARGE: more than a frame has."""
+        held, at, count = self._form.lend(records)
+        try:
+            self._whole(_LIB.cvec_vector_change, self._words_before(start), at, count)
+        finally:
+            del held
+
+    def resize(self, size: int, record: Any = None) -> None:
+        """Takes the records behind the first `size` away, or appends copies of this one, else of zeros, as one block. ValueError:
+        it is no record of the vector, or one whose words differ: grow by such. Error UNFOLDED: a change isn't folded, so none is
+        taken away; OUT_OF_RANGE: past 2^32 words; TOO_LARGE: more than a frame has."""
+        row = [0] if record is None else self._form.row(record)
+        if len(set(row)) > 1:
+            raise ValueError("no copies of a record whose words differ: grow by them")
+        self._whole(_LIB.cvec_vector_resize, self._words_before(size), row[0])
+
+    def clear(self) -> None:
+        """Takes all records away. Error UNFOLDED: a change isn't folded."""
+        self._whole(_LIB.cvec_vector_clear)
+
+    def fold(self) -> None:
+        """Writes what was changed to its place in the file: a write for each word, after which the vector may become shorter."""
+        self._whole(_LIB.cvec_vector_fold)
+
+    def _search(self, row: list[int], start: int, ends: Any) -> None:
+        """For rows of several words, which C doesn't search: one call by the seat, beside growths."""
+        seat = self.seat()
+        seat._call(seat._search_by, row, start, ends)
+
+    def count(self, record: Any) -> int:
+        """How many records have the bytes of this one. ValueError: it is no record of the vector."""
+        row, count, found = self._form.row(record), c_uint64(), []
+        if len(row) == 1:
+            self._whole(_LIB.cvec_vector_count, row[0], byref(count))
+            return count.value
+        self._search(row, 0, lambda places: found.append(len(places)))
+        return sum(found)
+
+    def find(self, record: Any, start: int = 0) -> int | None:
+        """The first position from `start` on of a record with the bytes of this one. ValueError: it is no record of the vector."""
+        row, before = self._form.row(record), self._words_before(start)
+        if len(row) == 1:
+            return self._find_word(row[0], before)
+        found: list[int] = []
+        self._search(row, before // len(row), lambda places: found.extend(places[:1].tolist()) or found)
+        return found[0] if found else None
+
+    def _find_word(self, word: int, start: int) -> int | None:
+        """C answers how many words there are where it finds none, and from behind them all."""
+        place, size = c_uint64(), c_uint64()
+        with self._alone():
+            self._close_handles()
+            _pass(_LIB.cvec_vector_find(self._handle, word, start, byref(place)))
+            _pass(_LIB.cvec_vector_find(self._handle, word, _GREATEST, byref(size)))
+        return place.value if place.value < size.value else None
+
+    # ---- by the seat of the calling thread
 
     def grow(self, records: Any) -> Receipt:
         """As `Seat.grow`."""
@@ -448,7 +663,7 @@ class Vector:
     def settle(self, receipt: Receipt | None = None, timeout: float | None = None) -> None:
         """Waits until this growth and each before it is durable; without one, all that any thread has grown till now. `timeout`
         and refusals as of `Seat.settle`."""
-        last = max((seat._last for seat in list(self._seats)), default=-1)
+        last = self._last()
         self.seat().settle(receipt or (Receipt(last, 0, 0) if last >= 0 else None), timeout)
 
     def run_flusher(self, every: float) -> None:

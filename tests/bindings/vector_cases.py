@@ -1,10 +1,12 @@
 """Tests of cvec_vector.py: vector_cases.py FOLDER NAME [plain]. NAME is that of a test below. With 'plain' it runs without
 numpy. What a file holds is read by the reader in tests/fuzz, which shares nothing with the library."""
 import array
+import ctypes
 import errno
 import gc
 import math
 import os
+import random
 import resource
 import signal
 import subprocess
@@ -63,6 +65,20 @@ def run_all(jobs):
         thread.join()
     if faults:
         raise faults[0]
+
+
+def begin_flusher(vector, refused):
+    """A thread that commits until the vector is closed. What refuses a commit comes to this list."""
+
+    def run():
+        try:
+            vector.run_flusher(0.001)
+        except Error as fault:
+            refused.append(fault)
+
+    thread = threading.Thread(target=run)
+    thread.start()
+    return thread
 
 
 # ---- what a vector is
@@ -230,12 +246,343 @@ def appenders():
     assert records() == list(range(8))
 
 
+# ---- the whole vector
+
+def the_whole_vector():
+    def file():
+        with open(PATH, "rb") as it:
+            return it.read()
+
+    with Vector.create(PATH, seats=1) as vector:
+        seat, first = vector.seat(), vector.grow(range(6))
+        assert vector.change(2, [12, 13, 12]) is None
+        assert records() == [0, 1, 12, 13, 12, 5] and list(vector) == list(seat.read(0, 9)) == records()
+        assert [vector.count(it) for it in (12, 5, 2, GREATEST)] == [2, 1, 0, 0]
+        assert [vector.find(12, it) for it in (0, 2, 3, 4, 5, 6, 2 ** 64, 2 ** 70)] == [2, 2, 4, 4] + [None] * 4
+        assert (vector.find(0), vector.find(5), vector.find(2), vector.find(0, 1)) == (0, 5, None, None)
+        # What is refused, and what changes nothing, leaves the file.
+        before = file()
+        for start, row in ((4, [1, 2, 3]), (6, [1]), (2 ** 64, [1]), (2 ** 70, [1, 2])):
+            assert refusal(vector.change, start, row)[0] == Status.OUT_OF_RANGE
+        for call in (lambda: vector.resize(5), lambda: vector.resize(0, 1), vector.clear):
+            assert refusal(call) == (Status.UNFOLDED, "a change isn't folded: fold first")
+        for size, status in ((131078, Status.TOO_LARGE), (2 ** 32 + 1, Status.OUT_OF_RANGE), (2 ** 70, Status.OUT_OF_RANGE)):
+            assert refusal(vector.resize, size, 1)[0] == status
+        for call, *words in ((vector.change, -1, [1]), (vector.change, 0, [-1]), (vector.change, 0, b"12345678"), (vector.resize, -1),
+                             (vector.resize, 7, -1), (vector.count, "1"), (vector.count, 2 ** 64), (vector.find, 1, -1), (vector.find, None)):
+            has_no(ValueError, call, *words)
+        vector.change(6, [])
+        vector.resize(6, 7)
+        assert file() == before and list(vector) == [0, 1, 12, 13, 12, 5]
+        # Growths are counted on, and those from before are settled. The seat is still the thread's.
+        vector.settle(first, timeout=0)
+        assert vector.settled() == seat.settled() == 1 and vector.seat() is seat
+        second = seat.grow([6, 7])
+        assert second == (1, 6, 2) and vector.settled() == 1
+        assert refusal(vector.settle, second._replace(number=2))[0] == Status.OUT_OF_RANGE
+        vector.resize(10, GREATEST)
+        assert vector.settled() == 2 and records()[6:] == [6, 7, GREATEST, GREATEST]
+        vector.resize(11)
+        assert vector[10] == 0
+        vector.fold()
+        before = file()
+        vector.fold()
+        assert file() == before
+        vector.resize(4)
+        assert list(vector) == records() == [0, 1, 12, 13]
+        vector.grow([4])
+        vector.clear()
+        vector.clear()
+        assert len(vector) == 0 and list(vector) == records() == [] and vector.settled() == 3 and vector.find(0) is None
+        for receipt in (first, second):
+            vector.settle(receipt)
+        assert vector.grow([5]) == (3, 0, 1)
+        vector.change(0, [8])
+    assert records() == [8]
+    with Vector.open(PATH, seats=1) as vector:
+        vector.resize(131072)
+        vector.change(1, range(131071))
+        assert refusal(vector.change, 0, range(131072))[0] == Status.TOO_LARGE
+        assert vector.find(131070) == 131071 and vector.count(0) == 1
+    assert records() == [8, *range(131071)]
+    for call in (lambda: vector.change(0, [1]), lambda: vector.resize(1), vector.clear, vector.fold, lambda: vector.count(1), lambda: vector.find(1)):
+        assert refusal(call) == (Status.NOT_SO, "closed")
+
+
+def rows_of_the_whole_vector():
+    """Past the rows that a search reads at once."""
+    point = numpy.dtype([("key", "<u8"), ("place", "<f8"), ("rest", "V8")])
+    rows = numpy.zeros(10000, dtype=point)
+    rows["key"], rows["place"] = range(10000), [-it for it in range(10000)]
+    rows["rest"][5] = b"12345678"
+    other = rows[5].copy()
+    other["rest"] = b"12345679"
+    with Vector.create(PATH, dtype=point) as vector:
+        vector.grow(rows)
+        vector.change(2, rows[5:7])
+        assert (vector[:8] == rows[[0, 1, 5, 6, 4, 5, 6, 7]]).all()
+        assert [vector.count(rows[it]) for it in (0, 2, 3, 5, 6, 4096, 9999)] == [1, 0, 0, 2, 2, 1, 1] and vector.count(other) == 0
+        assert [vector.find(rows[5], it) for it in (0, 2, 3, 5, 6, 2 ** 70)] == [2, 2, 5, 5, None, None]
+        assert [vector.find(rows[it]) for it in (4095, 4096, 9999, 2)] == [4095, 4096, 9999, None]
+        assert vector.find(rows[9999], 9999) == 9999 and vector.find(other) is None
+        # Words that stand in a row, but in two rows.
+        assert vector.find(numpy.frombuffer(rows[7:9].tobytes()[8:32], dtype=point)[0]) is None
+        for start, row in ((9999, rows[:2]), (10000, rows[:1]), (2 ** 62, rows[:1])):
+            assert refusal(vector.change, start, row)[0] == Status.OUT_OF_RANGE
+        for call, *words in ((vector.change, 0, [rows[0]]), (vector.change, 0, rows["key"]), (vector.count, 5), (vector.find, (1, 2, b"")),
+                             (vector.resize, 10001, rows[1]), (vector.resize, 10001, 0)):
+            has_no(ValueError, call, *words)
+        assert refusal(vector.resize, 9)[0] == Status.UNFOLDED and len(vector) == 10000
+        vector.fold()
+        vector.resize(3)
+        vector.resize(4)
+        same = numpy.frombuffer(bytes(range(1, 9)) * 3, dtype=point)[0]
+        vector.resize(6, same)
+    wanted = rows[[0, 1, 5]].tobytes() + bytes(24) + same.tobytes() * 2
+    assert b"".join(it.to_bytes(8, "little") for it in records()) == wanted
+    for dtype, row, sought in (("i8", [1, -5, 7, -5], -5), ("f8", [0.0, -0.0, 2.5, -0.0], -0.0), ("M8[s]", [1, 3, 2, 3], 3)):
+        os.remove(PATH)
+        values = numpy.array(row, dtype=dtype)
+        with Vector.create(PATH, dtype=dtype) as vector:
+            vector.grow(values)
+            assert vector.count(values[1]) == 2 and vector.find(values[1]) == 1 and vector.find(values[1], 2) == 3
+            has_no(ValueError, vector.count, sought)
+            vector.resize(6, values[2])
+            vector.change(0, values[2:3])
+            assert vector[:].tolist() == [values[2].tolist(), *values[1:].tolist(), *values[[2, 2]].tolist()]
+
+
+def refused_memory_loses_nothing():
+    """A call of the whole vector that C refuses before it has done anything: growths are counted on."""
+    library, refused = cvec_vector._LIB, [Status.MEMORY]
+    resize = library.cvec_vector_resize
+    library.cvec_vector_resize = lambda *words: refused.pop() if refused else resize(*words)
+    with Vector.create(PATH, seats=2) as vector:
+        first = vector.grow([5, 7])
+        assert refusal(vector.resize, 1) == (Status.MEMORY, "memory was refused")
+        assert list(vector) == [5, 7] and vector.settled() == 1
+        second = vector.grow([9])
+        assert second == (1, 2, 1) and vector.settled() == 1
+        vector.settle(second)
+        vector.settle(first)
+        assert vector.settled() == 2
+        vector.resize(1)
+        assert vector.grow([11]) == (2, 1, 1)
+    assert records() == [5, 11]
+
+
+def a_change_that_fails_breaks_it():
+    vector = Vector.create(PATH)
+    receipt = vector.grow(range(300))
+    vector.settle()
+    _, hard = resource.getrlimit(resource.RLIMIT_FSIZE)
+    resource.setrlimit(resource.RLIMIT_FSIZE, (4096, hard))
+    assert refusal(vector.change, 0, [7] * 300) == (Status.DISK_WRITE, "the file can't be written: File too large")
+    for call in (lambda: vector.grow([1]), vector.settled, lambda: vector.settle(receipt), lambda: vector[0], vector.clear, vector.fold,
+                 lambda: vector.change(0, [1]), lambda: vector.resize(1), lambda: vector.count(1), lambda: vector.find(1), vector.close):
+        assert refusal(call)[0] == Status.BROKEN
+    resource.setrlimit(resource.RLIMIT_FSIZE, (hard, hard))
+    assert records() == list(range(300))
+    # Where what was grown can't be committed, nothing was closed: it is read still.
+    vector = Vector.open(PATH)
+    resource.setrlimit(resource.RLIMIT_FSIZE, (4096, hard))
+    receipt = vector.grow(range(300))
+    assert refusal(vector.clear)[0] == Status.DISK_WRITE and refusal(vector.clear)[0] == Status.BROKEN
+    assert len(vector) == 600 and vector.settled() == 0 and refusal(vector.settle, receipt)[0] == Status.BROKEN
+    assert refusal(vector.close)[0] == Status.BROKEN
+    resource.setrlimit(resource.RLIMIT_FSIZE, (hard, hard))
+    assert records() == list(range(300))
+
+
+def the_whole_vector_beside_threads():
+    """Each call waits for those of others, and for a flusher, and none is refused."""
+    receipts, over, refused = [], threading.Barrier(THREADS + 1), []
+
+    def run(vector, name):
+        for turn in range(100):
+            receipts.append(vector.grow([name, turn, name + turn]))
+            if turn % 10 == 0:
+                vector.settle(receipts[-1])
+                vector.settle(receipts[0])
+
+    def run_and_wait(vector, name):
+        try:
+            run(vector, name)
+        finally:
+            over.wait()
+
+    def search(vector):
+        try:
+            while over.n_waiting < THREADS:
+                vector.count(5)
+                vector.find(GREATEST)
+                vector.clear()
+        finally:
+            over.wait()
+
+    with Vector.create(PATH, seats=THREADS + 1) as vector:
+        flusher = begin_flusher(vector, refused)
+        run_all([lambda: search(vector)] + [lambda name=name: run_and_wait(vector, name) for name in range(THREADS)])
+        assert sorted(it.number for it in receipts) == list(range(100 * THREADS))
+        for receipt in receipts:
+            vector.settle(receipt)
+        vector.settle()
+        assert vector.settled() == 100 * THREADS
+        found = list(vector)
+        assert len(found) % 3 == 0 and all(found[at] + found[at + 1] == found[at + 2] for at in range(0, len(found), 3))
+        vector.clear()
+        vector.grow([7])
+    flusher.join()
+    assert records() == [7] and refused == []
+
+
+def a_call_within_a_call_is_refused():
+    """As one from a signal's handler, which would wait for itself."""
+    library = cvec_vector._LIB
+    size, told = library.cvec_vector_size, []
+
+    def look(*words):
+        told.extend(refusal(call)[0] for call in (vector.clear, vector.seat().close, vector.close, vector.seat().settled))
+        return size(*words)
+
+    library.cvec_vector_size = look
+    with Vector.create(PATH) as vector:
+        assert len(vector) == 0 and told == [Status.BUSY] * 4
+        library.cvec_vector_size = size
+        vector.grow([5])
+        vector.change(0, [6])
+    assert records() == [6]
+
+
+# ---- more growths than C counts
+
+MOST_GROWTHS = 1048568
+
+
+def a_full_phase_goes_on():
+    """But the first and the last one, growths are made by a loop in C (tests/bindings/often.c)."""
+    library, told = cvec_vector._LIB, []
+    often, grow = ctypes.CDLL(os.environ["OFTEN"]), library.cvec_vector_grow
+
+    def grow_noted(*words):
+        told.append(grow(*words))
+        return told[-1]
+
+    library.cvec_vector_grow = grow_noted
+    with Vector.create(PATH, seats=1) as vector:
+        first, seat = vector.grow([0]), vector.seat()
+        assert often.grow_often(grow, seat._handle, ctypes.c_uint64(1), ctypes.c_uint64(MOST_GROWTHS - 2)) == 0
+        last = vector.grow([MOST_GROWTHS - 1])
+        assert last == (MOST_GROWTHS - 1, MOST_GROWTHS - 1, 1) and vector.settled() == 0
+        behind = vector.grow([MOST_GROWTHS])
+        assert told == [0, 0, Status.FULL, 0] and behind == (MOST_GROWTHS, MOST_GROWTHS, 1)
+        # All from before is settled, and what is behind it isn't yet.
+        assert vector.settled() == MOST_GROWTHS and vector.seat() is seat
+        for receipt in (first, last):
+            vector.settle(receipt, timeout=0)
+            seat.settle(receipt)
+        assert vector.settled() == MOST_GROWTHS
+        assert refusal(vector.settle, behind._replace(number=MOST_GROWTHS + 1))[0] == Status.OUT_OF_RANGE
+        vector.settle()
+        assert vector.settled() == MOST_GROWTHS + 1
+
+
+def count_few(most):
+    """C refuses a growth behind so many others here, until its seats are closed. Then it counts anew, as behind a call of the whole
+    vector. Answers a set of C's seats that are open, and a list of how many growths each phase had."""
+    library, lock, made, there, phases = cvec_vector._LIB, threading.Lock(), [0], set(), []
+    grow, take, close = library.cvec_vector_grow, library.cvec_vector_take_seat, library.cvec_vector_close_seat
+
+    def grow_few(*words):
+        with lock:
+            if made[0] == most:
+                return Status.FULL
+            made[0] += 1
+            return grow(*words)
+
+    def take_noted(vector, seat):
+        with lock:
+            if not there:
+                phases.append(made[0])
+                made[0] = library.cvec_vector_find(vector, 0, GREATEST, ctypes.byref(ctypes.c_uint64()))
+            status = take(vector, seat)
+            there.add(seat._obj.value)
+            return status
+
+    def close_noted(seat):
+        with lock:
+            there.remove(seat.value)
+            return close(seat)
+
+    library.cvec_vector_grow, library.cvec_vector_take_seat, library.cvec_vector_close_seat = grow_few, take_noted, close_noted
+    return there, phases
+
+
+def phases_end_beside_threads():
+    there, phases = count_few(50)
+    told, numbers = {}, {}
+
+    def run(vector, name):
+        for turn in range(100):
+            receipt = vector.grow(block(0, name, turn))
+            told[0, name, turn] = receipt.start
+            numbers[receipt.start] = receipt.number
+            assert list(vector[receipt.start:receipt.start + receipt.length]) == block(0, name, turn)
+            if turn % 10 == name:
+                vector.settle(receipt)
+                assert vector.settled() > receipt.number
+
+    with Vector.create(PATH, seats=THREADS) as vector:
+        run_all([lambda name=name: run(vector, name) for name in range(THREADS)])
+        assert [numbers[at] for at in sorted(numbers)] == list(range(100 * THREADS))
+        assert len(phases) == 16 and set(phases[1:]) == {50}
+        gc.collect()
+        for number in numbers.values():
+            vector.settle(cvec_vector.Receipt(number, 0, 1))
+        assert vector.settled() == 100 * THREADS
+    assert places_of(records()) == told and there == set()
+
+
+def random_calls_beside_threads():
+    """And beside a flusher: no call is refused but by the two statuses that are expected here, and growths are counted on."""
+    there, _ = count_few(37)
+    seed = random.randrange(2 ** 32)
+    print("seed", seed, file=sys.stderr)
+    receipts, refused = [], []
+
+    def make(expected, call, *words):
+        try:
+            call(*words)
+        except Error as fault:
+            assert fault.status == expected, fault
+
+    def run(vector, name):
+        by = random.Random(seed + name)
+        calls = (lambda: receipts.append(vector.grow([name] * by.randrange(1, 5))),
+                 lambda: vector.settle(by.choice(receipts), by.choice((None, 5))) if receipts else None,
+                 vector.settle, vector.settled, lambda: vector.seat().close(), lambda: len(vector), vector.fold,
+                 lambda: vector.count(5), lambda: vector.find(9), lambda: make(Status.OUT_OF_RANGE, vector.change, 0, [1]),
+                 lambda: make(Status.UNFOLDED, vector.clear))
+        for call in by.choices(calls, (12, 3, *[1] * 9), k=300):
+            call()
+
+    with Vector.create(PATH, seats=THREADS) as vector:
+        flusher = begin_flusher(vector, refused)
+        run_all([lambda name=name: run(vector, name) for name in range(THREADS)])
+        assert sorted(it.number for it in receipts) == list(range(len(receipts)))
+        vector.settle()
+        assert vector.settled() == len(receipts)
+        found = list(vector)
+    flusher.join()
+    assert records() == found and there == set() and refused == []
+
+
 # ---- refusals
 
 def each_refusal():
     assert refusal(Vector.open, PATH) == (Status.DISK_OPEN, "the file can't be opened: No such file or directory")
     assert refusal(Vector.open, FOLDER)[0] == refusal(Vector.create, "/dev/null")[0] == Status.NOT_FILE
-    vector = Vector.create(PATH, seats=2)
+    vector = Vector.create(PATH, seats=1)
     assert refusal(Vector.open, PATH) == (Status.IN_USE, "the file is in use") and refusal(Vector.create, PATH)[0] == Status.IN_USE
     assert refusal(vector.grow, []) == (Status.EMPTY, "a growth has at least one record")
     assert refusal(vector.grow, [1] * 131072)[0] == Status.TOO_LARGE
@@ -251,19 +598,27 @@ def each_refusal():
     vector.settle()
     assert vector.settled() == 1
     refused = []
-    other = threading.Thread(target=lambda: refused.append(refusal(vector.settled)))
-    other.start()
-    other.join()
+
+    def ask():
+        refused.append(refusal(vector.settled))
+
+    run_all([ask])
     assert refused == [(Status.NOT_SO, "every seat is taken, or there is no such version")]
-    # Once each is closed they are given again, and growths are counted from 0.
+    # Whoever closes one leaves it to another, and growths are counted on.
+    for _ in range(3):
+        vector.seat().close()
+        run_all([lambda: vector.settle(vector.grow([3]))])
+    vector.settle(receipt)
+    vector.grow([3])
     vector.seat().close()
-    assert vector.settled() == 0 and len(vector) == 131071
+    vector.settle()
+    assert vector.settled() == 5 and len(vector) == 131075
     vector.close()
     vector.close()
     for call in (vector.settled, vector.settle, vector.seat, lambda: vector[0], lambda: vector.grow([1]), lambda: len(vector)):
         assert refusal(call) == (Status.NOT_SO, "closed")
     assert refusal(Vector.create, PATH) == (Status.EXISTS, "something is there already")
-    assert records() == [1] * 131071
+    assert records() == [1] * 131071 + [3] * 4
     Vector.open(PATH).grow([2])  # nobody holds the vector
     gc.collect()
     assert records()[-1] == 2
@@ -280,7 +635,7 @@ def each_refusal():
 def each_status_has_the_sentence_of_c():
     with open(os.path.join(os.path.dirname(os.path.abspath(__file__)), "vector_texts.txt")) as lines:
         told = {int(number): text.rstrip("\n") for number, text in (line.split(" ", 1) for line in lines)}
-    assert {int(it) for it in Status} == told.keys() - {0, 65, 69, 70}
+    assert {int(it) for it in Status} == told.keys() - {0, 65, 70}
     for it in Status:
         assert str(Error(it)) == told[it] and str(Error(it, errno=2)) == told[it] + ": No such file or directory"
         assert Error(int(it)).status is it
@@ -540,7 +895,8 @@ def a_forked_process_is_refused():
     if child == 0:
         signal.alarm(20)
         calls = (vector.seat, vector.settle, vector.settled, lambda: vector.run_flusher(1), vector.stop_flusher, lambda: vector.grow([6]), lambda: len(vector), lambda: vector[0],
-                 seat.settle, seat.size, lambda: seat.grow([7]), seat.close)
+                 seat.settle, seat.size, lambda: seat.grow([7]), seat.close, vector.clear, vector.fold, lambda: vector.change(0, [1]),
+                 lambda: vector.resize(0), lambda: vector.count(5), lambda: vector.find(5))
         refused = all(refusal(call)[0] == Status.FORKED for call in calls)
         vector.close()
         vector.close()

@@ -124,6 +124,62 @@ a_python_appender_grows_by_blocks() (
     is_so_with_and_without_numpy appenders
 )
 
+# ---- the whole vector
+
+a_whole_python_vector_is_changed_and_searched() (
+    is_so_with_and_without_numpy the_whole_vector
+    run check u64 "$work/files/vector.cvec"
+    grep -q '^ok version 1 width 8 size 131072 .* live 2$' "$out"
+    run list u64 "$work/files/vector.cvec"
+    { echo 8 && seq 0 131070; } | cmp - "$out"
+)
+
+a_whole_python_vector_has_rows_of_a_dtype() (
+    is_so_with_numpy rows_of_the_whole_vector
+)
+
+a_call_of_a_whole_python_vector_waits_for_others() (
+    is_so_without_numpy the_whole_vector_beside_threads
+    run list u64 "$work/files/vector.cvec"
+    did '7\n'
+)
+
+a_refused_call_of_a_whole_python_vector_leaves_it() (
+    is_so_without_numpy refused_memory_loses_nothing
+    run list u64 "$work/files/vector.cvec"
+    did '5\n11\n'
+    rm -rf "$work/files"
+    is_so_without_numpy a_change_that_fails_breaks_it
+    run list u64 "$work/files/vector.cvec"
+    seq 0 299 | cmp - "$out"
+    rm -rf "$work/files"
+    is_so_without_numpy a_call_within_a_call_is_refused
+)
+
+calls_of_a_whole_python_vector_that_are_killed_are_made_or_not() (
+    has_python_vector || exit $is_skipped
+    make_python_vector
+    cc -shared -fPIC -o "$work/syncs.so" "$top/tests/bindings/syncs.c"
+    python_vector_runs "$top/tests/bindings/vector_steps.py" "$work/t.cv" "$work/syncs.so" "$python" "$top/tests/bindings/vector_steps_writer.py"
+    run list u64 "$work/t.cv"
+    did '40\n'
+)
+
+# ---- more growths than C counts
+
+a_full_python_vector_goes_on() (
+    has_python_vector || exit $is_skipped
+    cc -O1 -shared -fPIC -o "$work/often.so" "$top/tests/bindings/often.c"
+    export OFTEN="$work/often.so"
+    is_so_without_numpy a_full_phase_goes_on
+    run list u64 "$work/files/vector.cvec"
+    seq 0 1048568 | cmp - "$out"
+    rm -rf "$work/files"
+    is_so_without_numpy phases_end_beside_threads
+    rm -rf "$work/files"
+    is_so_without_numpy random_calls_beside_threads
+)
+
 # ---- refusals
 
 each_status_in_python_has_the_sentence_of_c() (

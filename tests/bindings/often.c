@@ -1,0 +1,11 @@
+/* For tests of a phase that is full: so many growths of one record, counted from the first one, by this function of the library. */
+#include <stddef.h>
+#include <stdint.h>
+
+typedef uint32_t grows(void *seat, const uint64_t *records, size_t count, void *receipt);
+
+uint32_t grow_often(grows *grow, void *seat, uint64_t first, uint64_t count) {
+    uint32_t status = 0;
+    for (uint64_t record = first; status == 0 && record < first + count; record++) status = grow(seat, &record, 1, NULL);
+    return status;
+}
