@@ -4,12 +4,12 @@ use Rattle.std.specs.Prelude.{nat_eq, slice_get, IsSomeAnd}
 use Rattle.std.proofs.lemmas.Bool.Decides.{nat_tests}
 use Rattle.segment_core.proofs.Replaced.{slice_get-append_right}
 use Rattle.std.specs.List.{sum, count_by}
-use Rattle.std.proofs.lemmas.List.{length-append, map_push, append-nil}
+use Rattle.std.proofs.lemmas.List.{length-append, append_assoc, map_push, append-nil}
 use Rattle.std.proofs.lemmas.List.Sums.{sum_by-cons, sum_by-append, count_by-le-length}
 use Rattle.std.proofs.lemmas.List.Concat.{flat_map-append}
 use Rattle.std.specs.Iterator.{Yields}
 use Rattle.segment_core.specs.Written.{joined}
-use Rattle.search_core.specs.Search.{records_in, LendsFew, LendsAll, LendsUntil}
+use Rattle.search_core.specs.Search.{records_in, LendsFew, LendsFewBehind, LendsAll, LendsUntil}
 
 pub one_of : {R : Type 0} (slices : List (Bor (List R))) (k : ℕ) (d : Bor (List R)) → k < length slices → length (get_or slices k d).now ≤ length (records_in slices)
 one_of [] k d lt = absurd (omega arith)
@@ -88,3 +88,20 @@ pub lent_until : {I R : Type 0} (steps : I → Option (Bor (List R)) → I → T
     → LendsAll steps start items → Yields steps start items here → LendsUntil steps start items found
 lent_until steps start here items None all so_far = all
 lent_until steps start here items (Some i) all so_far = (here, so_far)
+
+-- ---- what is lent behind records that are at hand
+
+pub behind_push : {R : Type 0} (head : List R) (slices : List (Bor (List R))) (s : Bor (List R)) → head ++ records_in (slices ++ s ∷ []) ≡ (head ++ records_in slices) ++ s.now
+behind_push {R} head slices s = ap (λ (rs : List R). head ++ rs) (records_push slices s) ∙ sym (append_assoc head (records_in slices) s.now)
+
+module _ {I R : Type 0} (steps : I → Option (Bor (List R)) → I → Type 0) where
+  pub few_behind : (head : List R) (start : I) → LendsFewBehind head steps start → LendsFew steps start
+  few_behind head start few items rest run = omega (arith, few items rest run)
+
+  pub few_after : (start here : I) (s : Bor (List R)) (records : List R) → LendsFew steps start → steps start (Some s) here → length records ≤ length s.now
+      → LendsFewBehind records steps here
+  few_after start here s records few step short items rest run =
+      omega (arith, few (s ∷ items) rest (here, step, run), length-append s.now (records_in items), short)
+
+  pub all_after : (start here : I) (s : Bor (List R)) (items : List (Bor (List R))) → steps start (Some s) here → LendsAll steps here items → LendsAll steps start (s ∷ items)
+  all_after start here s items step all = (all.0, (all.1.0, (here, step, all.1.1), all.1.2))

@@ -74,6 +74,25 @@ module _ {R : Type 0} (p : R → Bool) where
         subst (λ (o : Option R). IsSomeAnd o (λ r. p r ≡ true)) (sym (slice_get-append_right front records (length front + i) (omega arith) ∙ ap (slice_get records) less)) first.1,
       )
 
+  -- a slice that is lent first, whose front was searched
+  module _ (s : Bor (List R)) (front rest : List R) (cut : s.now ≡ front ++ rest) where
+    pub first_in_front : (i : ℕ) → IsFirst p front (Some i) → IsFirst p (records_in (s ∷ [])) (Some i)
+    first_in_front i first =
+        subst (λ (rs : List R). IsFirst p rs (Some i)) (sym (ap (λ (rs : List R). rs ++ []) cut ∙ append_assoc front rest []))
+        (first_before front (rest ++ []) i first)
+
+    in_order : (items : List (Bor (List R))) → records_in (s ∷ items) ≡ front ++ (rest ++ records_in items)
+    in_order items = ap (λ (rs : List R). rs ++ records_in items) cut ∙ append_assoc front rest (records_in items)
+
+    pub none_after_front : (items : List (Bor (List R))) → count_by p front ≡ 0 → IsFirst p (rest ++ records_in items) None → IsFirst p (records_in (s ∷ items)) None
+    none_after_front items none rest_none =
+        omega (arith, none, rest_none, ap (count_by p) (in_order items), counts-append front (rest ++ records_in items))
+
+    pub first_after_front : (items : List (Bor (List R))) (i : ℕ) → count_by p front ≡ 0 → IsFirst p (rest ++ records_in items) (Some i)
+        → IsFirst p (records_in (s ∷ items)) (Some (length front + i))
+    first_after_front items i none first =
+        subst (λ (rs : List R). IsFirst p rs (Some (length front + i))) (sym (in_order items)) (first_behind front (rest ++ records_in items) i none first)
+
   -- the first of the first slice with one that is picked
   pub first_of_slices : (slices : List (Bor (List R))) (k : ℕ) (d : Bor (List R)) (place : ℕ) → k < length slices
       → count_by p (records_in (take k slices)) ≡ 0 → IsFirst p (get_or slices k d).now (Some place)

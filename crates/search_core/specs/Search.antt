@@ -13,6 +13,11 @@ records_in slices = joined (map (λ s. s.now) slices)
 abbrev pub LendsFew : {I R : Type 0} → (I → Option (Bor (List R)) → I → Type 0) → I → Type 0
 LendsFew {I} {R} steps pieces = (items : List (Bor (List R))) (rest : I) → Yields steps pieces items rest → length (records_in items) ≤ 2 ^ 32
 
+-- and with these records before them
+abbrev pub LendsFewBehind : {I R : Type 0} → List R → (I → Option (Bor (List R)) → I → Type 0) → I → Type 0
+LendsFewBehind {I} {R} records steps pieces =
+    (items : List (Bor (List R))) (rest : I) → Yields steps pieces items rest → length records + length (records_in items) ≤ 2 ^ 32
+
 -- the iterator lends these slices, and no more
 abbrev pub LendsAll : {I R : Type 0} → (I → Option (Bor (List R)) → I → Type 0) → I → List (Bor (List R)) → Type 0
 LendsAll {I} steps pieces items = (end : I) × YieldsThen steps pieces items None end

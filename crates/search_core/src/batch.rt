@@ -13,7 +13,10 @@ use std::thread::Threads;
 const BATCH_LEN: usize = 512;
 
 /// The records of a slice of a batch at most: what one thread searches at a time.
-pub(crate) const SLICE_LEN: usize = 16384;
+pub(crate) const SLICE_LEN: usize = 131_072;
+
+/// The slices of a batch at most that is searched for the first record: those behind it are searched in vain.
+const FIND_LEN: usize = 64;
 
 /// Slices that are searched together: as many threads share them as there are processors. Contracts see how many there
 /// are, and their records.
@@ -116,7 +119,7 @@ impl<'a, R: Sync> Batch<'a, R> {
     {
         let found = find_in_slices(rt, &self.slices[..self.held], pick);
         self.held = 0;
-        self.room = (self.room * 2).min(BATCH_LEN);
+        self.room = (self.room * 2).min(FIND_LEN);
         found
     }
 

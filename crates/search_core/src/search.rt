@@ -4,11 +4,15 @@ ghost use Rattle.std.specs.Prelude.{◌≡◌, ◌+◌, ◌-◌, ◌<◌, ◌≤
 ghost use Rattle.std.specs.List.{count_by};
 ghost use Rattle.std.specs.Borrow.{Bor};
 ghost use Rattle.std.specs.Iterator.{IsFinite};
-ghost use Rattle.search_core.specs.Search.{records_in, LendsFew, LendsAll, LendsUntil, IsFirst, PassesOver};
+ghost use Rattle.search_core.specs.Search.{records_in, LendsFew, LendsFewBehind, LendsAll, LendsUntil, IsFirst, PassesOver};
 
 use crate::batch::{Batch, SLICE_LEN};
 use crate::picking::Pick;
+use crate::slices::find_in;
 use std::thread::Threads;
+
+/// So many records are searched before a batch is made, which takes longer than to search these.
+const FRONT_LEN: usize = 1024;
 
 /// How many records of the pieces are picked, however they are cut: by several threads, where there are many.
 pub fn count_where<
@@ -109,6 +113,37 @@ impl<'a, R: Sync> Finder<'a, R> {
     }
 }
 
+/// The place of the first record that is picked among these and those of the pieces behind them, if one is: in batches.
+fn find_in_batches<
+    'a,
+    R: Sync + 'a,
+    I: Iterator<Item = &'a [R]> + Drop,
+    P: Pick<R>,
+    E: Threads + Sync,
+>(rt: &E, head: &'a [R], behind: I, pick: &P) -> Option<u64>
+    requires can { I.can_next behind }
+    requires finite { IsFinite (I.remaining behind) }
+    requires few { LendsFewBehind head.now I.next_gives behind }
+    ensures { (items : List (Bor (List R))) × LendsUntil I.next_gives behind items result
+        × IsFirst (P.picks_of pick.now) (head.now ++ records_in items) result }
+{
+    let mut pieces = behind;
+    let mut finder = Finder {
+        batch: Batch::small(),
+        before: 0,
+        seen: 0,
+    };
+    if let Some(found) = finder.take_in(rt, head, pick) {
+        return Some(found);
+    }
+    while let Some(piece) = pieces.next() {
+        if let Some(found) = finder.take_in(rt, piece, pick) {
+            return Some(found);
+        }
+    }
+    finder.take_first(rt, pick)
+}
+
 /// The position of the first record of the pieces that is picked, if one is, however they are cut: by several threads,
 /// where it doesn't stand in front. Pieces far behind it aren't asked for.
 pub fn find_first<
@@ -125,15 +160,15 @@ pub fn find_first<
         × IsFirst (P.picks_of pick.now) (records_in items) result }
 {
     let mut pieces = pieces;
-    let mut finder = Finder {
-        batch: Batch::small(),
-        before: 0,
-        seen: 0,
+    let Some(piece) = pieces.next() else {
+        return None;
     };
-    while let Some(piece) = pieces.next() {
-        if let Some(found) = finder.take_in(rt, piece, pick) {
-            return Some(found);
-        }
+    let (front, rest) = piece.split_at(FRONT_LEN.min(piece.len()));
+    if let Some(place) = find_in(front, pick) {
+        return Some(place as u64);
     }
-    finder.take_first(rt, pick)
+    match find_in_batches(rt, rest, pieces, pick) {
+        Some(place) => Some(front.len() as u64 + place),
+        None => None,
+    }
 }

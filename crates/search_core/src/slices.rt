@@ -26,7 +26,7 @@ fn count_in<R, P: Pick<R>>(records: &[R], pick: &P) -> u64
 }
 
 /// The place of the first record of a slice that is picked.
-fn find_in<R, P: Pick<R>>(records: &[R], pick: &P) -> Option<usize>
+pub(crate) fn find_in<R, P: Pick<R>>(records: &[R], pick: &P) -> Option<usize>
     requires few { length records.now ≤ 2 ^ 32 }
     ensures { IsFirst (P.picks_of pick.now) records.now result }
 {

@@ -1,63 +1,63 @@
-use Rattle.std.proofs.Common.{◌≡◌, ◌-◌, ◌++◌, ◌∷◌, [], Some, ap, sym, subst, rules, arith}
-use Rattle.search_core.specs.Search.{records_in, IsFirst, PassesOver}
-use Rattle.search_core.proofs.Counts.{lent, lent_until, lent_few, records_push}
-use Rattle.search_core.proofs.Firsts.{passes_none, passes_len, passes_more, passes_found, passes_end}
+use Rattle.std.proofs.Common.{◌≡◌, ◌+◌, ◌≤◌, ◌^◌, ◌++◌, ◌∷◌, [], length, refl, ap, rules, arith}
+use Rattle.std.proofs.Crossing.{crosses}
+use denote.Param.Send.{sendable}
+use Rattle.std.proofs.lemmas.List.{length-append}
+use Rattle.search_core.specs.Search.{records_in}
+use Rattle.search_core.proofs.Counts.{few_after, all_after, found_within}
+use Rattle.search_core.proofs.Firsts.{first_in_front, none_after_front, first_after_front}
 use Rattle.search_core.proofs.search.find_first.Goals as goal
 
-pub take_in-requires-clause-few : goal.take_in-requires-clause-few
-take_in-requires-clause-few g c κs within =
-    let p = g.P.Pick.picks_of c.args.pick.now in
-    let i = c.loop-piece.invariant in
-    let few = lent_few g.I.Iterator.next_gives p c.args.pieces c.loop-piece.pieces c.next.new.self i.items c.in-Some.piece c.requires.few i.so_far c.in-Some.ensures.steps in
-    let all = passes_len p 0 c.loop-piece.finder.before (records_in i.items) c.loop-piece.finder.batch.1 i.passed in
-    let seen = c.loop-piece.finder.all in
-    (omega arith, omega (arith, few, all, seen))
-
-pub returns-in-Some-take_in : goal.returns-in-Some-take_in
-returns-in-Some-take_in g c =
-    let p = g.P.Pick.picks_of c.args.pick.now in
-    let i = c.loop-piece.invariant in
+pub returns-in-Some-find_in : goal.returns-in-Some-find_in
+returns-in-Some-find_in g c =
     let piece = c.in-Some.piece in
-    let e = c.in-Some-take_in.ensures.found in
-    let more =
-    passes_more p 0 c.loop-piece.finder.before c.loop-piece.finder.before (records_in i.items) c.loop-piece.finder.batch.1 piece.now
-    (c.loop-piece.finder.batch.1 ++ piece.now) i.passed (passes_none p c.loop-piece.finder.before (c.loop-piece.finder.batch.1 ++ piece.now)) in
-    let found = passes_found p 0 c.loop-piece.finder.before c.in-Some-take_in.found (records_in i.items ++ piece.now) (c.loop-piece.finder.batch.1 ++ piece.now) more e.0 e.1 in
-    let same : c.in-Some-take_in.found - 0 ≡ c.in-Some-take_in.found = omega arith in (
-      i.items ++ piece ∷ [],
-      (c.next.new.self, lent g.I.Iterator.next_gives p c.args.pieces c.loop-piece.pieces c.next.new.self i.items piece c.requires.few i.so_far c.in-Some.ensures.steps),
-      subst (λ n. IsFirst p (records_in (i.items ++ piece ∷ [])) (Some n)) same (subst (λ rs. IsFirst p rs (Some (c.in-Some-take_in.found - 0))) (sym (records_push i.items piece)) found.1),
+    let cut = c.split_at in (
+      piece ∷ [],
+      (c.next.new.self, (c.next.new.self, c.in-Some.ensures.steps, refl)),
+      first_in_front (g.P.Pick.picks_of c.args.pick.now) piece cut.result.0.now cut.result.1.now (search rules) c.in-Some-find_in.place c.in-Some-find_in.ensures,
     )
 
-pub loop-piece-preserved : goal.loop-piece-preserved
-loop-piece-preserved g c =
-    let p = g.P.Pick.picks_of c.args.pick.now in
-    let i = c.loop-piece.invariant in
-    let piece = c.in-Some.piece in
-    let on = c.in-Some.ensures.goes.on i.finite in
-    record {
-      items = i.items ++ piece ∷ [];
-      so_far = lent g.I.Iterator.next_gives p c.args.pieces c.loop-piece.pieces c.next.new.self i.items piece c.requires.few i.so_far c.in-Some.ensures.steps;
-      passed = subst (λ rs. PassesOver p 0 rs c.take_in.new.self.before c.take_in.new.self.batch.1) (sym (records_push i.items piece))
-          (passes_more p 0 c.loop-piece.finder.before c.take_in.new.self.before (records_in i.items) c.loop-piece.finder.batch.1 piece.now
-          c.take_in.new.self.batch.1 i.passed c.in_default-take_in.ensures.found);
-      can = on.0;
-      finite = on.1;
-    }
+pub find_in_batches-requires : goal.find_in_batches-requires
+find_in_batches-requires g c κs =
+    let on = c.in-Some.ensures.goes.on c.requires.finite in
+    let few =
+    few_after g.I.Iterator.next_gives c.args.pieces c.next.new.self c.in-Some.piece c.split_at.result.1.now c.requires.few c.in-Some.ensures.steps (search rules) in
+    (search (sendable, crosses) depth 20, (search (sendable, crosses) depth 20, (search (sendable, crosses) depth 20, ((refl, tt), (on.0, (on.1, few))))))
 
-pub returns : goal.returns
-returns g c =
-    let p = g.P.Pick.picks_of c.args.pick.now in
-    let i = c.loop-piece.invariant in
-    let e = c.take_first.ensures in (
-      i.items,
-      lent_until g.I.Iterator.next_gives c.args.pieces c.loop-piece.pieces i.items c.take_first.result (search rules) i.so_far,
-      passes_end p c.loop-piece.finder.before c.take_first.new.self.before (records_in i.items) c.loop-piece.finder.batch.1
-          c.take_first.new.self.batch.1 c.take_first.result i.passed e.found (ap (λ q. q.1) e.none),
+pub returns-in-Some-find_in_batches : goal.returns-in-Some-find_in_batches
+returns-in-Some-find_in_batches g c =
+    let piece = c.in-Some.piece in
+    let cut = c.split_at in
+    let e = c.in-Some-find_in_batches.ensures in (
+      piece ∷ e.0,
+      (e.1.0, (c.next.new.self, c.in-Some.ensures.steps, e.1.1)),
+      first_after_front (g.P.Pick.picks_of c.args.pick.now) piece cut.result.0.now cut.result.1.now (search rules) e.0 c.in-Some-find_in_batches.place c.in_default-find_in.ensures e.2,
     )
 
-pub take_first-requires-clause-few : goal.take_first-requires-clause-few
-take_first-requires-clause-few g c κs within =
-    let i = c.loop-piece.invariant in
-    let all = passes_len (g.P.Pick.picks_of c.args.pick.now) 0 c.loop-piece.finder.before (records_in i.items) c.loop-piece.finder.batch.1 i.passed in
-    (omega arith, omega (arith, c.loop-piece.finder.all, all, c.requires.few i.items c.loop-piece.pieces i.so_far))
+pub returns-in-None : goal.returns-in-None
+returns-in-None g c =
+    let piece = c.in-Some.piece in
+    let cut = c.split_at in
+    let e = c.in-None.ensures in (
+      piece ∷ e.0,
+      all_after g.I.Iterator.next_gives c.args.pieces c.next.new.self piece e.0 c.in-Some.ensures.steps e.1,
+      none_after_front (g.P.Pick.picks_of c.args.pick.now) piece cut.result.0.now cut.result.1.now (search rules) e.0 c.in_default-find_in.ensures e.2,
+    )
+
+pub overflow_add-result : goal.overflow_add-result
+overflow_add-result g c =
+    let p = g.P.Pick.picks_of c.args.pick.now in
+    let piece = c.in-Some.piece in
+    let front = c.split_at.result.0.now in
+    let rest = c.split_at.result.1.now in
+    let e = c.in-Some-find_in_batches.ensures in
+    let cut : piece.now ≡ front ++ rest = search rules in
+    let all : length front + c.in-Some-find_in_batches.place ≤ 2 ^ 32 = omega (
+      arith,
+      c.requires.few (piece ∷ e.0) e.1.0 (c.next.new.self, c.in-Some.ensures.steps, e.1.1),
+      length-append piece.now (records_in e.0),
+      ap length cut,
+      length-append front rest,
+      length-append rest (records_in e.0),
+      found_within p (rest ++ records_in e.0) c.in-Some-find_in_batches.place e.2.1,
+    ) in
+    search rules
