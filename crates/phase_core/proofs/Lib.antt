@@ -1,5 +1,5 @@
 mod LogLeft
 mod GoesOnLemmas
 mod WrittenLemmas
-mod CountLemmas
+mod PieceLemmas
 mod Worked

@@ -1,6 +1,6 @@
 //! Reads and searches of a vault by one thread.
 
-ghost use Rattle.std.specs.Prelude.{◌≡◌, ◌⊎◌, ◌<◌, length, drop, slice_get, Some};
+ghost use Rattle.std.specs.Prelude.{◌≡◌, ◌⊎◌, ◌<◌, ◌≤◌, ◌^◌, length, drop, slice_get, Some};
 ghost use Rattle.std.specs.List.{count_by};
 ghost use Rattle.vault_core.specs.Vault.{list_of};
 ghost use Rattle.phase_core.specs.Grower.{Copies};
@@ -38,15 +38,43 @@ pub(crate) fn read_from<D: Disk>(
     count as usize
 }
 
+/// How many of these records equal this one.
+fn count_in(records: &[u64], sought: u64) -> u64
+    requires few { length records.now ≤ 2 ^ 32 }
+    ensures { result ≡ count_by (equals sought) records.now }
+{
+    let mut count: u64 = 0;
+    for record in records {
+        if *record == sought {
+            count += 1;
+        }
+    }
+    count
+}
+
+/// The first place among these records that has this one. How many they are, where none has.
+fn place_in(records: &[u64], sought: u64) -> u64
+    requires few { length records.now ≤ 2 ^ 32 }
+    ensures { IsFoundFrom records.now sought 0 result }
+{
+    for k in 0..records.len() {
+        if records[k] == sought {
+            return k as u64;
+        }
+    }
+    records.len() as u64
+}
+
 /// How many of its records equal this one.
 pub(crate) fn count_equal<D: Disk>(vault: &Vault<u64, RelayDisk<D>>, sought: u64) -> u64
     ensures { result ≡ count_by (equals sought) (list_of vault.now) }
 {
+    let _len = vault.len();
     let mut count: u64 = 0;
-    for i in 0..vault.len() {
-        if at(vault, i) == sought {
-            count += 1;
-        }
+    let mut at: u64 = 0;
+    while let Some(piece) = vault.rest(at) {
+        count += count_in(piece, sought);
+        at += piece.len() as u64;
     }
     count
 }
@@ -56,9 +84,12 @@ pub(crate) fn find_equal<D: Disk>(vault: &Vault<u64, RelayDisk<D>>, sought: u64,
     ensures { IsFoundFrom (list_of vault.now) sought from result }
 {
     let len = vault.len();
-    for i in from..len {
-        if at(vault, i) == sought {
-            return i;
+    let mut at = from;
+    while let Some(piece) = vault.rest(at) {
+        let place = place_in(piece, sought);
+        at += place;
+        if place < piece.len() as u64 {
+            return at;
         }
     }
     len

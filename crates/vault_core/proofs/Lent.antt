@@ -1,10 +1,14 @@
--- What an iterator over pieces lends.
+-- What an iterator over pieces lends, and what is left of a piece.
 use Rattle.std.proofs.Common.{◌≡◌, ℕ, ◌+◌, ◌≤◌, ◌^◌, Bool, List, [], ◌∷◌, ◌++◌, length, map, Bor, Option, Some, None, refl, sym, ap, subst, ◌∙◌, arith}
+use Rattle.std.specs.Prelude.{MatchOption}
 use Rattle.std.specs.List.{count_by}
 use Rattle.std.specs.Iterator.{Yields, YieldsFirstRef}
 use Rattle.std.proofs.lemmas.List.{length-append, append-nil}
 use Rattle.std.proofs.lemmas.List.Concat.{flat_map-append}
 use Rattle.segment_core.specs.Written.{joined}
+use Rattle.directory_core.specs.Finding.{IsPieceAt}
+use Rattle.book_core.specs.Lists.{IsRestOfPiece}
+use Rattle.book_core.proofs.PieceLists.{IsPieceAt-rest}
 use Rattle.search_core.specs.Search.{records_in, LendsFew, LendsAll, LendsUntil, IsFirst}
 use Rattle.search_core.proofs.Firsts.{first_before}
 
@@ -37,3 +41,11 @@ pub lends_first : {R : Type 0} (p : R → Bool) (pieces : List (List R)) (items 
 lends_first p pieces items None all first = ap (count_by p) (sym (lends_all pieces items all)) ∙ first
 lends_first {R} p pieces items (Some i) some first =
     subst (λ (rs : List R). IsFirst p rs (Some i)) (sym (lent_records pieces items some.0 some.1)) (first_before p (records_in items) (joined some.0) i first)
+
+-- ---- what is left of a piece
+
+pub rest_at : {R : Type 0} (pieces : List (List R)) (i : ℕ) (found : Option (Bor (List R)))
+    → MatchOption found (length (joined pieces) ≤ i) (λ rest. IsRestOfPiece pieces i rest.now)
+    → MatchOption found (length (joined pieces) ≤ i) (λ rest. IsPieceAt (joined pieces) i rest.now)
+rest_at pieces i None none = none
+rest_at pieces i (Some rest) at = IsPieceAt-rest pieces i rest.now at

@@ -4,6 +4,7 @@ ghost use Rattle.std.specs.Prelude.{◌≡◌, ◌≤◌, ◌^◌, ℕ, List, le
 ghost use Rattle.disk_core.specs.State.{now, IsImage};
 ghost use Rattle.segment_core.specs.Written.{joined};
 ghost use Rattle.pen_core.specs.Pen.{IsKept, stage_of};
+ghost use Rattle.directory_core.specs.Finding.{IsPieceAt};
 ghost use Rattle.book_core.specs.Lists.{records_of};
 ghost use Rattle.vault_core.specs.Vault.{MayHold, list_of};
 ghost use Rattle.vault_core.specs.Commands.{IsNothingFault};
@@ -59,6 +60,15 @@ impl<R: Record, D: Disk> Vault<R, D> {
     {
         let rest = self.blocks.rest(i)?;
         Some(&rest[0])
+    }
+
+    /// The records from position `i` on, as many as stand in one piece there. `None` past the end.
+    pub fn rest(&self, i: u64) -> Option<&[R]>
+        ensures { MatchOption result
+            (length (list_of self.now) ≤ i)
+            (λ piece. IsPieceAt (list_of self.now) i piece.now) }
+    {
+        self.blocks.rest(i)
     }
 
     /// Its records in order, piece by piece.

@@ -1,0 +1,7 @@
+use Rattle.std.proofs.Common.{◌≡◌, take}
+use Rattle.std.specs.List.{count_by}
+use Rattle.phase_core.specs.HostVault.{equals}
+use Rattle.phase_core.proofs.searching.count_in.Given as goal
+
+abbrev pub invariant-loop-record : goal.invariant-loop-record
+invariant-loop-record l = l.count ≡ count_by (equals l.sought) (take l.record-index l.records)
