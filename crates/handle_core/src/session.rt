@@ -1,5 +1,7 @@
 //! An end of a phase, as C keeps it.
 
+ghost use Rattle.std.specs.Prelude.{◌≡◌};
+
 use phase_core::{Committer, Grower, HostDisk, HostVault, Phase};
 
 /// Which end it is.
@@ -21,4 +23,13 @@ pub enum Role {
 #[derive(Drop)]
 pub struct Session {
     pub role: Role,
+}
+
+impl Session {
+    /// It has this end then, and no other.
+    pub(crate) fn put(&mut self, role: Role)
+        ensures { self.new.role ≡ role }
+    {
+        self.role = role;
+    }
 }

@@ -1,11 +1,13 @@
 //! The calls of a vault, and those by which an end becomes one.
 
-ghost use Rattle.std.specs.Prelude.{◌≡◌, IfOk, IfErr, OnOk};
+ghost use Rattle.std.specs.Prelude.{◌≡◌, IfOk, IfErr, OnOk, MatchOption};
+ghost use Rattle.handle_core.specs.Refusal.{of_pen};
 ghost use Rattle.handle_core.specs.Vaults.{GathersIn, RefusesGathering, SharesOut, RefusesSharing, Measures, ReadsAll, Counts, Finds, IsNoVault, Changes, RefusesChange, Resizes, RefusesResize, Clears, RefusesClear, FoldsAll, RefusesFolding};
 
 use crate::refusal::Refusal;
 use crate::session::{Role, Session};
-use phase_core::{HostDisk, HostVault};
+use pen_core::PenFault;
+use phase_core::{Committer, HostDisk, HostVault, Phase};
 use std::alloc::Global;
 use std::mem;
 
@@ -17,19 +19,28 @@ impl Session {
         ensures refused { IfErr result (λ refusal. RefusesGathering refusal self.old.role self.new.role) }
     {
         match mem::replace(&mut self.role, Role::Nothing) {
-            Role::Committer(committer) => match committer.gather(alloc) {
-                Ok(vault) => {
-                    self.role = Role::Vault(vault);
-                    Ok(())
-                }
-                Err((committer, fault)) => {
-                    self.role = Role::Committer(committer);
-                    Err(Refusal::of_gather(fault))
-                }
-            },
+            Role::Committer(committer) => self.gather_phase(alloc, committer),
             other => {
-                self.role = other;
+                self.put(other);
                 Err(Refusal::NotSo)
+            }
+        }
+    }
+
+    /// The phase whose committer it had is gathered.
+    fn gather_phase(&mut self, alloc: Global, committer: Committer<HostDisk>) -> Result<(), Refusal>
+        requires { self.old.role ≡ Role.Nothing }
+        ensures gathers { OnOk result (GathersIn (Role.Committer committer) self.new.role) }
+        ensures refused { IfErr result (λ refusal. RefusesGathering refusal (Role.Committer committer) self.new.role) }
+    {
+        match committer.gather(alloc) {
+            Ok(vault) => {
+                self.put(Role::Vault(vault));
+                Ok(())
+            }
+            Err((committer, fault)) => {
+                self.put(Role::Committer(committer));
+                Err(Refusal::of_gather(fault))
             }
         }
     }
@@ -43,7 +54,7 @@ impl Session {
         match mem::replace(&mut self.role, Role::Nothing) {
             Role::Vault(vault) => self.share_vault(alloc, vault, seats),
             other => {
-                self.role = other;
+                self.put(other);
                 Err(Refusal::NotSo)
             }
         }
@@ -60,28 +71,45 @@ impl Session {
         ensures shares { IfOk result (λ end. SharesOut seats end.value.role (Role.Vault vault) self.new.role) }
         ensures refused { IfErr result (λ refusal. RefusesSharing seats refusal (Role.Vault vault) self.new.role) }
     {
-        let Ok(mut end) = Box::new(
+        let Ok(end) = Box::new(
             alloc,
             Session {
                 role: Role::Nothing,
             },
         ) else {
-            self.role = Role::Vault(vault);
+            self.put(Role::Vault(vault));
             return Err(Refusal::Memory);
         };
         match vault.share(alloc, seats) {
-            Ok((phase, committer)) => {
-                self.role = Role::Committer(committer);
-                end.role = Role::Phase(phase);
-                Ok(end)
+            Ok(ends) => Ok(self.begin_phase(end, ends)),
+            Err((left, fault)) => Err(self.keep_vault(left, fault)),
+        }
+    }
+
+    /// It has who commits then, and the other end the phase.
+    fn begin_phase(&mut self, end: Box<Session>, ends: (Phase, Committer<HostDisk>)) -> Box<Session>
+        ensures phase { result.value.role ≡ Role.Phase ends.0 }
+        ensures committer { self.new.role ≡ Role.Committer ends.1 }
+    {
+        let (phase, committer) = ends;
+        let mut end = end;
+        self.put(Role::Committer(committer));
+        end.put(Role::Phase(phase));
+        end
+    }
+
+    /// It has the vault again that a refused sharing left, if it left one.
+    fn keep_vault(&mut self, left: Option<HostVault<HostDisk>>, fault: PenFault) -> Refusal
+        ensures { MatchOption left
+            ((result ≡ Refusal.Memory) × (self.new.role ≡ self.old.role))
+            (λ vault. (result ≡ of_pen fault) × (self.new.role ≡ Role.Vault vault)) }
+    {
+        match left {
+            Some(vault) => {
+                self.put(Role::Vault(vault));
+                Refusal::of_pen(fault)
             }
-            Err((left, fault)) => match left {
-                Some(vault) => {
-                    self.role = Role::Vault(vault);
-                    Err(Refusal::of_pen(fault))
-                }
-                None => Err(Refusal::Memory),
-            },
+            None => Refusal::Memory,
         }
     }
 
