@@ -88,10 +88,11 @@ is_refused_as() {
 
 a_type_without_rows_is_refused_with_its_reason() (
     has_cpp || exit $is_skipped
-    for type in 'bytes<4>' 'bytes<12>' 'bytes<264>' 'std::uint32_t' 'char'; do
-        is_refused_as 'T has a multiple of 8 bytes, from 8 to 256' "$type"
+    for type in 'bytes<257>' 'std::pair<bytes<256>, char>'; do
+        is_refused_as 'T has 256 bytes at most' "$type"
     done
-    for type in std::string 'std::vector<int>' 'const double' 'volatile double' 'std::unique_ptr<int>'; do
+    for type in std::string 'std::vector<int>' 'const int' 'volatile double' 'std::unique_ptr<int>' \
+        'std::pair<int, std::string>' 'std::pair<int &, int>'; do
         is_refused_as 'T is copied to a file byte by byte' "$type"
     done
     printf '#include "cvec/concurrent_vector.hpp"\nstruct bytes { char all[256]; };\n%s\n' \
@@ -105,6 +106,23 @@ rows_are_grown_in_cpp() (
     behaves greatest_growth structs other_types growing
     run list u64 "$work/t.cv"
     did '5\n7\n0\n0\n9\n9\n9\n20\n21\n22\n30\n31\n30\n31\n8\n8\n8\n0\n50\n51\n52\n53\n22\n21\n20\n'
+)
+
+# The words of files as they are by hand.
+rows_in_cpp_have_any_size() (
+    behaves sizes zeros
+    run list u64 "$work/t.cv"
+    did '4294967295\n5\n2147483648\n4294967294\n4294967294\n4294967292\n4294967293\n4294967294\n4294967295\n18446744069414584327\n'
+    run list u64 "$work/t.cv.char"
+    did '65\n'
+    run list u64 "$work/t.cv.float"
+    did '1065353216\n'
+    run list u64 "$work/t.cv.3"
+    did '197121\n'
+    run list u64 "$work/t.cv.9"
+    did '578437695752307201\n9\n'
+    run list u64 "$work/t.cv.triple"
+    did '8589934593\n3\n'
 )
 
 rows_are_taken_away_in_cpp() (
@@ -218,8 +236,8 @@ no_complaint_of() {
 }
 
 memory_is_used_rightly_in_cpp() (
-    no_complaint_of address,undefined 2 growing greatest_growth structs other_types reading iterators shared_iterator ranges \
-        appenders closing closing_meanwhile refusals breaking few_seats many_threads renewing
+    no_complaint_of address,undefined 2 growing greatest_growth structs other_types sizes zeros reading iterators \
+        shared_iterator ranges appenders closing closing_meanwhile refusals breaking few_seats many_threads renewing
 )
 
 # The library isn't built for this sanitizer, which sees how it copies records, but not by what its threads are in order: so

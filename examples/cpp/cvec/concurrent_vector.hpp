@@ -1,7 +1,7 @@
 // cvec::concurrent_vector<T>: a durable vector that the threads of one process grow, in the manner of oneTBB's, for C++17.
 //
 // It stands on cvec_vector.h, which is C, and is not proved; docs/use/cpp.md has its rules. In the file a row, which is one T,
-// is sizeof(T) / 8 records of 8 bytes, one behind the other.
+// is as many records of 8 bytes as T needs, one behind the other; behind T the last of them has zeros.
 #ifndef CVEC_CONCURRENT_VECTOR_HPP
 #define CVEC_CONCURRENT_VECTOR_HPP
 
@@ -529,23 +529,32 @@ class word_file {
 
 // ---- rows
 
-template <class T> struct row {
-    static_assert(std::is_trivially_copyable_v<T> && std::is_copy_constructible_v<T> && !std::is_const_v<T> &&
-                      !std::is_volatile_v<T>,
-                  "cvec::concurrent_vector<T>: T is copied to a file byte by byte, so it is trivially copyable, and not const");
-    static_assert(sizeof(T) % word_bytes == 0 && sizeof(T) <= 256,
-                  "cvec::concurrent_vector<T>: T has a multiple of 8 bytes, from 8 to 256: add a field that fills it");
+// Types whose bytes are all that there is of a value. A pair isn't trivially copyable, but only since it is assigned to part by
+// part, which nothing here does.
+template <class T> struct is_its_bytes : std::is_trivially_copyable<T> {};
+template <class A, class B> struct is_its_bytes<std::pair<A, B>> : std::conjunction<is_its_bytes<A>, is_its_bytes<B>> {};
 
-    static constexpr std::size_t words = sizeof(T) / word_bytes;
+template <class T> struct row {
+    static_assert(is_its_bytes<T>::value && std::is_copy_constructible_v<T> && !std::is_const_v<T> && !std::is_volatile_v<T>,
+                  "cvec::concurrent_vector<T>: T is copied to a file byte by byte, so it is trivially copyable, and not const");
+    static_assert(sizeof(T) <= 256, "cvec::concurrent_vector<T>: T has 256 bytes at most");
+
+    static constexpr std::size_t words = (sizeof(T) + word_bytes - 1) / word_bytes;
+    static constexpr std::size_t bytes = words * word_bytes;
     static constexpr std::size_t most_in_growth = most_words / words;
 
-    // Copies, since a T may be aligned to less than a word, or be no row of words to the compiler.
-    static void store(const T &value, std::uint64_t *out) noexcept { std::memcpy(out, &value, sizeof(T)); }
+    // Copies, since a T may be aligned to less than a word, or be no row of words to the compiler. Behind T there are zeros: no
+    // bytes of this process, and equal ones for equal rows.
+    static void store(const T &value, std::uint64_t *out) noexcept {
+        out[words - 1] = 0;
+        std::memcpy(out, &value, sizeof(T));
+    }
 
+    // What stands behind T isn't looked at.
     static T load(const std::uint64_t *from) noexcept {
-        alignas(T) unsigned char bytes[sizeof(T)];
-        std::memcpy(bytes, from, sizeof(T));
-        return *std::launder(reinterpret_cast<T *>(bytes));
+        alignas(T) unsigned char copy[sizeof(T)];
+        std::memcpy(copy, from, sizeof(T));
+        return *std::launder(reinterpret_cast<T *>(copy));
     }
 
     static void add(std::vector<std::uint64_t> &out, const T &value) {
@@ -556,7 +565,7 @@ template <class T> struct row {
 
     // Whether what such an iterator walks over lies in memory as a row of words.
     template <class Iterator>
-    static constexpr bool is_in_a_row = alignof(T) % alignof(std::uint64_t) == 0 &&
+    static constexpr bool is_in_a_row = sizeof(T) == bytes && alignof(T) % alignof(std::uint64_t) == 0 &&
                                         (std::is_same_v<Iterator, T *> || std::is_same_v<Iterator, const T *> ||
                                          std::is_same_v<Iterator, typename std::vector<T>::iterator> ||
                                          std::is_same_v<Iterator, typename std::vector<T>::const_iterator>);
@@ -610,7 +619,7 @@ template <class T> struct row {
 // a multiple of its greatest length, so that iterators find it again in both directions.
 template <class T> class piece {
   public:
-    static constexpr std::size_t most_rows = 4096 / sizeof(T);
+    static constexpr std::size_t most_rows = 4096 / row<T>::bytes;
 
     piece(word_file &file, std::size_t position) : first_(position - position % most_rows) {
         rows_ = file.read(std::uint64_t{first_} * row<T>::words, words_.data(), words_.size()) / row<T>::words;
@@ -922,7 +931,7 @@ template <class T> class concurrent_vector {
     template <class> friend class appender;
 
     [[noreturn]] void refuse_length() const {
-        file_->refuse(CVEC_WIDTH, "its records are no whole rows of " + std::to_string(sizeof(T)) + " bytes");
+        file_->refuse(CVEC_WIDTH, "its records are no whole rows of " + std::to_string(row::bytes) + " bytes");
     }
 
     // No rows are no growth.
