@@ -3,10 +3,16 @@
 #define cvec_vector_read counted_read
 #define cvec_vector_await_for asked_await_for
 #define cvec_vector_resize refused_resize
+#define cvec_vector_change refused_change
+#define cvec_vector_fold refused_fold
+#define cvec_vector_take_seat careless_take_seat
 #include "told.hpp"
 #undef cvec_vector_read
 #undef cvec_vector_await_for
 #undef cvec_vector_resize
+#undef cvec_vector_change
+#undef cvec_vector_fold
+#undef cvec_vector_take_seat
 
 #include <algorithm>
 #include <csignal>
@@ -41,14 +47,37 @@ extern "C" std::uint32_t asked_await_for(cvec_vector_seat *seat, std::uint64_t n
     return answer == CVEC_DONE ? cvec_vector_await_for(seat, number, milliseconds) : answer;
 }
 
-// So often a resize is refused for want of memory before it has begun.
-static int resizes_refused = 0;
+// So often a call of the whole vector is refused for want of memory before it has begun.
+static int refusals_to_come = 0;
+
+static bool is_refused_now() {
+    if (refusals_to_come == 0) return false;
+    --refusals_to_come;
+    return true;
+}
 
 extern "C" std::uint32_t cvec_vector_resize(cvec_vector *, std::uint64_t, std::uint64_t);
 extern "C" std::uint32_t refused_resize(cvec_vector *vector, std::uint64_t size, std::uint64_t record) {
-    if (resizes_refused == 0) return cvec_vector_resize(vector, size, record);
-    --resizes_refused;
-    return CVEC_MEMORY;
+    return is_refused_now() ? std::uint32_t{CVEC_MEMORY} : cvec_vector_resize(vector, size, record);
+}
+
+extern "C" std::uint32_t cvec_vector_change(cvec_vector *, std::uint64_t, const std::uint64_t *, std::size_t);
+extern "C" std::uint32_t refused_change(cvec_vector *vector, std::uint64_t start, const std::uint64_t *records,
+                                        std::size_t count) {
+    return is_refused_now() ? std::uint32_t{CVEC_MEMORY} : cvec_vector_change(vector, start, records, count);
+}
+
+extern "C" std::uint32_t cvec_vector_fold(cvec_vector *);
+extern "C" std::uint32_t refused_fold(cvec_vector *vector) {
+    return is_refused_now() ? std::uint32_t{CVEC_MEMORY} : cvec_vector_fold(vector);
+}
+
+// Leaves any errno, as a call of the system may.
+extern "C" std::uint32_t cvec_vector_take_seat(cvec_vector *, cvec_vector_seat **);
+extern "C" std::uint32_t careless_take_seat(cvec_vector *vector, cvec_vector_seat **seat) {
+    const std::uint32_t answer = cvec_vector_take_seat(vector, seat);
+    errno = ENOENT;
+    return answer;
 }
 
 using numbers = cvec::concurrent_vector<std::uint64_t>;
@@ -483,7 +512,7 @@ static void shortening(const std::string &path) {
     HOLDS(vector.empty() && vector.begin() == vector.end());
     // Where it is refused nothing is gone, and growths are counted on.
     const cvec::growth before = vector.append({1, 1, 1});
-    resizes_refused = 1;
+    refusals_to_come = 1;
     HOLDS(status_of([&] { vector.clear(); }) == CVEC_MEMORY && vector.size() == 1);
     HOLDS(vector.settled() == before.number + 1 && vector.is_settled(before));
     const cvec::growth behind = vector.append({2, 2, 2});
@@ -513,6 +542,204 @@ static void shortening(const std::string &path) {
 
 // A file in which a record was changed.
 static void shortened(const std::string &path) { numbers(path, {cvec::opening::open}).resize(2); }
+
+// ---- changing
+
+static list turns_of(const samples &vector) {
+    list found;
+    for (const sample &row : vector) found.push_back(row.turn);
+    return found;
+}
+
+static sample turned(std::uint64_t turn) { return {1, turn, 0.5}; }
+
+static void changing(const std::string &path) {
+    const std::vector<sample> two = {turned(50), turned(60)};
+    const std::list<sample> linked = {turned(80), turned(90)};
+    const list changed = {100, 110, 100, 110, 4, 50, 60, 7, 80, 90};
+    {
+        samples vector(path);
+        for (std::uint64_t k = 0; k < 10; ++k) vector.push_back(turned(k));
+        vector.change(3, {1, 30, 0.5});
+        HOLDS(vector[3] == turned(30) && vector[2] == turned(2) && vector[4] == turned(4) && vector.settled() == 10);
+        vector.change(5, two.begin(), two.end());
+        vector.change(8, linked.begin(), linked.end());
+        vector.change(0, {turned(100), turned(110)});
+        // A range of its own.
+        vector.change(2, vector.begin(), vector.begin() + 2);
+        HOLDS(turns_of(vector) == changed);
+        vector.change(10, two.begin(), two.begin());
+        vector.change(0, linked.end(), linked.end());
+        HOLDS(turns_of(vector) == changed);
+        vector.close();
+        HOLDS(status_of([&] { vector.change(0, turned(1)); }) == CVEC_NOT_SO);
+        HOLDS(status_of([&] { vector.fold(); }) == CVEC_NOT_SO);
+    }
+    samples vector(path);
+    HOLDS(turns_of(vector) == changed);
+    vector.fold();
+    vector.fold();
+    HOLDS(turns_of(vector) == changed);
+    vector.close();
+    HOLDS(turns_of(samples(path)) == changed);
+}
+
+// By what words a position is refused.
+static std::string position_refused(const std::function<void()> &call) {
+    try {
+        call();
+        return "none";
+    } catch (const std::out_of_range &refusal) {
+        return refusal.what();
+    }
+}
+
+// Past the end, by few rows, by none, and by as many as no number of words is.
+static void changing_nothing(const std::string &path) {
+    samples vector(path);
+    for (std::uint64_t k = 0; k < 3; ++k) vector.push_back(turned(k));
+    const std::vector<sample> rows(3, turned(9));
+    const auto refused = [&](std::size_t first, std::ptrdiff_t count) {
+        return position_refused([&] { vector.change(first, rows.begin(), rows.begin() + count); });
+    };
+    HOLDS(refused(3, 1) == "cvec: no row at position 3" && refused(1, 3) == "cvec: no row at position 3");
+    HOLDS(refused(4, 0) == "cvec: no row at position 4" && refused(3, 0) == "none");
+    // Thrice this position is 2, where numbers have 64 bits.
+    HOLDS(refused(0x5555555555555556, 1) == "cvec: no row at position 6148914691236517206");
+    HOLDS(refused(SIZE_MAX, 2) == "cvec: no row at position 18446744073709551615");
+    HOLDS(is_out_of_range([&] { vector.change(3, turned(9)); }));
+    HOLDS(is_out_of_range([&] { vector.change(2, {turned(9), turned(9)}); }));
+    HOLDS(turns_of(vector) == list({0, 1, 2}));
+    // With no rows nothing is done, so nothing is settled.
+    const cvec::growth made = vector.append(turned(3));
+    HOLDS(made.number == 3 && refused(4, 0) == "none" && !vector.is_settled(made));
+    vector.change(3, turned(4));
+    HOLDS(turns_of(vector) == list({0, 1, 2, 4}));
+}
+
+// One frame of version 1 has 2^20 bytes of payload, with 8 of its own.
+static void changing_most(const std::string &path) {
+    numbers vector(path);
+    vector.grow_to_at_least(131072, 1);
+    list many(131072, 2);
+    HOLDS(status_of([&] { vector.change(0, many.begin(), many.end()); }) == CVEC_TOO_LARGE);
+    HOLDS(std::count(vector.begin(), vector.end(), std::uint64_t{1}) == 131072);
+    many.pop_back();
+    vector.change(1, many.begin(), many.end());
+    HOLDS(vector[0] == 1 && std::count(vector.begin(), vector.end(), std::uint64_t{2}) == 131071);
+    HOLDS(vector.append(std::uint64_t{3}).first == 131072);
+}
+
+// This call settles what was grown before, and growths are counted on behind it.
+template <class Call> static void counts_on(samples &vector, std::uint32_t status, const Call &call) {
+    const cvec::growth before = vector.append(turned(1));
+    HOLDS(!vector.is_settled(before));
+    HOLDS(status_of([&] { call(); }) == status);
+    HOLDS(vector.is_settled(before) && vector.settled() == before.number + 1);
+    const cvec::growth behind = vector.append(turned(2));
+    HOLDS(behind.number == before.number + 1 && behind.first == before.first + 1 && !vector.is_settled(behind));
+    vector.settle(before);
+    HOLDS(!vector.is_settled(behind));
+    vector.settle(behind);
+    HOLDS(vector.is_settled(behind) && vector.settled() == behind.number + 1);
+}
+
+static void changing_counts_on(const std::string &path) {
+    samples vector(path);
+    vector.append(turned(0));
+    const auto change = [&] { vector.change(0, turned(8)); };
+    const auto fold = [&] { vector.fold(); };
+    counts_on(vector, CVEC_DONE, change);
+    // Where it is refused nothing has changed.
+    refusals_to_come = 1;
+    counts_on(vector, CVEC_MEMORY, [&] { vector.change(0, turned(9)); });
+    HOLDS(vector[0] == turned(8));
+    counts_on(vector, CVEC_DONE, change);
+    counts_on(vector, CVEC_DONE, fold);
+    refusals_to_come = 1;
+    counts_on(vector, CVEC_MEMORY, fold);
+    counts_on(vector, CVEC_DONE, fold);
+    counts_on(vector, CVEC_DONE, [&] { HOLDS(is_out_of_range([&] { vector.change(99, turned(9)); })); });
+    HOLDS(vector.size() == 15 && vector[0] == turned(8));
+}
+
+// Readers see both rows of a change or none, whatever grows meanwhile, and by fewer seats than there are threads.
+static void changing_beside(const std::string &path) {
+    std::atomic<bool> is_over{false}, is_right{true};
+    {
+        samples vector(path, {cvec::opening::create, 1, 3});
+        vector.grow_by({turned(0), turned(0)});
+        std::vector<std::thread> threads;
+        for (std::uint64_t k = 0; k < 2; ++k) {
+            threads.emplace_back([&] {
+                while (!is_over) vector.grow_by({turned(1000), turned(2000)});
+            });
+            threads.emplace_back([&] {
+                for (std::uint64_t last = 0; !is_over;) {
+                    const auto second = vector.begin() + 1;
+                    if (second[-1].turn != second->turn || second->turn < last) is_right = false;
+                    last = second->turn;
+                }
+            });
+        }
+        for (std::uint64_t turn = 1; turn <= 20; ++turn) {
+            vector.change(0, {turned(turn), turned(turn)});
+            HOLDS(vector[0] == turned(turn) && vector[1] == turned(turn));
+        }
+        vector.fold();
+        is_over = true;
+        for (std::thread &thread : threads) thread.join();
+    }
+    const list found = turns_of(samples(path));
+    HOLDS(is_right && found.size() > 2 && found.size() % 2 == 0 && found[0] == 20 && found[1] == 20);
+    for (std::size_t at = 2; at < found.size(); ++at) HOLDS(found[at] == 1000 * (at % 2 + 1));
+}
+
+// Past the greatest size of a file: the growth from before can't be written, or the change.
+static void changing_breaks(const std::string &path) {
+    const rlimit most{4096, 4096};
+    const auto fails = [](numbers &vector, const list &rows) {
+        try {
+            vector.change(0, rows.begin(), rows.end());
+            HOLDS(vector.empty());
+        } catch (const cvec::error &refusal) {
+            HOLDS(refusal.status() == CVEC_DISK_WRITE && refusal.system_error() == EFBIG);
+        }
+        HOLDS(status_of([&] { vector.change(0, 6); }) == CVEC_BROKEN && status_of([&] { vector.fold(); }) == CVEC_BROKEN);
+        HOLDS(status_of([&] { vector.push_back(6); }) == CVEC_BROKEN);
+    };
+    numbers first(path), second(path + ".second");
+    const list rows(400, 5);
+    first.grow_by({1, 2, 3});
+    second.grow_by(400, 4);
+    first.settle();
+    second.settle();
+    ::setrlimit(RLIMIT_FSIZE, &most);
+    first.grow_by(1000, 5);
+    fails(first, {9});
+    // What stands is read.
+    HOLDS(first.size() == 1003 && first[0] == 1);
+    HOLDS(status_of([&] { first.close(); }) == CVEC_BROKEN);
+    fails(second, rows);
+    HOLDS(status_of([&] { static_cast<void>(second.size()); }) == CVEC_BROKEN);
+    HOLDS(status_of([&] { second.run_flusher(std::chrono::hours(1)); }) == CVEC_BROKEN);
+    HOLDS(rows_of(numbers(path)) == list({1, 2, 3}) && rows_of(numbers(path + ".second")) == list(400, 4));
+}
+
+// Killed behind a change and a fold, neither of which was settled by another call.
+static void changed(const std::string &path) {
+    numbers vector(path);
+    vector.grow_by({5, 6, 7});
+    vector.change(1, {8, 9});
+    if (wrong == 0) ::kill(::getpid(), SIGKILL);
+}
+
+static void folded(const std::string &path) {
+    numbers vector(path, {cvec::opening::open});
+    HOLDS(rows_of(vector) == list({5, 8, 9}));
+    vector.fold();
+    if (wrong == 0) ::kill(::getpid(), SIGKILL);
+}
 
 static void appenders(const std::string &path) {
     samples vector(path);
@@ -676,6 +903,7 @@ static void forking(const std::string &path) {
         HOLDS(status_of([&] { vector.settle(); }) == CVEC_FORKED && status_of([&] { rows.flush(); }) == CVEC_FORKED);
         HOLDS(status_of([&] { vector.run_flusher(std::chrono::hours(1)); }) == CVEC_FORKED);
         HOLDS(status_of([&] { vector.stop_flusher(); }) == CVEC_FORKED);
+        HOLDS(status_of([&] { vector.change(0, 9); }) == CVEC_FORKED && status_of([&] { vector.fold(); }) == CVEC_FORKED);
         HOLDS(status_of([&] { vector.close(); }) == CVEC_FORKED);
         std::fflush(stdout);
         ::_exit(wrong);
@@ -700,8 +928,9 @@ static void forking_meanwhile(const std::string &path) {
         if (child == 0) {
             ::alarm(10);
             const bool is_refused = status_of([&] { vector.push_back(2); }) == CVEC_FORKED;
+            const bool is_changed = status_of([&] { vector.change(0, 2); }) != CVEC_FORKED;
             const bool is_closed = status_of([&] { vector.close(); }) == CVEC_FORKED;
-            ::_exit(is_refused && is_closed ? 0 : 1);
+            ::_exit(is_refused && !is_changed && is_closed ? 0 : 1);
         }
         int ended = 1;
         ::waitpid(child, &ended, 0);
@@ -840,7 +1069,17 @@ int main(int argc, char **argv) {
         {"receipts", receipts},
         {"deadlines", deadlines},
         {"flushing", flushing},
-        {"shortening", shortening}, {"shortened", shortened}, {"appenders", appenders},
+        {"shortening", shortening},
+        {"shortened", shortened},
+        {"changing", changing},
+        {"changing_nothing", changing_nothing},
+        {"changing_most", changing_most},
+        {"changing_counts_on", changing_counts_on},
+        {"changing_beside", changing_beside},
+        {"changing_breaks", changing_breaks},
+        {"changed", changed},
+        {"folded", folded},
+        {"appenders", appenders},
         {"closing", closing},
         {"closing_meanwhile", closing_meanwhile},
         {"refusals", refusals},

@@ -39,6 +39,15 @@ behaves() {
     done
 }
 
+# This behaviour is as it is promised, and ends by a kill, behind what is durable.
+ends_by_a_kill() {
+    status=0
+    "$built/behaviours" "$1" "$work/t.cv" >"$out" || status=$?
+    cat "$out"
+    [ "$status" -eq 137 ]
+    [ ! -s "$out" ]
+}
+
 # ---- the header
 
 compiles_without_a_warning() {
@@ -125,6 +134,14 @@ rows_in_cpp_have_any_size() (
     did '8589934593\n3\n'
 )
 
+# It lists these words, and `check` says so of what was changed and isn't folded.
+lists() {
+    run check u64 "$work/t.cv"
+    [ "$(cut -d ' ' -f 6-7,10- "$out")" = "size $1 live $2" ]
+    run list u64 "$work/t.cv"
+    did "$3"
+}
+
 rows_are_taken_away_in_cpp() (
     behaves shortening
     rm "$work/t.cv"
@@ -134,25 +151,26 @@ rows_are_taken_away_in_cpp() (
     run set u64 "$work/t.cv" 1 --records=9
     did 'ok\n'
     "$built/behaviours" shortened "$work/t.cv"
-    run check u64 "$work/t.cv"
-    [ "$(cut -d ' ' -f 6-7,10- "$out")" = 'size 2 live 0' ]
-    run list u64 "$work/t.cv"
-    did '5\n9\n'
+    lists 2 0 '5\n9\n'
+)
+
+rows_are_changed_in_cpp() (
+    behaves changing changing_nothing changing_most changing_counts_on changing_beside changing_breaks
+    rm "$work/t.cv"
+    ends_by_a_kill changed
+    lists 3 1 '5\n8\n9\n'
+    ends_by_a_kill folded
+    lists 3 0 '5\n8\n9\n'
 )
 
 rows_are_read_in_cpp() (
     behaves reading iterators pieces shared_iterator ranges
 )
 
-# The process ends by a kill, behind what it has settled.
 growths_have_receipts_in_cpp() (
     has_cpp || exit $is_skipped
     make_cpp behaviours
-    status=0
-    "$built/behaviours" receipts "$work/t.cv" >"$out" || status=$?
-    cat "$out"
-    [ "$status" -eq 137 ]
-    [ ! -s "$out" ]
+    ends_by_a_kill receipts
     run list u64 "$work/t.cv"
     did '4\n5\n6\n7\n8\n'
 )
@@ -237,7 +255,8 @@ no_complaint_of() {
 
 memory_is_used_rightly_in_cpp() (
     no_complaint_of address,undefined 2 growing greatest_growth structs other_types sizes zeros reading iterators \
-        shared_iterator ranges appenders closing closing_meanwhile refusals breaking few_seats many_threads renewing
+        shared_iterator ranges changing changing_counts_on changing_breaks appenders closing \
+        closing_meanwhile refusals breaking few_seats many_threads renewing
 )
 
 # The library isn't built for this sanitizer, which sees how it copies records, but not by what its threads are in order: so

@@ -225,21 +225,26 @@ class word_file {
         return static_cast<std::size_t>(count);
     }
 
-    // Takes the words behind so many away, if there are some. It waits until each call under way has ended, and has the file alone.
+    // Takes the words behind so many away, if there are some.
     void cut(std::uint64_t length) {
-        if (process_ != ::getpid()) refuse(CVEC_FORKED);
-        const std::lock_guard<std::mutex> lock(seating_);
-        if (closed_.load(std::memory_order_acquire)) refuse_closed();
-        take_all_seats();
-        std::uint64_t size = 0;
-        std::uint32_t status = settle_all(&size), seated = CVEC_DONE;
-        if (status == CVEC_DONE && size > length) {
-            close_seats();
-            status = cut_alone(length);
-            seated = take_seats_anew();
-        }
-        if (!closed_.load(std::memory_order_acquire)) give_all_seats_back();
-        require(status == CVEC_DONE ? seated : status);
+        run_alone([length](std::uint64_t size) { return size > length; }, [this, length] { return cut_alone(length); });
+    }
+
+    // Writes some words over those from this place on, as one frame. False: not all of those are there, and nothing is written.
+    bool change(std::uint64_t from, const std::uint64_t *words, std::size_t count) {
+        if (count == 0) return from <= size();
+        bool is_there = false;
+        const auto are_there = [&](std::uint64_t size) {
+            is_there = from <= size && count <= size - from;
+            return is_there;
+        };
+        run_alone(are_there, [&] { return cvec_vector_change(vector_, from, words, count); });
+        return is_there;
+    }
+
+    // Writes what was changed to its place in the file.
+    void fold() {
+        run_alone([](std::uint64_t) { return true; }, [this] { return cvec_vector_fold(vector_); });
     }
 
     // For who looks at a length before it grows: one at a time.
@@ -251,7 +256,10 @@ class word_file {
         throw error(status, path_, text, is_of_the_system(status) ? errno : 0);
     }
 
-    [[noreturn]] void refuse_closed() const { refuse(CVEC_NOT_SO, "it was closed"); }
+    [[noreturn]] void refuse_closed() const {
+        if (broken_) refuse(CVEC_BROKEN);
+        refuse(CVEC_NOT_SO, "it was closed");
+    }
 
     // Gives the file up in a constructor, and refuses.
     [[noreturn]] void abandon(std::uint32_t status) {
@@ -291,7 +299,7 @@ class word_file {
         try {
             await_all();
         } catch (const error &) {
-            if (!closed_.load(std::memory_order_acquire)) throw;
+            if (!closed_.load(std::memory_order_acquire) || broken_) throw;
             return false;
         }
         return true;
@@ -439,15 +447,49 @@ class word_file {
         }
     }
 
-    // As many seats as before, of a file that is as long as before: another process may have had it for a moment.
-    std::uint32_t take_seats_again(std::uint64_t size) {
-        std::uint64_t found = 0;
+    // As many seats as before.
+    std::uint32_t take_each_seat() noexcept {
         std::uint32_t status = CVEC_DONE;
         for (std::size_t k = 0; k < seated_.load(std::memory_order_relaxed) && status == CVEC_DONE; ++k)
             status = cvec_vector_take_seat(vector_, &slots_[k].seat);
+        return status;
+    }
+
+    // The same, of a file that is as long as before: another process may have had it for a moment.
+    std::uint32_t take_seats_again(std::uint64_t size) {
+        std::uint64_t found = 0;
+        std::uint32_t status = take_each_seat();
         if (status == CVEC_DONE) status = cvec_vector_size(slots_[0].seat, &found);
         if (status == CVEC_DONE && found != size) status = CVEC_IN_USE;
         if (status != CVEC_DONE) close_all();
+        return status;
+    }
+
+    // -- having the file alone
+
+    // Waits until each call under way has ended, and, where the length is as it is wanted, does this while no seat is taken and
+    // each growth is durable. Later calls wait until it has ended.
+    template <class Wanted, class Action> void run_alone(const Wanted &is_wanted, const Action &act) {
+        if (process_ != ::getpid()) refuse(CVEC_FORKED);
+        const std::lock_guard<std::mutex> lock(seating_);
+        if (closed_.load(std::memory_order_acquire)) refuse_closed();
+        take_all_seats();
+        std::uint64_t size = 0;
+        std::uint32_t status = settle_all(&size);
+        if (status == CVEC_DONE && is_wanted(size)) {
+            close_seats();
+            status = with_seats_anew(act());
+        }
+        if (!closed_.load(std::memory_order_acquire)) give_all_seats_back();
+        require(status);
+    }
+
+    // Takes the seats again behind an action. Its refusal comes before that of the seats, with its errno.
+    std::uint32_t with_seats_anew(std::uint32_t status) {
+        const int why = errno;
+        const std::uint32_t seated = take_seats_anew();
+        if (status == CVEC_DONE) return seated;
+        errno = why;
         return status;
     }
 
@@ -463,11 +505,10 @@ class word_file {
     // on: what they tell is settled are all that they count. Where it is refused the file is closed.
     std::uint32_t take_seats_anew() {
         std::uint64_t counted = 0;
-        std::uint32_t status = CVEC_DONE;
-        for (std::size_t k = 0; k < seated_.load(std::memory_order_relaxed) && status == CVEC_DONE; ++k)
-            status = cvec_vector_take_seat(vector_, &slots_[k].seat);
+        std::uint32_t status = take_each_seat();
         if (status == CVEC_DONE) status = cvec_vector_settled(slots_[0].seat, &counted);
         if (status != CVEC_DONE) {
+            broken_ = status == CVEC_BROKEN;
             close_all();
             closed_.store(true, std::memory_order_release);
             return status;
@@ -516,7 +557,8 @@ class word_file {
     cvec_vector *vector_ = nullptr;
     std::string path_;
     std::atomic<bool> closed_{false};
-    std::mutex seating_; // who takes further seats, or all
+    bool broken_ = false; // written before closed_ is
+    std::mutex seating_;  // who takes further seats, or all
     std::mutex flushing_;
     std::condition_variable flusher_wakes_;
     bool flushers_end_ = false; // with flushing_
@@ -528,6 +570,10 @@ class word_file {
 };
 
 // ---- rows
+
+[[noreturn]] inline void refuse_position(std::size_t position) {
+    throw std::out_of_range("cvec: no row at position " + std::to_string(position));
+}
 
 // Types whose bytes are all that there is of a value. A pair isn't trivially copyable, but only since it is assigned to part by
 // part, which nothing here does.
@@ -597,13 +643,30 @@ template <class T> struct row {
         return grow(file, all.data(), all.size() / words);
     }
 
-    // By a range: of rows that lie in memory as they will in the file, without a copy on the way.
-    template <class Iterator> static growth grow_range(word_file &file, Iterator first, Iterator last) {
+    // Passes on the words of a range, and how many rows they are: of rows that lie in memory as they will in the file, without a
+    // copy on the way.
+    template <class Iterator, class Use> static auto pass(Iterator first, Iterator last, const Use &use) {
         if constexpr (is_in_a_row<Iterator>)
             if (first != last)
-                return grow(file, reinterpret_cast<const std::uint64_t *>(std::addressof(*first)),
-                            static_cast<std::size_t>(last - first));
-        return grow(file, words_of(first, last));
+                return use(reinterpret_cast<const std::uint64_t *>(std::addressof(*first)),
+                           static_cast<std::size_t>(last - first));
+        const std::vector<std::uint64_t> all = words_of(first, last);
+        return use(all.data(), all.size() / words);
+    }
+
+    template <class Iterator> static growth grow_range(word_file &file, Iterator first, Iterator last) {
+        return pass(first, last, [&](const std::uint64_t *from, std::size_t rows) { return grow(file, from, rows); });
+    }
+
+    // Over the rows from a position on.
+    static void change(word_file &file, std::size_t first, const std::uint64_t *from, std::size_t rows) {
+        if (first > most_records / words) refuse_position(first);
+        if (file.change(std::uint64_t{first} * words, from, rows * words)) return;
+        refuse_position(rows == 0 ? first : first + rows - 1);
+    }
+
+    template <class Iterator> static void change_range(word_file &file, std::size_t at, Iterator first, Iterator last) {
+        pass(first, last, [&](const std::uint64_t *from, std::size_t rows) { change(file, at, from, rows); });
     }
 
     // The row at a position, or nothing where the vector isn't as long.
@@ -644,10 +707,6 @@ template <class T> class arrow {
   private:
     T value_;
 };
-
-[[noreturn]] inline void refuse_position(std::size_t position) {
-    throw std::out_of_range("cvec: no row at position " + std::to_string(position));
-}
 
 // Goes through the rows of a vector, and reads copies of them. To move it copies the piece of the file where it comes to, if it
 // hasn't got it: so a loop makes a call of the vector for each piece, and not for each row. What is const changes nothing.
@@ -776,7 +835,7 @@ template <class T> class concurrent_vector {
     using value_type = T;
     using size_type = std::size_t;
     using difference_type = std::ptrdiff_t;
-    using reference = T; // rows are read as copies: none is changed once it was grown
+    using reference = T; // rows are read as copies: what is written to one changes nothing, and `change` changes no copy
     using const_reference = T;
     using const_iterator = detail::iterator<T>;
     using iterator = const_iterator;
@@ -832,7 +891,27 @@ template <class T> class concurrent_vector {
         return first ? *first : end();
     }
 
-    // -- shortening: each waits until the calls under way have ended, and is durable when it returns
+    // -- having the vector alone: each waits until the calls under way have ended, and later ones wait for it. It is durable when
+    // it returns. Iterators from before may still show what was. After CVEC_MEMORY it may be called again: until then there is
+    // what was or what is to be. After a write or a sync that failed all calls are refused.
+
+    // Writes rows over those from this position on: behind a crash all of them are there or none. With none it does nothing. A
+    // position past the end is std::out_of_range, and nothing has changed then.
+    void change(size_type first, const T &value) {
+        std::array<std::uint64_t, row::words> words;
+        row::store(value, words.data());
+        row::change(*file_, first, words.data(), 1);
+    }
+
+    template <class Iterator, class = detail::category_of<Iterator>> void change(size_type first, Iterator begin, Iterator end) {
+        row::change_range(*file_, first, begin, end);
+    }
+
+    void change(size_type first, std::initializer_list<T> rows) { change(first, rows.begin(), rows.end()); }
+
+    // Writes what was changed to its place in the file, which costs a write for each changed record. Without it the file keeps
+    // each change besides.
+    void fold() { file_->fold(); }
 
     void clear() { file_->cut(0); }
 
