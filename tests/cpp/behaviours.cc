@@ -26,13 +26,15 @@
 #include <sys/wait.h>
 #include <unistd.h>
 
-// How often the vector was asked for records.
+// How often the vector was asked for records, and what is done meanwhile.
 static std::atomic<int> reads{0};
+static std::function<void()> during_read;
 
 extern "C" std::uint32_t cvec_vector_read(cvec_vector_seat *, std::uint64_t, std::uint64_t *, std::size_t, std::uint64_t *);
 extern "C" std::uint32_t counted_read(cvec_vector_seat *seat, std::uint64_t from, std::uint64_t *out, std::size_t room,
                                       std::uint64_t *count) {
     ++reads;
+    if (during_read) during_read();
     return cvec_vector_read(seat, from, out, room, count);
 }
 
@@ -663,6 +665,20 @@ static void changing_counts_on(const std::string &path) {
     HOLDS(vector.size() == 15 && vector[0] == turned(8));
 }
 
+// Two calls at once have two seats of three. A refused change leaves one of them that wasn't taken, and all are to be given.
+static void changing_has_seats_again(const std::string &path) {
+    samples vector(path, {cvec::opening::create, 1, 3});
+    vector.append(turned(0));
+    during_read = [&] { HOLDS(vector.size() == 1); };
+    HOLDS(vector[0] == turned(0));
+    refusals_to_come = 1;
+    HOLDS(status_of([&] { vector.change(0, turned(9)); }) == CVEC_MEMORY);
+    HOLDS(vector[0] == turned(0));
+    during_read = nullptr;
+    counts_on(vector, CVEC_DONE, [&] { vector.change(0, turned(8)); });
+    HOLDS(turns_of(vector) == list({8, 1, 2}));
+}
+
 // Readers see both rows of a change or none, whatever grows meanwhile, and by fewer seats than there are threads.
 static void changing_beside(const std::string &path) {
     std::atomic<bool> is_over{false}, is_right{true};
@@ -1075,6 +1091,7 @@ int main(int argc, char **argv) {
         {"changing_nothing", changing_nothing},
         {"changing_most", changing_most},
         {"changing_counts_on", changing_counts_on},
+        {"changing_has_seats_again", changing_has_seats_again},
         {"changing_beside", changing_beside},
         {"changing_breaks", changing_breaks},
         {"changed", changed},

@@ -155,7 +155,7 @@ rows_are_taken_away_in_cpp() (
 )
 
 rows_are_changed_in_cpp() (
-    behaves changing changing_nothing changing_most changing_counts_on changing_beside changing_breaks
+    behaves changing changing_nothing changing_most changing_counts_on changing_has_seats_again changing_beside changing_breaks
     rm "$work/t.cv"
     ends_by_a_kill changed
     lists 3 1 '5\n8\n9\n'
@@ -255,14 +255,14 @@ no_complaint_of() {
 
 memory_is_used_rightly_in_cpp() (
     no_complaint_of address,undefined 2 growing greatest_growth structs other_types sizes zeros reading iterators \
-        shared_iterator ranges changing changing_counts_on changing_breaks appenders closing \
+        shared_iterator ranges changing changing_counts_on changing_has_seats_again changing_breaks appenders closing \
         closing_meanwhile refusals breaking few_seats many_threads renewing
 )
 
 # The library isn't built for this sanitizer, which sees how it copies records, but not by what its threads are in order: so
 # none reads here what others grow beside it.
 threads_are_in_order_in_cpp() (
-    no_complaint_of thread 0 flushing shared_iterator closing_meanwhile few_seats many_threads turns renewing
+    no_complaint_of thread 0 flushing shortening shared_iterator closing_meanwhile few_seats many_threads turns renewing
 )
 
 # ---- the page, the examples, and oneTBB

@@ -506,6 +506,11 @@ class word_file {
     std::uint32_t take_seats_anew() {
         std::uint64_t counted = 0;
         std::uint32_t status = take_each_seat();
+        // Where nothing was done, those that were never taken are given, which may be too few: then all are, once each is closed.
+        if (status == CVEC_NOT_SO) {
+            close_seats();
+            status = take_each_seat();
+        }
         if (status == CVEC_DONE) status = cvec_vector_settled(slots_[0].seat, &counted);
         if (status != CVEC_DONE) {
             broken_ = status == CVEC_BROKEN;
