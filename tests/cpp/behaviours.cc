@@ -757,6 +757,28 @@ static void folded(const std::string &path) {
     if (wrong == 0) ::kill(::getpid(), SIGKILL);
 }
 
+// ---- algorithms that search
+
+// Beside one that grows rows which are sought: each is behind the end that was asked for.
+static void searching(const std::string &path) {
+    cvec::concurrent_vector<triple> vector(path);
+    for (std::uint32_t k = 0; k < 2000; ++k) vector.push_back(k == 1500 ? triple{9, 9, 9} : triple{k % 7, 0, k % 2});
+    const auto first = vector.begin(), last = vector.end();
+    std::atomic<bool> is_over{false};
+    std::thread grower([&] {
+        while (!is_over) vector.grow_by({{3, 0, 1}, {9, 9, 9}, {8, 8, 8}});
+    });
+    while (vector.size() == 2000) std::this_thread::yield();
+    for (int turn = 0; turn < 20; ++turn) {
+        // Those of 3, 17, .. 1991 are 143, and those of 10, 24, .. 1998 are 143.
+        HOLDS(std::count(first, last, triple{3, 0, 1}) == 143 && std::count(first, last, triple{3, 0, 0}) == 143);
+        HOLDS(std::find(first, last, triple{9, 9, 9}).position() == 1500 && std::find(first, last, triple{8, 8, 8}) == last);
+        HOLDS(std::find(first + 1501, vector.end(), triple{9, 9, 9}).position() == 2001);
+    }
+    is_over = true;
+    grower.join();
+}
+
 static void appenders(const std::string &path) {
     samples vector(path);
     {
@@ -1096,6 +1118,7 @@ int main(int argc, char **argv) {
         {"changing_breaks", changing_breaks},
         {"changed", changed},
         {"folded", folded},
+        {"searching", searching},
         {"appenders", appenders},
         {"closing", closing},
         {"closing_meanwhile", closing_meanwhile},

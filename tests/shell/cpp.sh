@@ -164,7 +164,7 @@ rows_are_changed_in_cpp() (
 )
 
 rows_are_read_in_cpp() (
-    behaves reading iterators pieces shared_iterator ranges
+    behaves reading iterators pieces shared_iterator ranges searching
 )
 
 growths_have_receipts_in_cpp() (
