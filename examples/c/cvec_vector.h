@@ -48,10 +48,15 @@ uint32_t cvec_vector_open(cvec_vector **vector, const char *path, uint16_t seats
  * growths nobody awaited may be lost. */
 uint32_t cvec_vector_close(cvec_vector *vector);
 
-/* A seat, for one thread at a time. */
+/* A seat, for one thread at a time. Each is given once. Where none is left and each is closed, all are given again, and growths
+ * are counted from 0. So also where each is closed, and CVEC_FULL, or a call of the whole vector that had it, came between. All
+ * growths from before are durable then, and a number from before names none of the new ones.
+ *
+ * Where such a call was refused before it had the vector, as for memory, they may be counted on. Who has awaited all sees it by
+ * cvec_vector_settled, which answers 0 or as many as before. */
 uint32_t cvec_vector_take_seat(cvec_vector *vector, cvec_vector_seat **seat);
 
-/* Gives it up. Its growths stay. Once each seat is closed, all are given again. CVEC_BUSY: it stays. */
+/* Gives it up. Its growths stay. CVEC_BUSY: it stays. */
 uint32_t cvec_vector_close_seat(cvec_vector_seat *seat);
 
 /* Grows by copies of these records, as one block behind all that was grown before: all of them are in the vector, in a row,
