@@ -49,8 +49,9 @@ extern "C" std::uint32_t asked_await_for(cvec_vector_seat *seat, std::uint64_t n
     return answer == CVEC_DONE ? cvec_vector_await_for(seat, number, milliseconds) : answer;
 }
 
-// So often a call of the whole vector is refused for want of memory before it has begun.
+// So often a call of the whole vector is refused for want of memory before it has begun; and what is done before a change.
 static int refusals_to_come = 0;
+static std::function<void()> before_change;
 
 static bool is_refused_now() {
     if (refusals_to_come == 0) return false;
@@ -66,6 +67,7 @@ extern "C" std::uint32_t refused_resize(cvec_vector *vector, std::uint64_t size,
 extern "C" std::uint32_t cvec_vector_change(cvec_vector *, std::uint64_t, const std::uint64_t *, std::size_t);
 extern "C" std::uint32_t refused_change(cvec_vector *vector, std::uint64_t start, const std::uint64_t *records,
                                         std::size_t count) {
+    if (before_change) before_change();
     return is_refused_now() ? std::uint32_t{CVEC_MEMORY} : cvec_vector_change(vector, start, records, count);
 }
 
@@ -562,6 +564,8 @@ static void changing(const std::string &path) {
     {
         samples vector(path);
         for (std::uint64_t k = 0; k < 10; ++k) vector.push_back(turned(k));
+        int steps = 0;
+        before_change = [&] { ++steps; };
         vector.change(3, {1, 30, 0.5});
         HOLDS(vector[3] == turned(30) && vector[2] == turned(2) && vector[4] == turned(4) && vector.settled() == 10);
         vector.change(5, two.begin(), two.end());
@@ -572,7 +576,8 @@ static void changing(const std::string &path) {
         HOLDS(turns_of(vector) == changed);
         vector.change(10, two.begin(), two.begin());
         vector.change(0, linked.end(), linked.end());
-        HOLDS(turns_of(vector) == changed);
+        before_change = nullptr;
+        HOLDS(turns_of(vector) == changed && steps == 5);
         vector.close();
         HOLDS(status_of([&] { vector.change(0, turned(1)); }) == CVEC_NOT_SO);
         HOLDS(status_of([&] { vector.fold(); }) == CVEC_NOT_SO);
@@ -679,36 +684,75 @@ static void changing_has_seats_again(const std::string &path) {
     HOLDS(turns_of(vector) == list({8, 1, 2}));
 }
 
-// Readers see both rows of a change or none, whatever grows meanwhile, and by fewer seats than there are threads.
-static void changing_beside(const std::string &path) {
+struct watch {
     std::atomic<bool> is_over{false}, is_right{true};
+    std::atomic<std::uint64_t> seen{0}; // the turn that a reader has seen last
+};
+
+// A turn that falls is wrong, and one of which a single row is seen.
+static void see_turns(const samples &vector, watch &all) {
+    for (std::uint64_t last = 0; !all.is_over;) {
+        // Both rows are of one piece.
+        const auto second = vector.begin() + 1;
+        const std::uint64_t turn = second->turn;
+        if (second[-1].turn != turn || turn < last) all.is_right = false;
+        last = turn;
+        all.seen = turn;
+    }
+}
+
+// Readers see both rows of a change or none, whatever grows meanwhile.
+static void changing_beside(const std::string &path) {
     {
-        samples vector(path, {cvec::opening::create, 1, 3});
+        samples vector(path, {cvec::opening::create, 1, 5});
         vector.grow_by({turned(0), turned(0)});
+        watch all;
         std::vector<std::thread> threads;
         for (std::uint64_t k = 0; k < 2; ++k) {
+            threads.emplace_back([&] { see_turns(vector, all); });
             threads.emplace_back([&] {
-                while (!is_over) vector.grow_by({turned(1000), turned(2000)});
-            });
-            threads.emplace_back([&] {
-                for (std::uint64_t last = 0; !is_over;) {
-                    const auto second = vector.begin() + 1;
-                    if (second[-1].turn != second->turn || second->turn < last) is_right = false;
-                    last = second->turn;
-                }
+                while (!all.is_over) vector.settle(vector.append({turned(1000), turned(2000)}));
             });
         }
-        for (std::uint64_t turn = 1; turn <= 20; ++turn) {
+        for (std::uint64_t turn = 1; turn <= 20 && all.is_right; ++turn) {
+            const std::size_t length = vector.size();
             vector.change(0, {turned(turn), turned(turn)});
-            HOLDS(vector[0] == turned(turn) && vector[1] == turned(turn));
+            if (!(vector[0] == turned(turn) && vector[1] == turned(turn))) all.is_right = false;
+            while (all.is_right && (all.seen < turn || vector.size() == length)) std::this_thread::yield();
         }
         vector.fold();
-        is_over = true;
+        all.is_over = true;
         for (std::thread &thread : threads) thread.join();
+        HOLDS(all.is_right);
     }
     const list found = turns_of(samples(path));
-    HOLDS(is_right && found.size() > 2 && found.size() % 2 == 0 && found[0] == 20 && found[1] == 20);
+    HOLDS(found.size() > 2 && found.size() % 2 == 0 && found[0] == 20 && found[1] == 20);
     for (std::size_t at = 2; at < found.size(); ++at) HOLDS(found[at] == 1000 * (at % 2 + 1));
+}
+
+// Threads that have a seat nearly all the time hold no change up: between its call and its turn they make a growth each or two.
+static void changing_comes_soon(const std::string &path) {
+    numbers vector(path);
+    std::atomic<bool> is_over{false};
+    std::atomic<int> grown{0};
+    std::vector<int> meanwhile;
+    vector.push_back(0);
+    std::thread changer([&] {
+        for (int turn = 0; turn < 11; ++turn) {
+            const int before = grown;
+            before_change = [&] { meanwhile.push_back(grown - before); };
+            vector.change(0, 1);
+            while (grown < before + 16) std::this_thread::yield();
+        }
+        is_over = true;
+    });
+    in_threads(4, [&](std::uint64_t k) {
+        for (; !is_over; ++grown) vector.settle(vector.append(k));
+    });
+    changer.join();
+    before_change = nullptr;
+    std::sort(meanwhile.begin(), meanwhile.end());
+    HOLDS(meanwhile.size() == 11 && meanwhile[5] <= 16);
 }
 
 // Past the greatest size of a file: the growth from before can't be written, or the change.
@@ -1115,6 +1159,7 @@ int main(int argc, char **argv) {
         {"changing_counts_on", changing_counts_on},
         {"changing_has_seats_again", changing_has_seats_again},
         {"changing_beside", changing_beside},
+        {"changing_comes_soon", changing_comes_soon},
         {"changing_breaks", changing_breaks},
         {"changed", changed},
         {"folded", folded},

@@ -121,7 +121,8 @@ rows_are_grown_in_cpp() (
 rows_in_cpp_have_any_size() (
     behaves sizes zeros
     run list u64 "$work/t.cv"
-    did '4294967295\n5\n2147483648\n4294967294\n4294967294\n4294967292\n4294967293\n4294967294\n4294967295\n18446744069414584327\n'
+    printf '%s\n' 4294967295 5 2147483648 4294967294 4294967294 4294967292 4294967293 4294967294 4294967295 \
+        18446744069414584327 | cmp - "$out"
     run list u64 "$work/t.cv.char"
     did '65\n'
     run list u64 "$work/t.cv.float"
@@ -155,7 +156,8 @@ rows_are_taken_away_in_cpp() (
 )
 
 rows_are_changed_in_cpp() (
-    behaves changing changing_nothing changing_most changing_counts_on changing_has_seats_again changing_beside changing_breaks
+    behaves changing changing_nothing changing_most changing_counts_on changing_has_seats_again changing_beside \
+        changing_comes_soon changing_breaks
     rm "$work/t.cv"
     ends_by_a_kill changed
     lists 3 1 '5\n8\n9\n'

@@ -350,6 +350,7 @@ class word_file {
     }
 
     slot *find_idle() noexcept {
+        if (all_wanted_.load(std::memory_order_relaxed)) return nullptr;
         const std::size_t count = seated_.load(std::memory_order_acquire);
         for (std::size_t k = 0; k < count; ++k) {
             slot &one = slots_[(number_of_thread() + k) % count];
@@ -375,14 +376,17 @@ class word_file {
         return true;
     }
 
-    // With the mutex: has all seats, so that no call is under way.
+    // With the mutex: has all seats, so that no call is under way. Calls that come meanwhile take none: where threads make one
+    // behind another there is hardly a moment at which a seat is idle.
     void take_all_seats() {
         patience turn;
+        all_wanted_.store(true, std::memory_order_relaxed);
         for (std::size_t k = 0; k < seated_.load(std::memory_order_relaxed); ++k)
             while (!slots_[k].try_take()) turn.wait();
     }
 
     void give_all_seats_back() noexcept {
+        all_wanted_.store(false, std::memory_order_relaxed);
         for (std::size_t k = 0; k < seated_.load(std::memory_order_relaxed); ++k) slots_[k].give_back();
     }
 
@@ -506,7 +510,7 @@ class word_file {
     std::uint32_t take_seats_anew() {
         std::uint64_t counted = 0;
         std::uint32_t status = take_each_seat();
-        // Where nothing was done, those that were never taken are given, which may be too few: then all are, once each is closed.
+        // Where nothing was done, those that were never taken are given. They may be too few: once each is closed, all are.
         if (status == CVEC_NOT_SO) {
             close_seats();
             status = take_each_seat();
@@ -562,6 +566,7 @@ class word_file {
     cvec_vector *vector_ = nullptr;
     std::string path_;
     std::atomic<bool> closed_{false};
+    std::atomic<bool> all_wanted_{false}; // somebody takes all seats, or has them
     bool broken_ = false; // written before closed_ is
     std::mutex seating_;  // who takes further seats, or all
     std::mutex flushing_;
@@ -648,8 +653,8 @@ template <class T> struct row {
         return grow(file, all.data(), all.size() / words);
     }
 
-    // Passes on the words of a range, and how many rows they are: of rows that lie in memory as they will in the file, without a
-    // copy on the way.
+    // Passes on the words of a range, and how many rows they are: of rows that lie in memory as they will in the file, without
+    // a copy on the way.
     template <class Iterator, class Use> static auto pass(Iterator first, Iterator last, const Use &use) {
         if constexpr (is_in_a_row<Iterator>)
             if (first != last)
@@ -914,8 +919,8 @@ template <class T> class concurrent_vector {
 
     void change(size_type first, std::initializer_list<T> rows) { change(first, rows.begin(), rows.end()); }
 
-    // Writes what was changed to its place in the file, which costs a write for each changed record. Without it the file keeps
-    // each change besides.
+    // Writes what was changed to its place in the file, which costs a write for each changed record. Without it the file
+    // keeps each change besides.
     void fold() { file_->fold(); }
 
     void clear() { file_->cut(0); }
