@@ -402,17 +402,32 @@ static uint32_t open_alone(cvec_vector *vector, const char *path, int flags) {
     return answer == CVEC_DONE ? sync_data(vector->fd) : answer;
 }
 
-/* Begins the vector over what the file holds; a version of 0 opens it. */
+/* Whether so few bytes are what a stopped creation leaves: each is 0, or the one that the empty file gets. Others are
+ * somebody's, and a creation would write over them. */
+static bool is_vacant(const uint8_t *there, size_t len, uint8_t version) {
+    const uint8_t empty[CVEC_EMPTY_LEN] = {1, 'C', 'V', 'E', 'C', 'S', 'E', 'G', version, sizeof(uint64_t), 0, 0};
+    for (size_t at = 0; at < len; at++)
+        if (there[at] != 0 && there[at] != empty[at]) return false;
+    return true;
+}
+
+/* Begins the vector over these bytes; a version of 0 opens it. */
+static uint32_t begin_over(cvec_vector *vector, const uint8_t *bytes, size_t len, uint8_t version, uint16_t seats) {
+    if (version == 0) return cvec_phase_open(bytes, len, seats, &vector->phase, &vector->committer);
+    if (!is_vacant(bytes, len, version)) return CVEC_EXISTS;
+    return cvec_phase_create(bytes, len, version, seats, &vector->phase, &vector->committer);
+}
+
+/* So over what the file holds. */
 static uint32_t begin(cvec_vector *vector, uint8_t version, uint16_t seats) {
     uint64_t len = 0;
     uint32_t answer = length_of(vector->fd, &len);
     if (answer != CVEC_DONE) return answer;
+    if (version != 0 && len > CVEC_EMPTY_LEN) return CVEC_EXISTS;
     uint8_t *bytes = len < SIZE_MAX ? malloc((size_t)len + 1) : NULL;
     if (bytes == NULL) return CVEC_MEMORY;
     answer = read_at(vector->fd, bytes, (size_t)len);
-    if (answer == CVEC_DONE)
-        answer = version == 0 ? cvec_phase_open(bytes, (size_t)len, seats, &vector->phase, &vector->committer)
-                              : cvec_phase_create(bytes, (size_t)len, version, seats, &vector->phase, &vector->committer);
+    if (answer == CVEC_DONE) answer = begin_over(vector, bytes, (size_t)len, version, seats);
     free(bytes);
     return answer;
 }

@@ -119,6 +119,10 @@ a_vector_in_c_is_refused_by_name() (
     a_behaviour_of_a_vector_in_c refusals
 )
 
+a_vector_in_c_is_made_over_nothing_of_others() (
+    a_behaviour_of_a_vector_in_c foreign
+)
+
 a_vector_in_c_commits_for_all_who_wait() (
     a_behaviour_of_a_vector_in_c leader
 )

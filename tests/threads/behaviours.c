@@ -303,6 +303,11 @@ static void too_large(const char *path) {
     HOLDS(found(path) == 0);
 }
 
+static void write_file(const char *path, const char *bytes, size_t len) {
+    FILE *file = fopen(path, "wb");
+    HOLDS(file != NULL && fwrite(bytes, 1, len, file) == len && fclose(file) == 0);
+}
+
 static void refusals(const char *path) {
     static uint64_t many[131072];
     uint64_t count = 9, number = 0;
@@ -339,11 +344,47 @@ static void refusals(const char *path) {
                   {"\1CVECSEG\1\4\0\0", 12, CVEC_WIDTH},
                   {"\1CVECSEG\1\10\0\1\11", 13, CVEC_DAMAGED}};
     for (size_t k = 0; k < sizeof others / sizeof *others; k++) {
-        FILE *file = fopen(path, "wb");
-        HOLDS(file != NULL && fwrite(others[k].bytes, 1, others[k].len, file) == others[k].len && fclose(file) == 0);
+        write_file(path, others[k].bytes, others[k].len);
         HOLDS(cvec_vector_open(&vector, path, 1) == others[k].refusal);
         HOLDS(vector == NULL);
     }
+}
+
+static int has_bytes(const char *path, const char *bytes, size_t len) {
+    char seen[64];
+    FILE *file = fopen(path, "rb");
+    size_t count = file == NULL ? sizeof seen : fread(seen, 1, sizeof seen, file);
+    if (file != NULL) fclose(file);
+    return count == len && memcmp(seen, bytes, len) == 0;
+}
+
+/* What is there stays, few bytes too, but for what a stopped creation leaves. */
+static void foreign(const char *path) {
+    static const struct {
+        const char *bytes;
+        size_t len;
+    } others[] = {{"x", 1},
+                  {"hello\n", 6},
+                  {"secret=abc1\n", 12},
+                  {"secret=abc12\n", 13},
+                  {"\1C", 2},
+                  {"\0CVECSEG\2\10\0\0", 12},
+                  {"\0CVECSEG\1\4\0\0", 12},
+                  {"\0CVECSEG\1\10\0\1", 12},
+                  {"\0\0\0\0\0\0\0\0\0\0\0\0\0", 13}},
+      left_there[] = {{"", 0}, {"\0", 1}, {"\1", 1}, {"\0CVEC", 5}, {"\0\0\0ECS\0\0\0\10\0\0", 12}, {"\0CVECSEG\1\10\0\0", 12}};
+    for (size_t k = 0; k < sizeof others / sizeof *others; k++) {
+        write_file(path, others[k].bytes, others[k].len);
+        HOLDS(cvec_vector_create(&vector, path, 1, 1) == CVEC_EXISTS && vector == NULL);
+        HOLDS(has_bytes(path, others[k].bytes, others[k].len));
+    }
+    for (size_t k = 0; k < sizeof left_there / sizeof *left_there; k++) {
+        write_file(path, left_there[k].bytes, left_there[k].len);
+        HOLDS(cvec_vector_create(&vector, path, 1, 1) == CVEC_DONE && cvec_vector_close(vector) == CVEC_DONE);
+        HOLDS(has_bytes(path, "\1CVECSEG\1\10\0\0", 12));
+    }
+    write_file(path, "\0CVECSEG\2\10\0\0", 12);
+    HOLDS(cvec_vector_create(&vector, path, 2, 1) == CVEC_DONE && cvec_vector_close(vector) == CVEC_DONE);
 }
 
 /* Tells each status that has a sentence of its own. */
@@ -847,6 +888,7 @@ int main(int argc, char **argv) {
                       {"full", full},
                       {"too_large", too_large},
                       {"refusals", refusals},
+                      {"foreign", foreign},
                       {"texts", texts},
                       {"leader", leads},
                       {"late", late},
