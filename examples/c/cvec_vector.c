@@ -251,9 +251,9 @@ static uint32_t settle_listed(cvec_vector *vector) {
     return told(vector, cvec_phase_settle(&vector->committer, &durable));
 }
 
-/* A loop of a flusher may commit. Meanwhile it hasn't got the mutex. */
+/* A loop of a flusher may commit, though no seat is taken. Meanwhile it hasn't got the mutex. */
 static void await_commit(cvec_vector *vector) {
-    while (vector->committing) pthread_cond_wait(&vector->settled, &vector->mutex);
+    while (vector->committing && vector->seats == 0) pthread_cond_wait(&vector->settled, &vector->mutex);
 }
 
 /* While nobody commits: commits all growths, closes the phase, and has the vector alone. */

@@ -829,13 +829,23 @@ static void *run_clear(void *answer) {
     return NULL;
 }
 
-/* A call of the whole vector waits for a flusher that commits. */
+/* A call of the whole vector waits for a flusher that commits, but for nobody where a seat is taken. */
 static void alone_waits(const char *path) {
     pthread_t flusher, clear;
+    struct wait first;
     uint64_t number = 0;
     uint32_t answer = CVEC_BUSY;
-    make(path, 1);
+    make(path, 2);
     HOLDS(grow(0, &number) == CVEC_DONE);
+    first.seat = seat;
+    shut_gate(1);
+    begin_wait(&first, number, 0);
+    until_held();
+    all_answer(CVEC_BUSY);
+    HOLDS(cvec_vector_take_seat(vector, &seat) == CVEC_DONE);
+    shut_gate(0);
+    HOLDS(end_of(&first) == CVEC_DONE && cvec_vector_close_seat(first.seat) == CVEC_DONE);
+    HOLDS(grow(1, &number) == CVEC_DONE);
     HOLDS(cvec_vector_close_seat(seat) == CVEC_DONE);
     shut_gate(1);
     begin_flusher(&flusher, &never);
