@@ -646,12 +646,13 @@ uint32_t cvec_vector_await_for(cvec_vector_seat *seat, uint64_t number, uint64_t
     return await_until(seat, number, &until);
 }
 
-/* With the mutex: commits what there is now, by as many commits as that takes. */
+/* With the mutex: commits what there is now, by as many commits as that takes. While it waits for another's, a growth that it
+ * wants may be refused, each seat closed, and the committer become a vault, which has nothing to commit. */
 static uint32_t flush(cvec_vector *vector) {
     const uint64_t wanted = __atomic_load_n(&vector->begun, __ATOMIC_RELAXED);
     uint64_t growths = 1;
     uint32_t answer = CVEC_DONE;
-    while (answer == CVEC_DONE && growths > 0 && vector->durable < wanted && !vector->stopped) {
+    while (answer == CVEC_DONE && growths > 0 && vector->durable < wanted && !vector->stopped && !vector->alone) {
         if (vector->broken)
             answer = CVEC_BROKEN;
         else if (vector->committing)

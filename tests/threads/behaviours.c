@@ -21,6 +21,7 @@ static int turn;
 static int mallocs = -1; /* the requests for memory that pass before one is refused; none is below 0 */
 
 static int waits, timed_waits; /* how many waits were begun: without a deadline, and with one */
+static int dozing;
 
 /* While the gate is shut, who syncs is held before it. */
 static pthread_mutex_t gate = PTHREAD_MUTEX_INITIALIZER;
@@ -56,9 +57,20 @@ static int holds(void) {
     return count;
 }
 
+static void nap(void) {
+    const struct timespec time = {0, 1000000};
+    nanosleep(&time, NULL);
+}
+
+/* While `dozing` is set, who was woken gets the mutex only after others that want it. */
 static int test_wait(pthread_cond_t *condition, pthread_mutex_t *mutex) {
     __atomic_add_fetch(&waits, 1, __ATOMIC_SEQ_CST);
-    return pthread_cond_wait(condition, mutex);
+    int answer = pthread_cond_wait(condition, mutex);
+    if (__atomic_load_n(&dozing, __ATOMIC_SEQ_CST) == 0) return answer;
+    pthread_mutex_unlock(mutex);
+    while (__atomic_load_n(&dozing, __ATOMIC_SEQ_CST)) nap();
+    pthread_mutex_lock(mutex);
+    return answer;
 }
 
 static int test_timedwait(pthread_cond_t *condition, pthread_mutex_t *mutex, const struct timespec *until) {
@@ -503,11 +515,6 @@ static uint64_t settled(void) {
     return count;
 }
 
-static void nap(void) {
-    const struct timespec time = {0, 1000000};
-    nanosleep(&time, NULL);
-}
-
 /* A first wait is held in its sync, a second one has a deadline that never comes. */
 static void hold(struct wait *first, struct wait *second, uint64_t number) {
     int before = __atomic_load_n(&timed_waits, __ATOMIC_SEQ_CST);
@@ -577,6 +584,14 @@ static uint32_t end_of_flusher(pthread_t flusher) {
     return (uint32_t)(uintptr_t)status;
 }
 
+/* Of this vector, whose loops run. */
+static uint32_t flushers(void) {
+    pthread_mutex_lock(&vector->mutex);
+    uint32_t count = vector->flushers;
+    pthread_mutex_unlock(&vector->mutex);
+    return count;
+}
+
 static void until_settled(uint64_t count) {
     while (settled() < count && !wrong) nap();
 }
@@ -608,7 +623,7 @@ static void flushes_all(const char *path) {
     static uint64_t many[131071];
     pthread_t flusher;
     struct wait first;
-    uint64_t number = 0, size = 0, flushers = 0;
+    uint64_t number = 0, size = 0;
     make(path, 2);
     HOLDS(cvec_vector_take_seat(vector, &first.seat) == CVEC_DONE);
     HOLDS(grow(0, &number) == CVEC_DONE);
@@ -617,11 +632,7 @@ static void flushes_all(const char *path) {
     until_held();
     for (int k = 0; k < 3; k++) HOLDS(cvec_vector_grow(seat, many, 131071, NULL) == CVEC_DONE);
     begin_flusher(&flusher, &never);
-    while (flushers == 0) {
-        pthread_mutex_lock(&vector->mutex);
-        flushers = vector->flushers;
-        pthread_mutex_unlock(&vector->mutex);
-    }
+    while (flushers() == 0) nap();
     shut_gate(0);
     HOLDS(end_of(&first) == CVEC_DONE);
     until_settled(4);
@@ -862,6 +873,34 @@ static void alone_waits(const char *path) {
     HOLDS(found(path) == 0);
 }
 
+/* A flusher waited for another's commit, and wanted a growth that was refused since. When it goes on, one has the vector alone. */
+static void alone_beside_a_late_flusher(const char *path) {
+    pthread_t flusher;
+    struct wait first;
+    uint64_t number = 0, count = 9;
+    make(path, 1);
+    HOLDS(grow(0, &number) == CVEC_DONE);
+    first.seat = seat;
+    shut_gate(1);
+    begin_wait(&first, number, 0);
+    until_held();
+    HOLDS(begin_growth(vector) == CVEC_DONE);
+    int before = __atomic_load_n(&waits, __ATOMIC_SEQ_CST);
+    begin_flusher(&flusher, &never);
+    while (__atomic_load_n(&waits, __ATOMIC_SEQ_CST) == before) nap();
+    take_back(vector, CVEC_TOO_LARGE);
+    __atomic_store_n(&dozing, 1, __ATOMIC_SEQ_CST);
+    shut_gate(0);
+    HOLDS(end_of(&first) == CVEC_DONE && cvec_vector_close_seat(seat) == CVEC_DONE);
+    HOLDS(cvec_vector_count(vector, 0, &count) == CVEC_DONE && count == 1);
+    before = __atomic_load_n(&timed_waits, __ATOMIC_SEQ_CST);
+    __atomic_store_n(&dozing, 0, __ATOMIC_SEQ_CST);
+    while (__atomic_load_n(&timed_waits, __ATOMIC_SEQ_CST) == before && flushers() > 0) nap();
+    HOLDS(cvec_vector_count(vector, 0, &count) == CVEC_DONE && cvec_vector_close(vector) == CVEC_DONE);
+    HOLDS(end_of_flusher(flusher) == CVEC_DONE);
+    HOLDS(found(path) == 1);
+}
+
 /* Beside the loops of flushers, which commit meanwhile. */
 static void alone_flushes(const char *path) {
     const uint64_t over[] = {7};
@@ -910,6 +949,7 @@ int main(int argc, char **argv) {
                       {"alone_faults", alone_faults},
                       {"alone_forks", alone_forks},
                       {"alone_waits", alone_waits},
+                      {"alone_late", alone_beside_a_late_flusher},
                       {"alone_flushes", alone_flushes}};
     if (argc != 3) return 2;
     for (size_t k = 0; k < sizeof behaviours / sizeof *behaviours; k++)
