@@ -86,11 +86,26 @@ static uint32_t frame_of(cvec_type type, const cvec_stat *stat, const void *reco
 /* Whether a signal has interrupted the call that answered this. */
 static bool was_interrupted(ssize_t done) { return done < 0 && errno == EINTR; }
 
+/* errno goes on saying why a call before has failed. */
+static void close_quietly(int fd) {
+    int why = errno;
+    close(fd);
+    errno = why;
+}
+
+/* Where the standard streams are closed, the system gives their numbers: what the program writes to one would be in the file. */
+static int behind_streams(int fd) {
+    if (fd < 0 || fd > STDERR_FILENO) return fd;
+    int moved = fcntl(fd, F_DUPFD_CLOEXEC, STDERR_FILENO + 1);
+    close_quietly(fd);
+    return moved;
+}
+
 static int open_path(const char *path, int flags) {
     int fd;
     do fd = open(path, flags | O_CLOEXEC, 0666);
     while (was_interrupted(fd));
-    return fd;
+    return behind_streams(fd);
 }
 
 static uint32_t lock_by(int fd, int operation) {
@@ -168,13 +183,6 @@ static uint32_t write_synced(int fd, uint64_t at, const uint8_t *bytes, size_t l
 static uint32_t commit(int fd, uint64_t gate, const uint8_t *bytes, size_t len) {
     uint32_t answer = write_synced(fd, gate + 1, bytes + 1, len - 1);
     return answer != CVEC_DONE ? answer : write_synced(fd, gate, &open_gate, 1);
-}
-
-/* errno goes on saying why a call before has failed. */
-static void close_quietly(int fd) {
-    int why = errno;
-    close(fd);
-    errno = why;
 }
 
 /* A new name is durable only when its folder is synced. */

@@ -82,11 +82,26 @@ static pid_t this_process(void) {
 
 static bool was_interrupted(ssize_t done) { return done < 0 && errno == EINTR; }
 
+/* errno goes on saying why a call before has failed. */
+static void close_quietly(int fd) {
+    int why = errno;
+    close(fd);
+    errno = why;
+}
+
+/* Where the standard streams are closed, the system gives their numbers: what the program writes to one would be in the file. */
+static int behind_streams(int fd) {
+    if (fd < 0 || fd > STDERR_FILENO) return fd;
+    int moved = fcntl(fd, F_DUPFD_CLOEXEC, STDERR_FILENO + 1);
+    close_quietly(fd);
+    return moved;
+}
+
 static int open_path(const char *path, int flags) {
     int fd;
     do fd = open(path, flags | O_CLOEXEC, 0666);
     while (was_interrupted(fd));
-    return fd;
+    return behind_streams(fd);
 }
 
 static uint32_t lock(int fd) {
@@ -155,12 +170,6 @@ static uint32_t sync_data(int fd) {
     do done = fdatasync(fd);
     while (was_interrupted(done));
     return done == 0 ? CVEC_DONE : CVEC_DISK_SYNC;
-}
-
-static void close_quietly(int fd) {
-    int why = errno;
-    close(fd);
-    errno = why;
 }
 
 /* A new name is durable only when its folder is synced. */

@@ -1,6 +1,6 @@
 /* A test of cvec_file.c: every call of the system fails once, and what the file has then is what it had before the function
- * that was running, or what it has after; and a forked process is refused. Prints the calls of a run in which none fails:
- * ./faults FILE */
+ * that was running, or what it has after; a forked process is refused, and no file has the number of a standard stream. Prints
+ * the calls of a run in which none fails: ./faults FILE */
 #define _DEFAULT_SOURCE 1
 #include <stdio.h>
 #include <sys/types.h>
@@ -88,6 +88,20 @@ static int stays_of_one_process(const char *path) {
     return status == 0 && appended == CVEC_DONE && found(path) == 3;
 }
 
+/* In a process whose standard streams are closed: whether the file has none of their numbers, and no program that is run has it. */
+static int is_behind_streams(const char *path) {
+    cvec_file file;
+    for (int fd = 0; fd <= STDERR_FILENO; fd++) close(fd);
+    return cvec_create(&file, path, CVEC_U64) == CVEC_DONE && file.fd > STDERR_FILENO && fcntl(file.fd, F_GETFD) == FD_CLOEXEC;
+}
+
+static int stays_behind_streams(const char *path) {
+    int status = 1;
+    pid_t child = fork();
+    if (child == 0) _exit(is_behind_streams(path) ? 0 : 1);
+    return child > 0 && waitpid(child, &status, 0) == child && status == 0;
+}
+
 /* The next size behind this one. */
 static int next(int size) { return size == -1 ? 0 : size == 0 ? 3 : 4; }
 
@@ -108,6 +122,11 @@ int main(int argc, char **argv) {
     remove(argv[1]);
     if (!stays_of_one_process(argv[1])) {
         puts("a forked process has the file too");
+        lost = 1;
+    }
+    remove(argv[1]);
+    if (!stays_behind_streams(argv[1])) {
+        puts("a file has the number of a standard stream");
         lost = 1;
     }
     remove(argv[1]);

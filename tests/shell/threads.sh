@@ -87,6 +87,10 @@ a_vector_in_c_is_open_once() (
     a_behaviour_of_a_vector_in_c lock
 )
 
+a_vector_in_c_is_beside_the_standard_streams() (
+    a_behaviour_of_a_vector_in_c streams
+)
+
 a_seat_in_c_is_in_one_call() (
     a_behaviour_of_a_vector_in_c busy
 )

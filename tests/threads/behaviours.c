@@ -175,6 +175,21 @@ static void locks(const char *path) {
     HOLDS(found(path) == 0);
 }
 
+/* The file has none of the numbers of the standard streams, where these are closed, and a program that is run hasn't it. */
+static void streams(const char *path) {
+    uint64_t number = 0;
+    const int out = dup(STDOUT_FILENO);
+    for (int fd = 0; fd <= STDERR_FILENO; fd++) close(fd);
+    make(path, 1);
+    const ssize_t written = write(STDOUT_FILENO, "a line", 6);
+    HOLDS(grow(0, &number) == CVEC_DONE && cvec_vector_await(seat, number) == CVEC_DONE);
+    const int flags = fcntl(vector->fd, F_GETFD);
+    HOLDS(dup2(out, STDOUT_FILENO) == STDOUT_FILENO);
+    HOLDS(written == -1 && flags == FD_CLOEXEC && vector->fd > STDERR_FILENO);
+    HOLDS(cvec_vector_close_seat(seat) == CVEC_DONE && cvec_vector_close(vector) == CVEC_DONE);
+    HOLDS(found(path) == 1);
+}
+
 static void is_busy(const char *path) {
     uint64_t number = 0, count = 0;
     make(path, 1);
@@ -929,6 +944,7 @@ int main(int argc, char **argv) {
         const char *name;
         void (*run)(const char *);
     } behaviours[] = {{"lock", locks},
+                      {"streams", streams},
                       {"busy", is_busy},
                       {"fork", forks},
                       {"parts", parts},
