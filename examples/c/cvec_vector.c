@@ -47,6 +47,9 @@ static uint64_t no_room[1];
 /* The seats of one vector, and for how many nanoseconds a growth that came second sleeps at first and at most. */
 enum { MOST_SEATS = 64, FIRST_NAP = 2000, LONGEST_NAP = 200000 };
 
+/* How often a lock is tried while readers share it: for 10 seconds, each 20 milliseconds. */
+enum { LOCK_TURNS = 500, LOCK_WAIT = 20000000 };
+
 /* No deadline is further away, in milliseconds: 31 years. */
 static const uint64_t LONGEST_WAIT = 1000000000000;
 
@@ -104,12 +107,25 @@ static int open_path(const char *path, int flags) {
     return behind_streams(fd);
 }
 
-static uint32_t lock(int fd) {
+static uint32_t lock_by(int fd, int operation) {
     int done;
-    do done = flock(fd, LOCK_EX | LOCK_NB);
+    do done = flock(fd, operation | LOCK_NB);
     while (was_interrupted(done));
     if (done == 0) return CVEC_DONE;
     return errno == EWOULDBLOCK ? CVEC_IN_USE : CVEC_DISK_OPEN;
+}
+
+/* Commands that only read share the lock, and have it for moments: where it can be shared, it is tried again. */
+static uint32_t lock(int fd) {
+    const struct timespec wait = {0, LOCK_WAIT};
+    for (int turn = 0;; turn++) {
+        uint32_t answer = lock_by(fd, LOCK_EX);
+        if (answer != CVEC_IN_USE || turn == LOCK_TURNS) return answer;
+        answer = lock_by(fd, LOCK_SH);
+        if (answer == CVEC_DONE) answer = lock_by(fd, LOCK_UN);
+        if (answer != CVEC_DONE) return answer;
+        nanosleep(&wait, NULL);
+    }
 }
 
 static uint32_t length_of(int fd, uint64_t *len) {

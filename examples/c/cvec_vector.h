@@ -39,8 +39,8 @@ typedef struct cvec_receipt {
 } cvec_receipt;
 
 /* Makes a file of version 1 or 2, or opens one that is there, for so many seats: 1 to 64. The file is locked (flock) until
- * the vector is closed. Any other number than CVEC_DONE leaves *vector NULL. CVEC_EXISTS: what is there stays; a file is made
- * over nothing but what a stopped creation of that version leaves. */
+ * the vector is closed; a lock that readers share is waited for, 10 seconds. Any other number than CVEC_DONE leaves *vector
+ * NULL. CVEC_EXISTS: what is there stays; a file is made over nothing but what a stopped creation of that version leaves. */
 uint32_t cvec_vector_create(cvec_vector **vector, const char *path, uint8_t version, uint16_t seats);
 uint32_t cvec_vector_open(cvec_vector **vector, const char *path, uint16_t seats);
 

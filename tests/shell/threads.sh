@@ -85,6 +85,8 @@ each_status_of_a_vector_has_a_sentence() (
 
 a_vector_in_c_is_open_once() (
     a_behaviour_of_a_vector_in_c lock
+    rm "$work/t.cv"
+    a_behaviour_of_a_vector_in_c readers
 )
 
 a_vector_in_c_is_beside_the_standard_streams() (

@@ -3,11 +3,13 @@
 #define _DEFAULT_SOURCE 1
 #define _POSIX_C_SOURCE 200809L
 #include <errno.h>
+#include <fcntl.h>
 #include <inttypes.h>
 #include <pthread.h>
 #include <stdio.h>
 #include <stdlib.h>
 #include <string.h>
+#include <sys/file.h>
 #include <sys/resource.h>
 #include <sys/types.h>
 #include <sys/wait.h>
@@ -104,9 +106,19 @@ static int test_fdatasync(int fd) {
     return -1;
 }
 
+/* While a reader has a lock, a sleep takes no time, and ends that lock where so many have been made. */
+static int reader = -1, naps, naps_of_reader;
+
+static int test_nanosleep(const struct timespec *time, struct timespec *left_over) {
+    if (reader < 0) return nanosleep(time, left_over);
+    if (++naps == naps_of_reader) flock(reader, LOCK_UN);
+    return 0;
+}
+
 static void *test_malloc(size_t len) { return mallocs >= 0 && mallocs-- == 0 ? NULL : malloc(len); }
 
 #define malloc test_malloc
+#define nanosleep test_nanosleep
 #define pwrite test_pwrite
 #define fdatasync test_fdatasync
 #define pthread_cond_timedwait test_timedwait
@@ -115,6 +127,7 @@ static void *test_malloc(size_t len) { return mallocs >= 0 && mallocs-- == 0 ? N
 #undef pthread_cond_wait
 #undef pthread_cond_timedwait
 #undef malloc
+#undef nanosleep
 #undef pwrite
 #undef fdatasync
 
@@ -172,6 +185,30 @@ static void locks(const char *path) {
     HOLDS(cvec_vector_close_seat(seat) == CVEC_DONE);
     HOLDS(cvec_vector_close(vector) == CVEC_DONE);
     HOLDS(cvec_vector_create(&second, path, 1, 1) == CVEC_EXISTS);
+    HOLDS(found(path) == 0);
+}
+
+/* What a reader's lock makes of an opening; the reader gives it up behind so many naps. */
+static uint32_t opens_beside(const char *path, int operation, int naps_of_it) {
+    reader = open(path, O_RDONLY);
+    HOLDS(flock(reader, operation) == 0);
+    naps = 0;
+    naps_of_reader = naps_of_it;
+    const uint32_t answer = cvec_vector_open(&vector, path, 1);
+    close(reader);
+    reader = -1;
+    return answer;
+}
+
+/* A lock that readers share is waited for, and one that somebody has alone isn't. */
+static void readers(const char *path) {
+    make(path, 1);
+    HOLDS(cvec_vector_close_seat(seat) == CVEC_DONE && cvec_vector_close(vector) == CVEC_DONE);
+    HOLDS(opens_beside(path, LOCK_SH, 3) == CVEC_DONE && naps == 3);
+    if (wrong) exit(1);
+    HOLDS(cvec_vector_close(vector) == CVEC_DONE);
+    HOLDS(opens_beside(path, LOCK_SH, 0) == CVEC_IN_USE && naps == 500);
+    HOLDS(opens_beside(path, LOCK_EX, 0) == CVEC_IN_USE && naps == 0);
     HOLDS(found(path) == 0);
 }
 
@@ -944,6 +981,7 @@ int main(int argc, char **argv) {
         const char *name;
         void (*run)(const char *);
     } behaviours[] = {{"lock", locks},
+                      {"readers", readers},
                       {"streams", streams},
                       {"busy", is_busy},
                       {"fork", forks},
