@@ -506,35 +506,6 @@ static void full(const char *path) {
     HOLDS(cvec_vector_close(vector) == CVEC_DONE);
 }
 
-/* ---- leader: while one thread's sync lasts, the others grow, and the next commit is for all of them */
-
-static void *grow_and_await(void *work) {
-    cvec_vector_seat *own = work;
-    cvec_receipt receipt;
-    uint64_t record = 0;
-    for (int k = 0; k < 500; k++) {
-        HOLDS(cvec_vector_grow(own, &record, 1, &receipt) == CVEC_DONE);
-        HOLDS(cvec_vector_await(own, receipt.number) == CVEC_DONE);
-    }
-    return NULL;
-}
-
-static void leads(const char *path) {
-    pthread_t threads[8];
-    cvec_vector_seat *seats[8];
-    HOLDS(cvec_vector_create(&vector, path, 2, 8) == CVEC_DONE);
-    int before = syncs;
-    for (int k = 0; k < 8; k++) HOLDS(cvec_vector_take_seat(vector, &seats[k]) == CVEC_DONE);
-    for (int k = 0; k < 8; k++) pthread_create(&threads[k], NULL, grow_and_await, seats[k]);
-    for (int k = 0; k < 8; k++) pthread_join(threads[k], NULL);
-    /* Two syncs of a commit: alone, 4,000 growths would take 8,000. */
-    HOLDS(syncs - before < 6000);
-    for (int k = 0; k < 8; k++) HOLDS(cvec_vector_close_seat(seats[k]) == CVEC_DONE);
-    before = syncs;
-    HOLDS(cvec_vector_close(vector) == CVEC_DONE);
-    HOLDS(syncs == before);
-}
-
 /* ---- late: a wait with a deadline, while another's commit is held */
 
 struct wait {
@@ -608,6 +579,30 @@ static void late(const char *path) {
     HOLDS(cvec_vector_close_seat(first.seat) == CVEC_DONE && cvec_vector_close_seat(second.seat) == CVEC_DONE);
     HOLDS(cvec_vector_close_seat(seat) == CVEC_DONE && cvec_vector_close(vector) == CVEC_BROKEN);
     HOLDS(found(path) == 3);
+}
+
+/* While one thread's sync lasts, the others grow and wait: the next commit, of two syncs, is for all of them. */
+static void leads(const char *path) {
+    struct wait all[8];
+    uint64_t number = 0;
+    make(path, 8);
+    all[0].seat = seat;
+    for (int k = 1; k < 8; k++) HOLDS(cvec_vector_take_seat(vector, &all[k].seat) == CVEC_DONE);
+    const int before = syncs, waited = timed_waits;
+    shut_gate(1);
+    for (uint64_t k = 0; k < 8; k++) {
+        seat = all[k].seat;
+        HOLDS(grow(k, &number) == CVEC_DONE && number == k);
+        begin_wait(&all[k], number, UINT64_MAX);
+        if (k == 0) until_held();
+    }
+    while (__atomic_load_n(&timed_waits, __ATOMIC_SEQ_CST) < waited + 7) nap();
+    shut_gate(0);
+    for (int k = 0; k < 8; k++) HOLDS(end_of(&all[k]) == CVEC_DONE);
+    HOLDS(settled() == 8 && syncs == before + 4);
+    for (int k = 0; k < 8; k++) HOLDS(cvec_vector_close_seat(all[k].seat) == CVEC_DONE);
+    HOLDS(cvec_vector_close(vector) == CVEC_DONE && syncs == before + 4);
+    HOLDS(found(path) == 8);
 }
 
 /* In version 1 the second growth takes a commit of its own, which isn't begun where the time has passed. */
