@@ -115,12 +115,19 @@ static int test_nanosleep(const struct timespec *time, struct timespec *left_ove
     return 0;
 }
 
+static int test_fsync(int fd) {
+    if (!fails()) return fsync(fd);
+    errno = EIO;
+    return -1;
+}
+
 static void *test_malloc(size_t len) { return mallocs >= 0 && mallocs-- == 0 ? NULL : malloc(len); }
 
 #define malloc test_malloc
 #define nanosleep test_nanosleep
 #define pwrite test_pwrite
 #define fdatasync test_fdatasync
+#define fsync test_fsync
 #define pthread_cond_timedwait test_timedwait
 #define pthread_cond_wait test_wait
 #include "cvec_vector.c"
@@ -130,6 +137,7 @@ static void *test_malloc(size_t len) { return mallocs >= 0 && mallocs-- == 0 ? N
 #undef nanosleep
 #undef pwrite
 #undef fdatasync
+#undef fsync
 
 static int wrong;
 
@@ -328,25 +336,36 @@ static void fails_at(const char *path, int call) {
     HOLDS(count == (call < 2 ? 1 : count == 1 ? 1 : 2));
 }
 
+/* Each call of a creation fails: the syncs of its folder and of what is there; a sync, and the first byte, the others and the
+ * first one again, each written and synced. It may be made again, but where that byte may say that it is done. */
+static void creation_fails_at(const char *path, int call) {
+    remove(path);
+    left = call;
+    HOLDS(cvec_vector_create(&vector, path, 1, 1) == (call == 3 || call == 5 || call == 7 ? CVEC_DISK_WRITE : CVEC_DISK_SYNC));
+    HOLDS(vector == NULL && left == -1 && errno == EIO);
+    left = -1;
+    const uint32_t again = cvec_vector_create(&vector, path, 1, 1);
+    HOLDS(again == (call == 8 ? CVEC_EXISTS : CVEC_DONE));
+    if (again == CVEC_DONE) HOLDS(cvec_vector_close(vector) == CVEC_DONE);
+    HOLDS(found(path) == 0);
+}
+
 static void faults(const char *path) {
-    for (int call = 0; call < 4; call++) fails_at(path, call);
-    /* So at the close, and where the file is made. */
     uint64_t number = 0;
+    for (int call = 0; call < 4; call++) fails_at(path, call);
+    for (int call = 0; call < 9; call++) creation_fails_at(path, call);
+    /* So where it is opened, and at the close. */
+    for (int call = 0; call < 2; call++) {
+        left = call;
+        HOLDS(cvec_vector_open(&vector, path, 1) == CVEC_DISK_SYNC && vector == NULL);
+    }
     remove(path);
     make(path, 1);
     HOLDS(grow(0, &number) == CVEC_DONE);
     HOLDS(cvec_vector_close_seat(seat) == CVEC_DONE);
     left = 0;
-    HOLDS(cvec_vector_close(vector) == CVEC_DISK_WRITE);
-    left = -1;
+    HOLDS(cvec_vector_close(vector) == CVEC_DISK_WRITE && errno == EIO);
     HOLDS(found(path) == 0);
-    remove(path);
-    left = 0;
-    HOLDS(cvec_vector_create(&vector, path, 1, 1) == CVEC_DISK_SYNC);
-    HOLDS(vector == NULL);
-    left = -1;
-    HOLDS(cvec_vector_create(&vector, path, 1, 1) == CVEC_DONE);
-    HOLDS(cvec_vector_close(vector) == CVEC_DONE);
 }
 
 static void too_large(const char *path) {
