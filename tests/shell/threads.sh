@@ -158,6 +158,8 @@ a_whole_vector_in_c_is_changed_while_no_seat_is_taken() (
     rm "$work/t.cv"
     a_behaviour_of_a_vector_in_c alone_waits
     rm "$work/t.cv"
+    a_behaviour_of_a_vector_in_c seat_waits
+    rm "$work/t.cv"
     a_behaviour_of_a_vector_in_c alone_late
     rm "$work/t.cv"
     a_behaviour_of_a_vector_in_c alone_flushes

@@ -189,6 +189,7 @@ static void locks(const char *path) {
     HOLDS(cvec_vector_open(&second, path, 1) == CVEC_IN_USE);
     HOLDS(second == NULL);
     HOLDS(cvec_vector_create(&second, path, 1, 1) == CVEC_IN_USE);
+    HOLDS(fcntl(vector->fd, F_GETFD) == FD_CLOEXEC);
     HOLDS(cvec_vector_close(vector) == CVEC_BUSY);
     HOLDS(cvec_vector_close_seat(seat) == CVEC_DONE);
     HOLDS(cvec_vector_close(vector) == CVEC_DONE);
@@ -378,6 +379,8 @@ static void too_large(const char *path) {
     HOLDS(cvec_vector_grow(seat, records, 1024, &receipt) == CVEC_DONE);
     HOLDS(cvec_vector_await(seat, receipt.number) == CVEC_DISK_WRITE);
     HOLDS(errno == EFBIG);
+    sigset_t held_back;
+    HOLDS(pthread_sigmask(SIG_BLOCK, NULL, &held_back) == 0 && sigismember(&held_back, SIGXFSZ) == 0);
     HOLDS(cvec_vector_await(seat, receipt.number) == CVEC_BROKEN);
     most.rlim_cur = RLIM_INFINITY;
     setrlimit(RLIMIT_FSIZE, &most);
@@ -579,6 +582,7 @@ static void late(const char *path) {
     for (uint64_t milliseconds = 0; milliseconds < 30; milliseconds += 7)
         for (number = 0; number < 2; number++) HOLDS(cvec_vector_await_for(seat, number, milliseconds) == CVEC_LATE);
     HOLDS(settled() == 0);
+    for (uint64_t milliseconds = 0; milliseconds < 1000; milliseconds++) HOLDS(moment_in(milliseconds).tv_nsec < 1000000000);
     /* A wait sleeps: it isn't woken again and again. */
     HOLDS(__atomic_load_n(&timed_waits, __ATOMIC_SEQ_CST) < 1000);
     shut_gate(0);
@@ -636,7 +640,7 @@ static void late_between(const char *path) {
 
 /* ---- flusher: growths become durable though nobody waits for them */
 
-static const uint64_t soon = 1, never = UINT64_MAX;
+static const uint64_t at_once = 0, soon = 1, never = UINT64_MAX;
 
 static void *run_flusher(void *every) { return (void *)(uintptr_t)cvec_vector_run_flusher(vector, *(const uint64_t *)every); }
 
@@ -663,11 +667,13 @@ static void until_settled(uint64_t count) {
 }
 
 static void flushes(const char *path) {
-    pthread_t flusher, second;
+    pthread_t flusher, second, resting;
     uint64_t number = 0;
     make(path, 1);
     begin_flusher(&flusher, &soon);
-    begin_flusher(&second, &soon);
+    begin_flusher(&second, &at_once);
+    begin_flusher(&resting, &never);
+    while (flushers() < 3) nap();
     for (uint64_t k = 0; k < 50; k++) {
         HOLDS(grow(k, &number) == CVEC_DONE);
         until_settled(k + 1);
@@ -677,7 +683,7 @@ static void flushes(const char *path) {
     HOLDS(grow(50, &number) == CVEC_DONE);
     until_settled(51);
     HOLDS(cvec_vector_stop_flusher(vector) == CVEC_DONE);
-    HOLDS(end_of_flusher(flusher) == CVEC_DONE && end_of_flusher(second) == CVEC_DONE);
+    HOLDS(end_of_flusher(flusher) == CVEC_DONE && end_of_flusher(second) == CVEC_DONE && end_of_flusher(resting) == CVEC_DONE);
     HOLDS(grow(51, &number) == CVEC_DONE);
     HOLDS(cvec_vector_run_flusher(vector, 1) == CVEC_DONE && settled() == 51);
     HOLDS(cvec_vector_close_seat(seat) == CVEC_DONE && cvec_vector_close(vector) == CVEC_DONE);
@@ -702,14 +708,19 @@ static void flushes_all(const char *path) {
     shut_gate(0);
     HOLDS(end_of(&first) == CVEC_DONE);
     until_settled(4);
-    /* It rests, until the close ends it, which commits what is left. */
+    /* It rests, until the close ends it, which commits what is left, and so does a call of the whole vector. */
+    for (int k = 0; k < 2; k++) HOLDS(cvec_vector_grow(seat, many, 131071, NULL) == CVEC_DONE);
     HOLDS(grow(1, &number) == CVEC_DONE && settled() == 4);
     HOLDS(cvec_vector_close_seat(first.seat) == CVEC_DONE && cvec_vector_close_seat(seat) == CVEC_DONE);
     HOLDS(cvec_vector_close(vector) == CVEC_DONE);
     HOLDS(end_of_flusher(flusher) == CVEC_DONE);
     HOLDS(cvec_vector_open(&vector, path, 1) == CVEC_DONE && cvec_vector_take_seat(vector, &seat) == CVEC_DONE);
-    HOLDS(cvec_vector_size(seat, &size) == CVEC_DONE && size == 3 * 131071 + 2);
-    HOLDS(cvec_vector_close_seat(seat) == CVEC_DONE && cvec_vector_close(vector) == CVEC_DONE);
+    HOLDS(cvec_vector_size(seat, &size) == CVEC_DONE && size == 5 * 131071 + 2);
+    for (int k = 0; k < 2; k++) HOLDS(cvec_vector_grow(seat, many, 131071, NULL) == CVEC_DONE);
+    HOLDS(cvec_vector_close_seat(seat) == CVEC_DONE);
+    HOLDS(cvec_vector_count(vector, 1, &size) == CVEC_DONE && size == 1);
+    HOLDS(cvec_vector_find(vector, 7, 0, &size) == CVEC_DONE && size == 7 * 131071 + 2);
+    HOLDS(cvec_vector_close(vector) == CVEC_DONE);
 }
 
 /* A commit that is refused ends the loop. Behind a refusal of memory it may be begun again. */
@@ -906,12 +917,32 @@ static void *run_clear(void *answer) {
     return NULL;
 }
 
+static void *run_take_seat(void *answer) {
+    *(uint32_t *)answer = cvec_vector_take_seat(vector, &seat);
+    return NULL;
+}
+
+/* What this call answers, of a vector that has no seat to give: it waits for a flusher that commits, and makes no call itself. */
+static uint32_t waits_for_flusher(void *(*call)(void *)) {
+    pthread_t flusher, caller;
+    uint32_t answer = CVEC_BUSY;
+    shut_gate(1);
+    begin_flusher(&flusher, &never);
+    until_held();
+    int before = __atomic_load_n(&waits, __ATOMIC_SEQ_CST);
+    pthread_create(&caller, NULL, call, &answer);
+    while (__atomic_load_n(&waits, __ATOMIC_SEQ_CST) == before && holds() < 2) nap();
+    HOLDS(holds() == 1);
+    shut_gate(0);
+    pthread_join(caller, NULL);
+    HOLDS(cvec_vector_stop_flusher(vector) == CVEC_DONE && end_of_flusher(flusher) == CVEC_DONE);
+    return answer;
+}
+
 /* A call of the whole vector waits for a flusher that commits, but for nobody where a seat is taken. */
 static void alone_waits(const char *path) {
-    pthread_t flusher, clear;
     struct wait first;
     uint64_t number = 0;
-    uint32_t answer = CVEC_BUSY;
     make(path, 2);
     HOLDS(grow(0, &number) == CVEC_DONE);
     first.seat = seat;
@@ -924,19 +955,21 @@ static void alone_waits(const char *path) {
     HOLDS(end_of(&first) == CVEC_DONE && cvec_vector_close_seat(first.seat) == CVEC_DONE);
     HOLDS(grow(1, &number) == CVEC_DONE);
     HOLDS(cvec_vector_close_seat(seat) == CVEC_DONE);
-    shut_gate(1);
-    begin_flusher(&flusher, &never);
-    until_held();
-    int before = __atomic_load_n(&waits, __ATOMIC_SEQ_CST);
-    pthread_create(&clear, NULL, run_clear, &answer);
-    while (__atomic_load_n(&waits, __ATOMIC_SEQ_CST) == before && holds() < 2) nap();
-    HOLDS(holds() == 1);
-    shut_gate(0);
-    pthread_join(clear, NULL);
-    HOLDS(answer == CVEC_DONE);
+    HOLDS(waits_for_flusher(run_clear) == CVEC_DONE);
     HOLDS(cvec_vector_close(vector) == CVEC_DONE);
-    HOLDS(end_of_flusher(flusher) == CVEC_DONE);
     HOLDS(found(path) == 0);
+}
+
+/* So does a seat for which all seats are to be given again. */
+static void seat_waits(const char *path) {
+    uint64_t number = 9;
+    make(path, 1);
+    HOLDS(grow(0, &number) == CVEC_DONE);
+    HOLDS(cvec_vector_close_seat(seat) == CVEC_DONE);
+    HOLDS(waits_for_flusher(run_take_seat) == CVEC_DONE);
+    HOLDS(grow(1, &number) == CVEC_DONE && number == 0);
+    HOLDS(cvec_vector_close_seat(seat) == CVEC_DONE && cvec_vector_close(vector) == CVEC_DONE);
+    HOLDS(found(path) == 2);
 }
 
 /* A flusher waited for another's commit, and wanted a growth that was refused since. When it goes on, one has the vector alone. */
@@ -1017,6 +1050,7 @@ int main(int argc, char **argv) {
                       {"alone_faults", alone_faults},
                       {"alone_forks", alone_forks},
                       {"alone_waits", alone_waits},
+                      {"seat_waits", seat_waits},
                       {"alone_late", alone_beside_a_late_flusher},
                       {"alone_flushes", alone_flushes}};
     if (argc != 3) return 2;
