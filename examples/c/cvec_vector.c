@@ -671,8 +671,8 @@ uint32_t cvec_vector_await_for(cvec_vector_seat *seat, uint64_t number, uint64_t
     return await_until(seat, number, &until);
 }
 
-/* With the mutex: commits what there is now, by as many commits as that takes. While it waits for another's, a growth that it
- * wants may be refused, each seat closed, and the committer become a vault, which has nothing to commit. */
+/* With the mutex: commits what there is now, by as many commits as that takes. While it waits for another's, growths may be
+ * counted from 0 again, and the committer become a vault, which has none to commit. */
 static uint32_t flush(cvec_vector *vector) {
     const uint64_t wanted = __atomic_load_n(&vector->begun, __ATOMIC_RELAXED);
     uint64_t growths = 1;

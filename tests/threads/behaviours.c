@@ -972,32 +972,31 @@ static void seat_waits(const char *path) {
     HOLDS(found(path) == 2);
 }
 
-/* A flusher waited for another's commit, and wanted a growth that was refused since. When it goes on, one has the vector alone. */
+/* A flusher waited for another's commit. When it goes on, growths are counted from 0 again, and one has the vector alone. */
 static void alone_beside_a_late_flusher(const char *path) {
     pthread_t flusher;
     struct wait first;
     uint64_t number = 0, count = 9;
     make(path, 1);
-    HOLDS(grow(0, &number) == CVEC_DONE);
+    for (uint64_t k = 0; k < 3; k++) HOLDS(grow(k, &number) == CVEC_DONE);
     first.seat = seat;
     shut_gate(1);
-    begin_wait(&first, number, 0);
+    begin_wait(&first, 0, 0);
     until_held();
-    HOLDS(begin_growth(vector) == CVEC_DONE);
     int before = __atomic_load_n(&waits, __ATOMIC_SEQ_CST);
     begin_flusher(&flusher, &never);
     while (__atomic_load_n(&waits, __ATOMIC_SEQ_CST) == before) nap();
-    take_back(vector, CVEC_TOO_LARGE);
     __atomic_store_n(&dozing, 1, __ATOMIC_SEQ_CST);
     shut_gate(0);
     HOLDS(end_of(&first) == CVEC_DONE && cvec_vector_close_seat(seat) == CVEC_DONE);
-    HOLDS(cvec_vector_count(vector, 0, &count) == CVEC_DONE && count == 1);
+    HOLDS(cvec_vector_take_seat(vector, &seat) == CVEC_DONE && grow(3, &number) == CVEC_DONE && number == 0);
+    HOLDS(cvec_vector_close_seat(seat) == CVEC_DONE && cvec_vector_count(vector, 3, &count) == CVEC_DONE && count == 1);
     before = __atomic_load_n(&timed_waits, __ATOMIC_SEQ_CST);
     __atomic_store_n(&dozing, 0, __ATOMIC_SEQ_CST);
     while (__atomic_load_n(&timed_waits, __ATOMIC_SEQ_CST) == before && flushers() > 0) nap();
-    HOLDS(cvec_vector_count(vector, 0, &count) == CVEC_DONE && cvec_vector_close(vector) == CVEC_DONE);
+    HOLDS(cvec_vector_count(vector, 3, &count) == CVEC_DONE && cvec_vector_close(vector) == CVEC_DONE);
     HOLDS(end_of_flusher(flusher) == CVEC_DONE);
-    HOLDS(found(path) == 1);
+    HOLDS(found(path) == 4);
 }
 
 /* Beside the loops of flushers, which commit meanwhile. */
