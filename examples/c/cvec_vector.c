@@ -768,7 +768,7 @@ const char *cvec_vector_status_text(uint32_t status) {
     case CVEC_DAMAGED: return "a frame of the file is damaged";
     case CVEC_MEMORY: return "memory was refused";
     case CVEC_EMPTY: return "a growth has at least one record";
-    case CVEC_OUT_OF_RANGE: return "there is no such growth, or the vector would pass 2^32 records";
+    case CVEC_OUT_OF_RANGE: return "there is no such growth or position, or the vector would pass 2^32 records";
     case CVEC_TOO_LARGE: return "more than 131,071 records in a growth, or not 1 to 64 seats";
     case CVEC_FILE_FULL: return "the file would pass 2^48 bytes";
     case CVEC_EXISTS: return "something is there already";

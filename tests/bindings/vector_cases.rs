@@ -30,7 +30,7 @@ const TOO_LARGE: &str = "more than 131,071 records in a growth, or not 1 to 64 s
 const IN_USE: &str = "the file is in use";
 const FULL: &str = "it was grown 1,048,568 times: close each seat, and take new ones";
 const UNFOLDED: &str = "a change isn't folded: fold first";
-const OUT_OF_RANGE: &str = "there is no such growth, or the vector would pass 2^32 records";
+const OUT_OF_RANGE: &str = "there is no such growth or position, or the vector would pass 2^32 records";
 const BUSY: &str = "another thread is inside a call, or a seat isn't closed";
 const BROKEN: &str = "a write or a sync has failed before: open the file again";
 
