@@ -29,6 +29,24 @@ a_closed_output_is_told() (
     ends_with_a_failed_write 'Bad file descriptor'
 )
 
+# The file gets the number of no standard stream that is closed: it would get the answers, over its first bytes.
+a_file_has_no_number_of_a_closed_stream() (
+    run create u64 "$work/t.cv"
+    given '5\n6\n'
+    run load u64 "$work/t.cv"
+    status=0
+    "$top/cvec" set u64 "$work/t.cv" 0 --records=9 >&- 2>"$err" || status=$?
+    ends_with_a_failed_write 'Bad file descriptor'
+    ! "$top/cvec" set u64 "$work/t.cv" 7 --records=9 >"$out" 2>&- || exit 1
+    [ "$(cat "$out")" = 'refused: out of range' ]
+    ! "$top/cvec" append u64 "$work/t.cv" <&- >&- 2>&- || exit 1
+    status=0
+    "$top/cvec" append u64 "$work/t.cv" <&- >"$out" 2>"$err" || status=$?
+    was_refused input "standard input couldn't be read"
+    run list u64 "$work/t.cv"
+    did '9\n6\n'
+)
+
 a_closed_pipe_is_told() (
     seq 1 200000 >"$in"
     trap '' PIPE

@@ -7,7 +7,9 @@ use crate::program::{Outcome, System, run};
 use sentences::Sentence;
 use std::alloc::Global;
 use std::env;
+use std::fs::{File, OpenOptions};
 use std::io::{self, BufWriter, ErrorKind, IsTerminal, Read, Write};
+use std::os::fd::{AsRawFd, RawFd};
 use std::process::ExitCode;
 use std::sync::Wait;
 use std::thread::Threads;
@@ -20,7 +22,14 @@ use words_core::{
 
 const OUTPUT_BUFFER_LEN: usize = 65_536;
 
+/// The number of standard input.
+const INPUT: RawFd = 0;
+
+/// That of standard error, the last of the standard streams.
+const LAST_STREAM: RawFd = 2;
+
 fn main(rt: HostRuntime) -> ExitCode {
+    let _closed = take_closed(&rt);
     let status = match words_of(&rt) {
         Ok(words) => run_words(&rt, &rt, words.as_slice()),
         Err(error) if error.kind() == ErrorKind::InvalidData => {
@@ -31,6 +40,28 @@ fn main(rt: HostRuntime) -> ExitCode {
         Err(_) => refuse_memory(&rt),
     };
     ExitCode::from(status.code())
+}
+
+/// Takes the numbers of the standard streams that are closed: the next file that is opened would have one, and be written what
+/// the program answers. Such a stream stays one that can't be read or written.
+fn take_closed(rt: &HostRuntime) -> [Option<File>; 3] {
+    [
+        nothing_below(rt, true, INPUT),
+        nothing_below(rt, false, LAST_STREAM),
+        nothing_below(rt, false, LAST_STREAM),
+    ]
+}
+
+/// A file of nothing, to be written or read, where the first number that is free is none above this one.
+fn nothing_below(rt: &HostRuntime, writes: bool, last: RawFd) -> Option<File> {
+    let opened = OpenOptions::new()
+        .read(!writes)
+        .write(writes)
+        .open(rt, "/dev/null");
+    match opened {
+        Ok(file) if file.as_raw_fd() <= last => Some(file),
+        _ => None,
+    }
 }
 
 /// The words that the program was started with, behind its name. An error: one of them is no UTF-8
