@@ -13,10 +13,12 @@ takes() {
     stopped=0
 }
 
-# Kills a command at the first moment, the second, and so on, and counts those that hadn't told their end.
+# Kills a command at the first moment, the second, and so on, and counts those that hadn't told their end. A child that is
+# killed before it has opened its output leaves what stood there.
 killed_at() {
     moment=$((whole * $1 / 21))
     shift
+    : >"$out"
     "$top/crates/cvec/out/cvec" "$@" <"$in" >"$out" 2>"$err" &
     child=$!
     sleep "$((moment / 1000)).$(printf %03d $((moment % 1000)))"
