@@ -92,7 +92,7 @@ static void close_quietly(int fd) {
     errno = why;
 }
 
-/* Where the standard streams are closed, the system gives their numbers: what the program writes to one would be in the file. */
+/* Where standard streams are closed, a file would get their numbers, and be written what the program prints there. */
 static int behind_streams(int fd) {
     if (fd < 0 || fd > STDERR_FILENO) return fd;
     int moved = fcntl(fd, F_DUPFD_CLOEXEC, STDERR_FILENO + 1);
