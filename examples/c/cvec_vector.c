@@ -191,12 +191,12 @@ static uint32_t sync_data(int fd) {
 /* A new name is durable only when its folder is synced. */
 static uint32_t sync_folder(const char *path) {
     char *whole = realpath(path, NULL);
-    if (whole == NULL) return CVEC_DISK_SYNC;
+    if (whole == NULL) return CVEC_DISK_OPEN;
     char *name = strrchr(whole, '/');
     name[name == whole ? 1 : 0] = '\0';
     int fd = open_path(whole, O_RDONLY | O_DIRECTORY);
     free(whole);
-    if (fd < 0) return CVEC_DISK_SYNC;
+    if (fd < 0) return CVEC_DISK_OPEN;
     int done;
     do done = fsync(fd);
     while (was_interrupted(done));

@@ -2,6 +2,7 @@
  * that was running, or what it has after; a forked process is refused, and no file has the number of a standard stream. Prints
  * the calls of a run in which none fails: ./faults FILE */
 #define _DEFAULT_SOURCE 1
+#include <fcntl.h>
 #include <stdio.h>
 #include <sys/types.h>
 #include <sys/wait.h>
@@ -28,10 +29,19 @@ static int faulty_sync(int fd, int (*sync)(int), const char *name) {
 static int faulty_fdatasync(int fd) { return faulty_sync(fd, fdatasync, "sync"); }
 static int faulty_fsync(int fd) { return faulty_sync(fd, fsync, "sync of the folder"); }
 
+/* Whether no folder may be read. */
+static int folders_are_shut;
+
+static int faulty_open(const char *path, int flags, mode_t mode) {
+    return folders_are_shut && (flags & O_DIRECTORY) ? -1 : open(path, flags, mode);
+}
+
+#define open faulty_open
 #define pwrite faulty_pwrite
 #define fdatasync faulty_fdatasync
 #define fsync faulty_fsync
 #include "cvec_file.c"
+#undef open
 #undef pwrite
 #undef fdatasync
 #undef fsync
@@ -88,6 +98,15 @@ static int stays_of_one_process(const char *path) {
     return status == 0 && appended == CVEC_DONE && found(path) == 3;
 }
 
+/* No sync fails where the folder can't be read, which is to be synced. */
+static int tells_of_a_folder_that_is_shut(const char *path) {
+    cvec_file file;
+    folders_are_shut = 1;
+    uint32_t status = cvec_create(&file, path, CVEC_U64);
+    folders_are_shut = 0;
+    return status == CVEC_DISK_OPEN && file.fd < 0;
+}
+
 /* In a process whose standard streams are closed: whether the file has none of their numbers, and no program that is run has it. */
 static int is_behind_streams(const char *path) {
     cvec_file file;
@@ -122,6 +141,11 @@ int main(int argc, char **argv) {
     remove(argv[1]);
     if (!stays_of_one_process(argv[1])) {
         puts("a forked process has the file too");
+        lost = 1;
+    }
+    remove(argv[1]);
+    if (!tells_of_a_folder_that_is_shut(argv[1])) {
+        puts("a folder that can't be read passes for one whose sync has failed");
         lost = 1;
     }
     remove(argv[1]);

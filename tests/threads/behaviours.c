@@ -115,6 +115,15 @@ static int test_nanosleep(const struct timespec *time, struct timespec *left_ove
     return 0;
 }
 
+/* Whether no folder may be read. */
+static int folders_are_shut;
+
+static int test_open(const char *path, int flags, mode_t mode) {
+    if (!folders_are_shut || (flags & O_DIRECTORY) == 0) return open(path, flags, mode);
+    errno = EACCES;
+    return -1;
+}
+
 static int test_fsync(int fd) {
     if (!fails()) return fsync(fd);
     errno = EIO;
@@ -128,6 +137,7 @@ static void *test_malloc(size_t len) { return mallocs >= 0 && mallocs-- == 0 ? N
 #define pwrite test_pwrite
 #define fdatasync test_fdatasync
 #define fsync test_fsync
+#define open test_open
 #define pthread_cond_timedwait test_timedwait
 #define pthread_cond_wait test_wait
 #include "cvec_vector.c"
@@ -138,6 +148,7 @@ static void *test_malloc(size_t len) { return mallocs >= 0 && mallocs-- == 0 ? N
 #undef pwrite
 #undef fdatasync
 #undef fsync
+#undef open
 
 static int wrong;
 
@@ -355,6 +366,12 @@ static void faults(const char *path) {
     uint64_t number = 0;
     for (int call = 0; call < 4; call++) fails_at(path, call);
     for (int call = 0; call < 9; call++) creation_fails_at(path, call);
+    /* A folder that may not be read can't be synced; no sync has failed. */
+    remove(path);
+    folders_are_shut = 1;
+    HOLDS(cvec_vector_create(&vector, path, 1, 1) == CVEC_DISK_OPEN && errno == EACCES && vector == NULL);
+    folders_are_shut = 0;
+    HOLDS(cvec_vector_create(&vector, path, 1, 1) == CVEC_DONE && cvec_vector_close(vector) == CVEC_DONE);
     /* So where it is opened, and at the close. */
     for (int call = 0; call < 2; call++) {
         left = call;
