@@ -202,135 +202,6 @@ static void other_types(const std::string &path) {
     HOLDS(std::count_if(vector.begin(), vector.end(), [](const large &it) { return it.words[31] == 4; }) == 40);
 }
 
-// ---- elements of any size
-
-// Bytes alone, aligned to 1.
-template <std::size_t N> struct block {
-    unsigned char bytes[N];
-};
-
-template <std::size_t N> static bool operator==(const block<N> &a, const block<N> &b) {
-    return std::memcmp(a.bytes, b.bytes, N) == 0;
-}
-
-struct triple {
-    std::uint32_t a, b, c;
-};
-
-static bool operator==(const triple &a, const triple &b) { return a.a == b.a && a.b == b.b && a.c == b.c; }
-
-struct alignas(16) wide {
-    std::uint64_t a, b;
-};
-
-static bool operator==(const wide &a, const wide &b) { return a.a == b.a && a.b == b.b; }
-
-// Bytes that differ within a row, and from row to row.
-template <std::size_t N> static block<N> block_of(int k) {
-    block<N> made{};
-    for (std::size_t at = 0; at < N; ++at) made.bytes[at] = static_cast<unsigned char>(k * 31 + static_cast<int>(at) * 7 + 1);
-    return made;
-}
-
-// A row as it is written over words that aren't zero, and read again with zeros behind it and with others.
-template <std::size_t N> static bool is_kept() {
-    using row = cvec::detail::row<block<N>>;
-    const block<N> one = block_of<N>(3);
-    std::array<std::uint64_t, row::words> words;
-    unsigned char bytes[sizeof words];
-    words.fill(UINT64_MAX);
-    row::store(one, words.data());
-    std::memcpy(bytes, words.data(), sizeof words);
-    const bool is_there = std::memcmp(bytes, one.bytes, N) == 0 && row::load(words.data()) == one;
-    const bool is_zero = std::all_of(bytes + N, bytes + sizeof words, [](unsigned char it) { return it == 0; });
-    std::memset(bytes + N, 0xa5, sizeof words - N);
-    std::memcpy(words.data(), bytes, sizeof words);
-    return is_there && is_zero && row::load(words.data()) == one && sizeof words >= N && sizeof words - N < 8;
-}
-
-template <std::size_t... N> static bool are_kept(std::index_sequence<N...>) {
-    const bool kept[] = {is_kept<N + 1>()...};
-    return std::all_of(std::begin(kept), std::end(kept), [](bool it) { return it; });
-}
-
-// Grows by these rows in each way that there is.
-template <class T> static void grow_in_each_way(cvec::concurrent_vector<T> &vector, std::vector<T> &rows) {
-    vector.push_back(rows[0]);
-    vector.emplace_back(rows[1]);
-    vector.append(rows[2]);
-    vector.grow_by({rows[3], rows[4]});
-    rows[6] = rows[5];
-    vector.grow_by(2, rows[5]);
-    const std::list<T> linked(rows.begin() + 7, rows.begin() + 20);
-    vector.grow_by(linked.begin(), linked.end());
-    vector.grow_by(rows.data() + 20, rows.data() + 40);
-    vector.grow_by(rows.begin() + 40, rows.begin() + 1200);
-    cvec::appender<T> gathered(vector, 7);
-    for (std::size_t at = 1200; at < rows.size(); ++at) gathered.push_back(rows[at]);
-}
-
-// Rows of which several pieces of an iterator are full.
-template <class T> static void are_read_again(const std::string &path, T (*made)(int)) {
-    std::vector<T> rows;
-    for (int k = 0; k < 1300; ++k) rows.push_back(made(k));
-    {
-        cvec::concurrent_vector<T> vector(path);
-        grow_in_each_way(vector, rows);
-        HOLDS(vector.size() == 1300 && std::equal(vector.begin(), vector.end(), rows.begin(), rows.end()));
-        vector.close();
-    }
-    cvec::concurrent_vector<T> vector(path, {cvec::opening::open});
-    HOLDS(vector.size() == 1300 && std::equal(vector.begin(), vector.end(), rows.begin(), rows.end()));
-    HOLDS(std::equal(vector.rbegin(), vector.rend(), rows.rbegin(), rows.rend()));
-    HOLDS(vector.front() == rows[0] && vector.at(700) == rows[700] && vector[701] == rows[701] && vector.back() == rows[1299]);
-    HOLDS(vector.begin()[1298] == rows[1298] && *(vector.begin() + 600) == rows[600]);
-    HOLDS(is_out_of_range([&] { static_cast<void>(vector.at(1300)); }));
-}
-
-static void sizes(const std::string &path) {
-    HOLDS(are_kept(std::make_index_sequence<256>()));
-    are_read_again<int>(path + ".int", [](int k) { return k * 40503 - 7; });
-    are_read_again<char>(path + ".char", [](int k) { return static_cast<char>(k * 31 + 1); });
-    are_read_again<float>(path + ".float", [](int k) { return static_cast<float>(k) * -0.5F; });
-    are_read_again<block<3>>(path + ".3", block_of<3>);
-    are_read_again<block<9>>(path + ".9", block_of<9>);
-    are_read_again<block<16>>(path + ".16", block_of<16>);
-    are_read_again<triple>(path + ".triple", [](int k) {
-        const auto a = static_cast<std::uint32_t>(k);
-        return triple{a, a * 3, ~a};
-    });
-    are_read_again<wide>(path + ".wide", [](int k) {
-        const auto a = static_cast<std::uint64_t>(k);
-        return wide{a, ~a};
-    });
-    are_read_again<std::pair<int, double>>(path + ".pair", [](int k) { return std::make_pair(-k, k * 0.25); });
-    // One word, two words, and what a growth and an iterator's 4 KiB have of them.
-    using ints = cvec::concurrent_vector<int>;
-    using nines = cvec::concurrent_vector<block<9>>;
-    HOLDS(ints::max_growth() == 131071 && ints::max_size() == 4294967296 && cvec::detail::piece<int>::most_rows == 512);
-    HOLDS(nines::max_growth() == 65535 && nines::max_size() == 2147483648 && cvec::detail::piece<block<9>>::most_rows == 256);
-}
-
-// Files that the program lists: of rows by each way to words, and of a word that isn't zero behind its row.
-static void zeros(const std::string &path) {
-    {
-        cvec::concurrent_vector<int> vector(path);
-        vector.push_back(-1);
-        const std::list<int> linked = {5, INT32_MIN};
-        vector.grow_by(linked.begin(), linked.end());
-        vector.grow_by(2, -2);
-        cvec::appender<int> gathered(vector, 2);
-        for (int k = -4; k < 0; ++k) gathered.push_back(k);
-    }
-    numbers(path).push_back(0xffffffff00000007);
-    HOLDS(cvec::concurrent_vector<int>(path).back() == 7);
-    cvec::concurrent_vector<char>(path + ".char").push_back('A');
-    cvec::concurrent_vector<float>(path + ".float").push_back(1.0F);
-    cvec::concurrent_vector<block<3>>(path + ".3").push_back({{1, 2, 3}});
-    cvec::concurrent_vector<block<9>>(path + ".9").push_back({{1, 2, 3, 4, 5, 6, 7, 8, 9}});
-    cvec::concurrent_vector<triple>(path + ".triple").push_back({1, 2, 3});
-}
-
 // ---- reading
 
 static void reading(const std::string &path) {
@@ -803,6 +674,12 @@ static void folded(const std::string &path) {
 
 // ---- algorithms that search
 
+struct triple {
+    std::uint32_t a, b, c;
+};
+
+static bool operator==(const triple &a, const triple &b) { return a.a == b.a && a.b == b.b && a.c == b.c; }
+
 // Beside one that grows rows which are sought: each is behind the end that was asked for.
 static void searching(const std::string &path) {
     cvec::concurrent_vector<triple> vector(path);
@@ -942,7 +819,7 @@ static void refusals(const std::string &path) {
     HOLDS(opens<std::uint64_t>(path, create) == CVEC_EXISTS);
     // Three words are no rows of two or of four, but one of three.
     HOLDS((opens<std::array<std::uint64_t, 2>>(path) == CVEC_WIDTH && opens<std::array<double, 4>>(path, open) == CVEC_WIDTH));
-    HOLDS(sentence_of<block<9>>(path) == "cvec: " + path + ": its records are no whole rows of 16 bytes");
+    HOLDS((sentence_of<std::array<char, 9>>(path) == "cvec: " + path + ": its records are no whole rows of 16 bytes"));
     HOLDS(opens<sample>(path, open) == CVEC_DONE && bytes_of(path) == before);
     HOLDS(opens<std::uint64_t>("/tmp") == CVEC_NOT_FILE && opens<std::uint64_t>("/dev/null") == CVEC_NOT_FILE);
     // What a stopped creation leaves is begun again, but not where the file is to be there.
@@ -1141,8 +1018,6 @@ int main(int argc, char **argv) {
         {"greatest_growth", greatest_growth},
         {"structs", structs},
         {"other_types", other_types},
-        {"sizes", sizes},
-        {"zeros", zeros},
         {"reading", reading},
         {"iterators", iterators},
         {"pieces", pieces},

@@ -55,6 +55,7 @@ compiles_without_a_warning() {
     compiler=$1
     compile_cpp -O2 -Wshadow -Wnon-virtual-dtor -fsyntax-only "$cpp_tests/behaviours.cc"
     compile_cpp -O2 -fsyntax-only "$cpp_tests/threads.cc"
+    compile_cpp -fsyntax-only "$cpp_tests/sizes.cc"
 }
 
 the_header_for_cpp_is_clean_by_gcc() (
@@ -119,7 +120,10 @@ rows_are_grown_in_cpp() (
 
 # The words of files as they are by hand.
 rows_in_cpp_have_any_size() (
-    behaves sizes zeros
+    has_cpp || exit $is_skipped
+    make_cpp
+    link_cpp -O0 -o "$work/sizes" "$cpp_tests/sizes.cc"
+    "$work/sizes" "$work/t.cv"
     run list u64 "$work/t.cv"
     printf '%s\n' 4294967295 5 2147483648 4294967294 4294967294 4294967292 4294967293 4294967294 4294967295 \
         18446744069414584327 | cmp - "$out"
@@ -235,6 +239,12 @@ has_cpp_sanitizer() {
     c++ "-fsanitize=$1" -o "$work/empty" "$work/empty.cc" 2>/dev/null && "$work/empty" || lacks "c++ has no -fsanitize=$1"
 }
 
+# Builds this program, in the shortest time.
+sanitized() {
+    compile_cpp -O0 -g "-fsanitize=$sanitizer" -fno-sanitize-recover=undefined -o "$work/$1" "$cpp_tests/$1.cc" \
+        "$work/cvec_vector.o" "$threads_library" "$kit_library" -lpthread
+}
+
 # These behaviours, and threads over some seconds with so many readers besides, without a complaint.
 no_complaint_of() {
     sanitizer=$1 readers=$2
@@ -243,10 +253,8 @@ no_complaint_of() {
     has_cpp_sanitizer "$sanitizer" || exit $is_skipped
     make_threads_library
     cc -std=c99 -O1 -g "-fsanitize=$sanitizer" -c "$c/cvec_vector.c" -o "$work/cvec_vector.o"
-    for name in behaviours threads; do
-        compile_cpp -g "-fsanitize=$sanitizer" -fno-sanitize-recover=undefined -o "$work/$name" "$cpp_tests/$name.cc" \
-            "$work/cvec_vector.o" "$threads_library" "$kit_library" -lpthread
-    done
+    sanitized behaviours
+    sanitized threads
     timeout 120 "$work/threads" "$work/t.cv" 8 3000 "$readers" >/dev/null
     for name; do
         rm -f "$work"/t.cv*
@@ -256,9 +264,12 @@ no_complaint_of() {
 }
 
 memory_is_used_rightly_in_cpp() (
-    no_complaint_of address,undefined 2 growing greatest_growth structs other_types sizes zeros reading iterators \
-        shared_iterator ranges changing changing_counts_on changing_has_seats_again changing_breaks appenders closing \
-        closing_meanwhile refusals breaking few_seats many_threads renewing
+    no_complaint_of address,undefined 2 growing greatest_growth structs other_types reading iterators shared_iterator \
+        ranges changing changing_counts_on changing_has_seats_again changing_breaks appenders closing closing_meanwhile \
+        refusals breaking few_seats many_threads renewing
+    rm -f "$work"/t.cv*
+    sanitized sizes
+    "$work/sizes" "$work/t.cv"
 )
 
 # The library isn't built for this sanitizer, which sees how it copies records, but not by what its threads are in order: so
