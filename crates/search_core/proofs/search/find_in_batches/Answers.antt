@@ -38,16 +38,18 @@ take_in-requires-in-Some-next-clause-few g c κs within =
     let lends = lent g.I.Iterator.next_gives p c.args.behind c.loop-piece.pieces c.next.new.self i.items piece (few_behind g.I.Iterator.next_gives head c.args.behind c.requires.few) i.so_far c.in-Some-next.ensures.steps in
     let few = c.requires.few (i.items ++ piece ∷ []) c.next.new.self lends in
     let all = passes_len p 0 c.loop-piece.finder.before (head ++ records_in i.items) c.loop-piece.finder.batch.1 i.passed in
-    let seen = c.loop-piece.finder.all in
-    (omega arith, omega (
-      arith,
-      few,
-      all,
-      seen,
-      length-append head (records_in (i.items ++ piece ∷ [])),
-      ap length (behind_push head i.items piece),
-      length-append (head ++ records_in i.items) piece.now,
-    ))
+    let seen = c.loop-piece.finder.all in (
+      omega arith,
+      omega (
+        arith,
+        few,
+        all,
+        seen,
+        length-append head (records_in (i.items ++ piece ∷ [])),
+        ap length (behind_push head i.items piece),
+        length-append (head ++ records_in i.items) piece.now,
+      ),
+    )
 
 pub returns-in-Some-take_in : goal.returns-in-Some-take_in
 returns-in-Some-take_in g c =
