@@ -1,7 +1,8 @@
 /* Random calls of cvec_vector.c by 1 to 16 threads, whose answers are checked by what each thread knows:
- * random_calls FILE SEED ROUNDS. A round runs in a process of its own, which closes the vector at its end, or is killed behind so
- * many calls. Then the file is opened again: it has each growth that was known to be durable, and whole growths alone. The status
- * is 0 where all is as it is promised; else a line says what isn't, and by which seed and round it is found again. */
+ * random_calls FILE SEED ROUNDS. A round runs in a process of its own. At its end calls of the whole vector are made, which leave
+ * each record as it is, and the vector is closed; or the process is killed behind so many calls. Then the file is opened again:
+ * it has each growth that was known to be durable, and whole growths alone. The status is 0 where all is as it is promised; else
+ * a line says what isn't, and by which seed and round it is found again. */
 #define _DEFAULT_SOURCE 1
 #define _POSIX_C_SOURCE 200809L
 #include "cvec_vector.h"
@@ -173,15 +174,61 @@ static void (*const calls[])(struct thread *) = {
     await_own, await_own_for, await_none, change_seat, call_common,          close_too_early,
 };
 
+/* ---- the calls of the whole vector, of what this thread has grown */
+
+static void change_to_the_same(struct thread *own) {
+    uint64_t turn;
+    const cvec_receipt *receipt = any(own, &turn);
+    const uint64_t skipped = below(&own->random, receipt->len), left = receipt->len - skipped, count = left < 1000 ? left : 1000;
+    for (uint64_t at = 0; at < count; at++) own->room[at] = record(own->name, turn, receipt->len, skipped + at);
+    HOLDS(cvec_vector_change(vector, receipt->start + skipped, own->room, count) == CVEC_DONE);
+}
+
+static void count_a_head(struct thread *own) {
+    uint64_t turn, count = 0;
+    const cvec_receipt *receipt = any(own, &turn);
+    HOLDS(cvec_vector_count(vector, record(own->name, turn, receipt->len, 0), &count) == CVEC_DONE && count == 1);
+}
+
+static void find_a_head(struct thread *own) {
+    uint64_t turn, place = 0;
+    const cvec_receipt *receipt = any(own, &turn);
+    const uint64_t from = below(&own->random, receipt->start + 1);
+    HOLDS(cvec_vector_find(vector, record(own->name, turn, receipt->len, 0), from, &place) == CVEC_DONE && place == receipt->start);
+}
+
+static void fold(struct thread *own) {
+    (void)own;
+    HOLDS(cvec_vector_fold(vector) == CVEC_DONE);
+}
+
+static void (*const whole_calls[])(struct thread *) = {change_to_the_same, change_to_the_same, count_a_head, find_a_head, fold};
+
 /* ---- a round */
+
+/* Before each call: a round that is killed may be so here. */
+static void end_perhaps(void) {
+    if (round_of->is_killed && __atomic_sub_fetch(&round_of->calls_left, 1, __ATOMIC_SEQ_CST) == 0) kill(getpid(), SIGKILL);
+}
 
 static void *run(void *work) {
     struct thread *own = work;
     while (own->calls-- > 0 && !round_of->wrong) {
-        if (round_of->is_killed && __atomic_sub_fetch(&round_of->calls_left, 1, __ATOMIC_SEQ_CST) == 0) kill(getpid(), SIGKILL);
+        end_perhaps();
         calls[below(&own->random, sizeof calls / sizeof *calls)](own);
     }
     return NULL;
+}
+
+/* Once no seat is taken. A flusher may go on. */
+static void call_alone(void) {
+    for (uint64_t left = below(&round_of->random, 2 * MOST_THREADS); left > 0 && !round_of->wrong; left--) {
+        struct thread *own = &round_of->all[below(&round_of->random, round_of->threads)];
+        if (own->turns == 0) continue;
+        end_perhaps();
+        whole_calls[below(&round_of->random, sizeof whole_calls / sizeof *whole_calls)](own);
+    }
+    if (round_of->is_killed) kill(getpid(), SIGKILL);
 }
 
 static void *flush(void *every) { return (void *)(uintptr_t)cvec_vector_run_flusher(vector, (uint64_t)(uintptr_t)every); }
@@ -211,14 +258,16 @@ static void live(const char *path) {
     for (unsigned k = 0; k < round_of->threads; k++) {
         pthread_join(round_of->all[k].id, NULL);
         HOLDS(cvec_vector_close_seat(round_of->all[k].seat) == CVEC_DONE);
-        free(round_of->all[k].room);
     }
+    HOLDS(cvec_vector_close_seat(common) == CVEC_DONE);
+    call_alone();
+    for (unsigned k = 0; k < round_of->threads; k++) free(round_of->all[k].room);
     if (round_of->has_flusher) {
         HOLDS(cvec_vector_stop_flusher(vector) == CVEC_DONE);
         pthread_join(flusher, &flushed);
         HOLDS(flushed == NULL);
     }
-    HOLDS(cvec_vector_close_seat(common) == CVEC_DONE && cvec_vector_close(vector) == CVEC_DONE);
+    HOLDS(cvec_vector_close(vector) == CVEC_DONE);
     fflush(stdout);
 }
 
@@ -285,7 +334,7 @@ static void check_file(const char *path) {
 /* ---- all rounds */
 
 static void choose(void) {
-    uint64_t *random = &round_of->random;
+    uint64_t *random = &round_of->random, calls_of_all = MOST_THREADS;
     memset(round_of->all, 0, sizeof round_of->all);
     round_of->threads = 1 + (unsigned)below(random, MOST_THREADS);
     round_of->seats = round_of->threads + 1;
@@ -297,8 +346,9 @@ static void choose(void) {
         round_of->all[k].random = below(random, UINT64_MAX);
         round_of->all[k].calls = 1 + below(random, MOST_CALLS);
         round_of->all[k].size = round_of->base;
+        calls_of_all += round_of->all[k].calls;
     }
-    round_of->calls_left = 1 + below(random, round_of->all[0].calls);
+    round_of->calls_left = 1 + below(random, calls_of_all);
 }
 
 static void run_round(const char *path) {
