@@ -114,33 +114,41 @@ fn count_meeting<E: Threads + Wait + Sync>(rt: &E, vault: &Vault<u64, RamDisk>) 
     (count, counting.has_met())
 }
 
-/// Both, of a vault of so many records.
-fn meet<E: Threads + Wait + Sync>(
-    rt: &E,
-    alloc: Global,
-    count: u64,
-) -> Option<(bool, (u64, bool))> {
+/// So many records one command lengthens a vault by. Eight times as many are several slices.
+const STEP: u64 = 131_000;
+
+/// Lengthens the vault by so many commands, each by copies of this record.
+fn lengthen(vault: &mut Vault<u64, RamDisk>, commands: u64, record: u64) -> Option<()> {
+    for _ in 0..commands {
+        let size = vault.len() + STEP;
+        vault.resize(size, record).ok()?;
+    }
+    Some(())
+}
+
+/// Both, of a new vault.
+fn meet<E: Threads + Wait + Sync>(rt: &E, alloc: Global) -> Option<(bool, (u64, bool))> {
     let mut vault = new_vault(alloc)?;
-    // Without these records none is counted.
-    let _ = vault.resize(count, 5);
-    let changed = changes_meet(rt, &mut vault, count);
+    lengthen(&mut vault, 1, 5)?;
+    let changed = changes_meet(rt, &mut vault, STEP);
+    lengthen(&mut vault, 7, 5)?;
     Some((changed, count_meeting(rt, &vault)))
 }
 
 #[test]
 fn two_threads_work_at_once(rt: HostRuntime) {
-    let met = meet(&rt, rt.alloc(), 131_000);
-    assert_eq!(rt; met, Some((true, (131_000, true))));
+    let met = meet(&rt, rt.alloc());
+    assert_eq!(rt; met, Some((true, (1_048_000, true))));
 }
 
-/// What two threads look for that isn't there, and whether at once. The first three slices are searched by one thread, so
-/// these records are 0.
+/// What two threads look for that isn't there, and whether at once. The front and the first three slices are searched by one
+/// thread, so these records are 0.
 fn find_meeting<E: Threads + Wait + Sync>(
     rt: &E,
     vault: &mut Vault<u64, RamDisk>,
 ) -> Option<(Option<u64>, bool)> {
-    vault.resize(49_152, 0).ok()?;
-    vault.resize(131_000, 5).ok()?;
+    lengthen(vault, 4, 0)?;
+    lengthen(vault, 4, 5)?;
     let finding = Meeting::new();
     let found = vault.find_first(rt, &Nothing { meeting: &finding });
     Some((found, finding.has_met()))
