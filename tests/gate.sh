@@ -51,6 +51,8 @@ take_edits_back() {
 # Where the library for C can't be built over what was proved, the tests that take it have it proved once more.
 prove_all() {
     lay_edits_out
+    RT_JOBS=${RT_JOBS-$("$top/tools/lanes")}
+    export RT_JOBS
     count_of rt ci
     take_edits_back
     [ "$failed" -ne 0 ] || "$top/tests/c_library" || :

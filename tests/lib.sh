@@ -221,6 +221,9 @@ is_shown_as_written() {
     cmp "$work/lines" "$out"
 }
 
+# The number of a processor that this process may use.
+first_processor() { taskset -cp $$ | sed 's/.*: *\([0-9]*\).*/\1/'; }
+
 # ---- the library for threads of C, built as docs/use/threads.md says
 
 # Tries this command again and again until it succeeds, for a minute at least; then the test fails.

@@ -234,6 +234,18 @@ a_library_that_fails_is_told_and_not_left() (
     [ ! -e "$there/crates/cvec/out" ]
 )
 
+# One crate a processor, unless the caller says otherwise.
+as_many_crates_are_proved_at_once_as_there_are_processors() (
+    seeming_repository
+    sed -i "1a echo \"lanes \$RT_JOBS\" >'$there/lanes'" "$there/bin/rt"
+    PATH=$there/bin:/usr/bin:/bin
+    unset RT_JOBS
+    taskset -c "$(first_processor)" "$there/build" cvec 2>"$err"
+    [ "$(cat "$there/lanes")" = 'lanes 1' ]
+    RT_JOBS=3 "$there/build" cvec 2>"$err"
+    [ "$(cat "$there/lanes")" = 'lanes 3' ]
+)
+
 # 'rt lib' runs over the noted libraries of the copy. Where it fails, nothing is left here.
 a_static_library_is_built_over_what_is_proved() (
     seeming_repository

@@ -176,13 +176,16 @@ the_gate_and_the_tests_are_counted_together() (
     seeming_tests
     cp "$top/test" "$there"
     cp "$top/tests/gate.sh" "$there/tests"
-    mkdir -p "$there/bin" "$there/crates/one" "$there/tests/wrong/one"
+    mkdir -p "$there/bin" "$there/crates/one" "$there/tests/wrong/one" "$there/tools"
+    cp "$top/tools/lanes" "$top/tools/crates.py" "$there/tools"
     : >"$there/tests/wrong/one/a.edit"
-    printf '#!/bin/sh\n[ "$1" = ci ] && [ -e crates/one/must-fail/a.edit ] && echo "3 passed, 0 failed"\n' >"$there/bin/rt"
+    printf '#!/bin/sh\necho "lanes $RT_JOBS"\n[ "$1" = ci ] && [ -e crates/one/must-fail/a.edit ] && echo "3 passed, 0 failed"\n' >"$there/bin/rt"
     chmod +x "$there/bin/rt"
+    unset RT_JOBS
     status=0
-    PATH=$there/bin:$PATH "$there/test" >"$out" || status=$?
+    PATH=$there/bin:$PATH taskset -c "$(first_processor)" "$there/test" >"$out" || status=$?
     [ "$status" -eq 1 ]
+    grep -qx 'lanes 1' "$out"
     [ "$(tail -n 1 "$out")" = '5 passed, 1 failed' ]
     [ ! -e "$there/crates/one/must-fail" ]
     rm "$there/tests/shell/second.sh"
