@@ -224,8 +224,6 @@ is_shown_as_written() {
 # The number of a processor that this process may use.
 first_processor() { taskset -cp $$ | sed 's/.*: *\([0-9]*\).*/\1/'; }
 
-# ---- the library for threads of C, built as docs/use/threads.md says
-
 # Tries this command again and again until it succeeds, for a minute at least; then the test fails.
 await() {
     tries=0
@@ -235,6 +233,8 @@ await() {
         sleep 0.05
     done
 }
+
+# ---- the library for threads of C, built as docs/use/threads.md says
 
 threads_library=$top/crates/cvec_threads/out/libcvec_threads.a
 

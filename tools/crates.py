@@ -13,7 +13,7 @@ BYTES_OF_A_PROOF = 4 << 30
 
 def lanes():
     """How many crates `rt ci` is to prove side by side (its RT_JOBS): one a processor, as far as the memory goes. By itself it
-    gives one crate several jobs where others wait for it, and these took longer than one, in time and in processors."""
+    gives a crate several jobs where no others are ready, and two took a fifth more of the processors than one."""
     with open("/proc/meminfo", encoding="utf-8") as file:
         free = 1024 * int(re.search(r"MemAvailable:\s+(\d+)", file.read())[1])
     return max(1, min(len(os.sched_getaffinity(0)), free // BYTES_OF_A_PROOF))
