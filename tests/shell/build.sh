@@ -8,7 +8,7 @@ seeming_repository() {
     there=$work/there
     mkdir -p "$there/crates/cvec/src" "$there/bin" "$there/tools"
     cp "$top/cvec" "$top/build" "$there"
-    cp "$top/tools/crates.py" "$there/tools"
+    cp "$top/tools/crates.py" "$top/tools/prove" "$there/tools"
     echo 'cvec: clap' >"$there/crates.txt"
     touch -d '1 hour ago' "$there/crates.txt" "$there/HANDLES" "$there/crates/cvec/src/main.rt"
     cat >"$there/bin/rt" <<'RT'
@@ -244,6 +244,74 @@ as_many_crates_are_proved_at_once_as_there_are_processors() (
     [ "$(cat "$there/lanes")" = 'lanes 1' ]
     RT_JOBS=3 "$there/build" cvec 2>"$err"
     [ "$(cat "$there/lanes")" = 'lanes 3' ]
+)
+
+# A toolchain that divides its work as the real one does: over a crate 'low', 'long' and then 'last' wait for one another,
+# as 'short' and then 'last' do; beside them stand as many crates 'wide' as it is told to have.
+dividing_toolchain() {
+    cat >"$there/bin/rt" <<'RT'
+#!/usr/bin/env python3
+import os
+import sys
+
+
+class Crate:
+    def compile_by(self, backend, words, to):
+        print(f"compiled by {backend}")
+        return 0
+
+
+def processors():
+    return 4
+
+
+def in_lanes(tasks):
+    return {key: task[-1]({}, 1) for key, task in tasks.items()}
+
+
+def ci():
+    lines = {"low": 1000, "long": 3000, "short": 100, "last": 600}
+    waits = {"low": [], "long": ["low"], "short": ["low"], "last": ["long", "short"]}
+    for at in range(int(os.environ["WIDE"])):
+        lines[f"wide{at}"], waits[f"wide{at}"] = 1000, ["low"]
+    tasks = {}
+    for name in lines:
+        for step in ("proof", "tests", "edits"):
+            call = lambda given, jobs, it=name, of=step: print(f"{it} {of} {jobs}", flush=True)
+            tasks[name, step] = [(it, "proof") for it in waits[name]], lines[name], 0, call
+    in_lanes(tasks)
+    Crate().compile_by("llvm", [], "out")
+    Crate().compile_by("rattle", [], "out")
+    return 0
+
+
+if __name__ == "__main__":
+    sys.exit(f"rt {sys.argv[1:]} is not to be run")
+RT
+}
+
+# 'low long last' is the longest chain. What isn't proof has the jobs that the toolchain gives it.
+the_longest_chain_gets_more_jobs() (
+    seeming_repository
+    dividing_toolchain
+    jobs_are() {
+        PATH=$there/bin:/usr/bin:/bin WIDE=$1 RT_JOBS=$2 "$there/tools/prove" >"$out"
+        shift 2
+        [ "$(grep -E '^(low|long|short|last|wide0) proof' "$out" | paste -sd,)" = "$*" ]
+        [ "$(grep -c -E '^[a-z0-9]+ (tests|edits) 1$' "$out")" -eq "$(grep -c -E ' (tests|edits) ' "$out")" ]
+    }
+    jobs_are 0 4 'low proof 4,long proof 4,short proof 1,last proof 4'
+    jobs_are 3 4 'low proof 4,long proof 3,short proof 1,last proof 2,wide0 proof 1'
+    jobs_are 9 4 'low proof 4,long proof 2,short proof 1,last proof 2,wide0 proof 1'
+    jobs_are 0 2 'low proof 2,long proof 2,short proof 1,last proof 2'
+    jobs_are 0 1 'low proof 1,long proof 1,short proof 1,last proof 1'
+)
+
+a_program_is_compiled_once() (
+    seeming_repository
+    dividing_toolchain
+    PATH=$there/bin:/usr/bin:/bin WIDE=0 RT_JOBS=4 "$there/tools/prove" >"$out"
+    [ "$(grep '^compiled' "$out")" = 'compiled by llvm' ]
 )
 
 # 'rt lib' runs over the noted libraries of the copy. Where it fails, nothing is left here.
