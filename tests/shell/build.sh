@@ -301,9 +301,7 @@ the_longest_chain_gets_more_jobs() (
         [ "$(grep -c -E '^[a-z0-9]+ (tests|edits) 1$' "$out")" -eq "$(grep -c -E ' (tests|edits) ' "$out")" ]
     }
     jobs_are 0 4 'low proof 4,long proof 4,short proof 1,last proof 4'
-    jobs_are 3 4 'low proof 4,long proof 3,short proof 1,last proof 2,wide0 proof 1'
-    jobs_are 9 4 'low proof 4,long proof 2,short proof 1,last proof 2,wide0 proof 1'
-    jobs_are 0 2 'low proof 2,long proof 2,short proof 1,last proof 2'
+    jobs_are 9 3 'low proof 3,long proof 3,short proof 1,last proof 3,wide0 proof 1'
     jobs_are 0 1 'low proof 1,long proof 1,short proof 1,last proof 1'
 )
 
