@@ -7,7 +7,8 @@
 //
 //     grow threads= block= n=                             each thread grows by copies of a ready block of its own
 //     append threads= block= n=                           single records, each through an appender of a block
-//     durable dir= mode= threads= block= n= box_ms=       wait1, wait64: each waits after 1 or 64 blocks; flow: at the end
+//     durable dir= mode= threads= block= n= box_ms=       wait1, wait64: each waits after 1 or 64 blocks; flow: nobody waits
+//                                                         before the end, and one more thread commits meanwhile
 //
 // Each vector has a file: in the folder, or among the temporary files. That what was grown reaches it is timed by `durable`.
 #include "cvec/concurrent_vector.hpp"
@@ -86,7 +87,7 @@ class Made {
 
     static cvec::options wanted(unsigned threads) {
         cvec::options options;
-        options.seats = std::uint16_t(threads + 1);
+        options.seats = std::uint16_t(threads + 2);
         return options;
     }
 
@@ -159,6 +160,31 @@ void append() {
     tell("append", threads, each * threads, seconds);
 }
 
+// A thread that commits again and again while this lives, or none.
+class Committer {
+  public:
+    Committer(Vector &vector, bool is_wanted) : vector_(vector) {
+        if (is_wanted) thread_ = std::thread([this] { run(); });
+    }
+    ~Committer() {
+        if (!thread_.joinable()) return;
+        vector_.stop_flusher();
+        thread_.join();
+    }
+
+  private:
+    // What is refused is told to who waits too.
+    void run() {
+        try {
+            vector_.run_flusher(std::chrono::milliseconds(1));
+        } catch (const cvec::error &) {
+        }
+    }
+
+    Vector &vector_;
+    std::thread thread_;
+};
+
 double micros_at(std::vector<double> &times, std::size_t hundredths) {
     return times.empty() ? 0 : 1e6 * times[std::min(times.size() - 1, times.size() * hundredths / 100)];
 }
@@ -174,6 +200,7 @@ void durable() {
     std::vector<std::vector<double>> rounds(threads);
     Made made(threads);
     Vector &vector = made.vector();
+    Committer committer(vector, !waits);
     auto round = [&](unsigned thread) {
         auto begun = Clock::now();
         cvec::growth last{};

@@ -18,15 +18,19 @@
 struct cvec_vector {
     int fd;
     pid_t process;
-    pthread_mutex_t mutex; /* guards all below but `begun`, and `committer` and `made`, which who commits has */
+    pthread_mutex_t mutex;   /* guards all below but `committer` and `made`, which who commits has */
     pthread_cond_t settled;  /* a commit has ended */
+    pthread_cond_t returned; /* each that it woke has come again */
     pthread_cond_t flushing; /* a loop of a flusher is to end, or has */
     cvec_handle phase, committer;
-    uint64_t made;     /* of the calls that are listed so many are made */
-    uint64_t durable;  /* so many growths are */
-    uint64_t begun;    /* by __atomic: so many growths there are, or are coming */
-    uint32_t seats;    /* that aren't closed */
-    uint32_t flushers; /* whose loops run */
+    uint64_t made;    /* of the calls that are listed so many are made */
+    uint64_t durable; /* so many growths are */
+    uint64_t begun;   /* so many growths there are of seats that are closed */
+    cvec_vector_seat *first; /* of the seats that aren't closed */
+    uint32_t seats;          /* so many these are */
+    uint32_t flushers;       /* whose loops run */
+    uint32_t waiting;        /* so many wait for the commit that is under way */
+    uint32_t woken;          /* of those that the last one woke, and who made it, so many haven't come again */
     uint16_t most_seats;
     bool committing, stopped; /* stopped: no loop of a flusher goes on */
     bool broken;              /* is written with the mutex, and by __atomic */
@@ -37,15 +41,28 @@ struct cvec_vector {
 struct cvec_vector_seat {
     cvec_vector *vector;
     cvec_handle grower;
-    bool busy; /* by __atomic */
+    uint64_t begun; /* by __atomic: so many growths of this seat there are, or are coming */
+    size_t room;    /* so many bytes are left of the memory that was asked for at once */
+    cvec_vector_seat *next; /* of those that aren't closed: with the vector's mutex */
+    bool busy;              /* by __atomic */
 };
 
 /* What is lent in place of no records. */
 static const uint64_t no_records[1];
 static uint64_t no_room[1];
 
-/* The seats of one vector, and for how many nanoseconds a growth that came second sleeps at first and at most. */
-enum { MOST_SEATS = 64, FIRST_NAP = 2000, LONGEST_NAP = 200000 };
+/* The seats of one vector, and how far apart in memory lies what no two processors take from one another. */
+enum { MOST_SEATS = 64, APART = 128 };
+
+/* How often a growth that came second is tried again at once; then for how many nanoseconds it sleeps at first, and at most. */
+enum { TRIES_AT_ONCE = 3, FIRST_NAP = 2000, LONGEST_NAP = 200000 };
+
+/* In bytes: how much memory is asked for at once for growths, what one takes beside its records, how large those are that are
+ * small, and those that ask for theirs alone. */
+enum { ROOM = 120 * 1024, BESIDE_RECORDS = 96, SMALL_GROWTH = 512, LARGE_GROWTH = 64 * 1024 };
+
+/* For how many nanoseconds who commits waits at most for those that the last commit woke. */
+enum { LONGEST_GATHERING = 100000 };
 
 /* How often a lock is tried while readers share it: for 10 seconds, each 20 milliseconds. */
 enum { LOCK_TURNS = 500, LOCK_WAIT = 20000000 };
@@ -206,6 +223,19 @@ static uint32_t sync_folder(const char *path) {
 
 /* ---- commits */
 
+/* The moment so long from now on, by the clock of the conditions; the nanoseconds are less than a second. */
+static struct timespec moment_behind(time_t seconds, long nanoseconds) {
+    struct timespec moment;
+    clock_gettime(CLOCK_MONOTONIC, &moment);
+    moment.tv_sec += seconds;
+    moment.tv_nsec += nanoseconds;
+    if (moment.tv_nsec >= 1000000000) {
+        moment.tv_sec++;
+        moment.tv_nsec -= 1000000000;
+    }
+    return moment;
+}
+
 /* Makes the listed call of that number. */
 static uint32_t make_call(cvec_vector *vector, uint64_t number) {
     cvec_call call;
@@ -243,16 +273,33 @@ static bool is_lasting(uint32_t answer) {
     return answer != CVEC_DONE && answer != CVEC_MEMORY && answer != CVEC_FILE_FULL;
 }
 
+/* With the mutex: one more waits for a commit, or makes it. */
+static void come(cvec_vector *vector) {
+    if (vector->woken > 0 && --vector->woken == 0) pthread_cond_signal(&vector->returned);
+}
+
+/* With the mutex: waits for those that the last commit woke, 100 microseconds at most. What they grow by in between is then in
+ * the next group: else half of them would always wait for the other half. */
+static void await_woken(cvec_vector *vector) {
+    const struct timespec until = moment_behind(0, LONGEST_GATHERING);
+    while (vector->woken > 0 && pthread_cond_timedwait(&vector->returned, &vector->mutex, &until) == 0) {}
+    vector->woken = 0;
+}
+
 /* With the mutex, while nobody commits: commits one group for all who wait. Meanwhile it hasn't got the mutex. */
 static uint32_t lead(cvec_vector *vector, uint64_t *growths) {
     uint64_t durable = 0;
     vector->committing = true;
+    come(vector);
+    if (vector->woken > 0) await_woken(vector);
     pthread_mutex_unlock(&vector->mutex);
     uint32_t answer = commit(vector, growths, &durable);
     pthread_mutex_lock(&vector->mutex);
     vector->committing = false;
     if (answer == CVEC_DONE) vector->durable = durable;
     if (is_lasting(answer)) __atomic_store_n(&vector->broken, true, __ATOMIC_RELAXED);
+    vector->woken = vector->waiting > 0 ? vector->waiting + 1 : 0;
+    vector->waiting = 0;
     pthread_cond_broadcast(&vector->settled);
     return answer;
 }
@@ -302,8 +349,7 @@ static uint32_t share(cvec_vector *vector) {
         return told(vector, answer);
     }
     vector->alone = vector->full = false;
-    vector->durable = 0;
-    __atomic_store_n(&vector->begun, 0, __ATOMIC_RELAXED);
+    vector->durable = vector->begun = 0;
     return answer;
 }
 
@@ -390,6 +436,7 @@ static void give_up(cvec_vector *vector) {
     cvec_phase_close(&vector->committer);
     if (vector->fd >= 0) close_quietly(vector->fd);
     pthread_cond_destroy(&vector->settled);
+    pthread_cond_destroy(&vector->returned);
     pthread_cond_destroy(&vector->flushing);
     pthread_mutex_destroy(&vector->mutex);
     free(vector);
@@ -406,6 +453,7 @@ static cvec_vector *vector_of(void) {
     pthread_condattr_setclock(&steady, CLOCK_MONOTONIC);
     pthread_mutex_init(&vector->mutex, NULL);
     pthread_cond_init(&vector->settled, &steady);
+    pthread_cond_init(&vector->returned, &steady);
     pthread_cond_init(&vector->flushing, &steady);
     pthread_condattr_destroy(&steady);
     return vector;
@@ -522,15 +570,40 @@ uint32_t cvec_vector_close(cvec_vector *vector) {
 
 /* ---- seats */
 
+/* Threads write to their seats with each call. */
+static cvec_vector_seat *new_seat(cvec_vector *vector) {
+    void *made = NULL;
+    if (posix_memalign(&made, APART, (sizeof(cvec_vector_seat) + APART - 1) / APART * APART) != 0) return NULL;
+    cvec_vector_seat *seat = made;
+    memset(seat, 0, sizeof *seat);
+    seat->vector = vector;
+    return seat;
+}
+
+/* With the mutex. */
+static void list_seat(cvec_vector *vector, cvec_vector_seat *seat) {
+    seat->next = vector->first;
+    vector->first = seat;
+    vector->seats++;
+}
+
+/* With the mutex. What was grown by the seat is counted on. */
+static void drop_seat(cvec_vector *vector, cvec_vector_seat *seat) {
+    cvec_vector_seat **at = &vector->first;
+    while (*at != seat) at = &(*at)->next;
+    *at = seat->next;
+    vector->begun += seat->begun;
+    vector->seats--;
+}
+
 uint32_t cvec_vector_take_seat(cvec_vector *vector, cvec_vector_seat **taken) {
     *taken = NULL;
     if (vector->process != this_process()) return CVEC_FORKED;
-    cvec_vector_seat *seat = calloc(1, sizeof *seat);
+    cvec_vector_seat *seat = new_seat(vector);
     if (seat == NULL) return CVEC_MEMORY;
-    seat->vector = vector;
     pthread_mutex_lock(&vector->mutex);
     uint32_t answer = seat_of(vector, &seat->grower);
-    if (answer == CVEC_DONE) vector->seats++;
+    if (answer == CVEC_DONE) list_seat(vector, seat);
     pthread_mutex_unlock(&vector->mutex);
     if (answer == CVEC_DONE)
         *taken = seat;
@@ -552,26 +625,57 @@ uint32_t cvec_vector_close_seat(cvec_vector_seat *seat) {
     if (answer != CVEC_DONE) return answer;
     cvec_vector *vector = seat->vector;
     cvec_phase_close(&seat->grower);
-    free(seat);
     pthread_mutex_lock(&vector->mutex);
-    vector->seats--;
+    drop_seat(vector, seat);
     pthread_mutex_unlock(&vector->mutex);
+    free(seat);
     return CVEC_DONE;
 }
 
-static uint32_t begin_growth(cvec_vector *vector) {
-    if (__atomic_load_n(&vector->broken, __ATOMIC_RELAXED)) return CVEC_BROKEN;
-    __atomic_fetch_add(&vector->begun, 1, __ATOMIC_RELAXED);
+/* For who has the seat: it alone counts. */
+static void count_begun(cvec_vector_seat *seat, uint64_t count) { __atomic_store_n(&seat->begun, count, __ATOMIC_RELAXED); }
+
+static uint32_t begin_growth(cvec_vector_seat *seat) {
+    if (__atomic_load_n(&seat->vector->broken, __ATOMIC_RELAXED)) return CVEC_BROKEN;
+    count_begun(seat, seat->begun + 1);
     return CVEC_DONE;
 }
 
 /* A growth that has begun was refused. */
-static void take_back(cvec_vector *vector, uint32_t answer) {
-    __atomic_fetch_sub(&vector->begun, 1, __ATOMIC_RELAXED);
+static void take_back(cvec_vector_seat *seat, uint32_t answer) {
+    cvec_vector *vector = seat->vector;
+    count_begun(seat, seat->begun - 1);
     if (answer != CVEC_FULL) return;
     pthread_mutex_lock(&vector->mutex);
     vector->full = true;
     pthread_mutex_unlock(&vector->mutex);
+}
+
+/* The first touch of a page is dear: for small growths all of them are touched by one call. In that, threads would wait for one
+ * another, so that larger growths touch theirs themselves. */
+static void touch(uint8_t *room) {
+#ifdef MADV_POPULATE_WRITE
+    const uintptr_t page = (uintptr_t)sysconf(_SC_PAGESIZE), begin = (uintptr_t)room;
+    const size_t skipped = (page - begin % page) % page;
+    madvise(room + skipped, (ROOM - skipped) / page * page, MADV_POPULATE_WRITE);
+#else
+    (void)room;
+#endif
+}
+
+/* The library asks for memory growth by growth. glibc's malloc enlarges a thread's part of the heap page by page then, each time
+ * by a call of the system in which all threads wait for one another. So much is asked for at once, and given back: it stays
+ * with that part of the heap, where it is less than 128 KiB. */
+static void make_room(cvec_vector_seat *seat, size_t count) {
+    if (count > LARGE_GROWTH / sizeof(uint64_t)) return;
+    const size_t len = count * sizeof(uint64_t) + BESIDE_RECORDS;
+    if (seat->room < len) {
+        uint8_t *volatile room = malloc(ROOM); /* volatile: else a compiler leaves out both calls */
+        if (room != NULL && len <= SMALL_GROWTH + BESIDE_RECORDS) touch(room);
+        free(room);
+        seat->room = ROOM;
+    }
+    seat->room -= len;
 }
 
 /* Sleeps so that who came first can go on, each time longer. */
@@ -583,12 +687,14 @@ static void give_way(long *nap) {
 
 static uint32_t grow_in_turn(cvec_vector_seat *seat, const uint64_t *records, size_t count, cvec_receipt *receipt) {
     uint64_t size;
-    for (long nap = FIRST_NAP;; give_way(&nap)) {
+    long nap = FIRST_NAP;
+    for (int tries = 1;; tries++) {
         uint32_t answer = cvec_phase_grow(&seat->grower, records, count, receipt);
         if (answer != CVEC_AGAIN) return answer;
         /* Were the growth that came first none of this vector's, no turn would come. */
         answer = cvec_phase_size(&seat->grower, &size);
         if (answer != CVEC_DONE) return answer;
+        if (tries > TRIES_AT_ONCE) give_way(&nap);
     }
 }
 
@@ -596,10 +702,11 @@ uint32_t cvec_vector_grow(cvec_vector_seat *seat, const uint64_t *records, size_
     cvec_receipt unasked;
     uint32_t answer = enter(seat);
     if (answer != CVEC_DONE) return answer;
-    answer = begin_growth(seat->vector);
+    answer = begin_growth(seat);
     if (answer == CVEC_DONE) {
+        make_room(seat, count);
         answer = grow_in_turn(seat, count > 0 ? records : no_records, count, receipt ? receipt : &unasked);
-        if (answer != CVEC_DONE) take_back(seat->vector, answer);
+        if (answer != CVEC_DONE) take_back(seat, answer);
     }
     leave_seat(seat);
     return answer;
@@ -607,18 +714,10 @@ uint32_t cvec_vector_grow(cvec_vector_seat *seat, const uint64_t *records, size_
 
 /* ---- waiting, and who commits for nobody */
 
-/* So many milliseconds from now on, by the clock of the conditions. */
+/* So many milliseconds from now on. */
 static struct timespec moment_in(uint64_t milliseconds) {
-    struct timespec moment;
     if (milliseconds > LONGEST_WAIT) milliseconds = LONGEST_WAIT;
-    clock_gettime(CLOCK_MONOTONIC, &moment);
-    moment.tv_sec += (time_t)(milliseconds / 1000);
-    moment.tv_nsec += (long)(milliseconds % 1000) * 1000000;
-    if (moment.tv_nsec >= 1000000000) {
-        moment.tv_sec++;
-        moment.tv_nsec -= 1000000000;
-    }
-    return moment;
+    return moment_behind((time_t)(milliseconds / 1000), (long)(milliseconds % 1000) * 1000000);
 }
 
 /* No moment never passes. */
@@ -631,10 +730,12 @@ static bool has_passed(const struct timespec *moment) {
 
 /* With the mutex: until a commit of another has ended, and no longer than to this moment. */
 static void await_other(cvec_vector *vector, const struct timespec *until) {
+    come(vector);
+    vector->waiting++;
     if (until == NULL)
         pthread_cond_wait(&vector->settled, &vector->mutex);
-    else
-        pthread_cond_timedwait(&vector->settled, &vector->mutex, until);
+    else if (pthread_cond_timedwait(&vector->settled, &vector->mutex, until) == ETIMEDOUT && vector->waiting > 0)
+        vector->waiting--;
 }
 
 /* With the mutex: waits until so many growths are durable, for others no longer than to this moment. */
@@ -671,10 +772,18 @@ uint32_t cvec_vector_await_for(cvec_vector_seat *seat, uint64_t number, uint64_t
     return await_until(seat, number, &until);
 }
 
+/* With the mutex: so many growths there are, or are coming. */
+static uint64_t all_begun(const cvec_vector *vector) {
+    uint64_t count = vector->begun;
+    for (const cvec_vector_seat *seat = vector->first; seat != NULL; seat = seat->next)
+        count += __atomic_load_n(&seat->begun, __ATOMIC_RELAXED);
+    return count;
+}
+
 /* With the mutex: commits what there is now, by as many commits as that takes. While it waits for another's, growths may be
  * counted from 0 again, and the committer become a vault, which has none to commit. */
 static uint32_t flush(cvec_vector *vector) {
-    const uint64_t wanted = __atomic_load_n(&vector->begun, __ATOMIC_RELAXED);
+    const uint64_t wanted = all_begun(vector);
     uint64_t growths = 1;
     uint32_t answer = CVEC_DONE;
     while (answer == CVEC_DONE && growths > 0 && vector->durable < wanted && !vector->stopped && !vector->alone) {

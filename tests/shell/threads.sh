@@ -133,6 +133,10 @@ a_vector_in_c_commits_for_all_who_wait() (
     a_behaviour_of_a_vector_in_c leader
 )
 
+a_commit_in_c_waits_for_those_that_the_last_one_woke() (
+    a_behaviour_of_a_vector_in_c gathers
+)
+
 a_wait_in_c_has_a_deadline() (
     a_behaviour_of_a_vector_in_c late
     rm "$work/t.cv"

@@ -24,6 +24,7 @@ static int mallocs = -1; /* the requests for memory that pass before one is refu
 
 static int waits, timed_waits; /* how many waits were begun: without a deadline, and with one */
 static int dozing;
+static int is_slow; /* a sync takes a millisecond more, and who waits for so long waits a tenth of a second more */
 
 /* While the gate is shut, who syncs is held before it. */
 static pthread_mutex_t gate = PTHREAD_MUTEX_INITIALIZER;
@@ -76,8 +77,14 @@ static int test_wait(pthread_cond_t *condition, pthread_mutex_t *mutex) {
 }
 
 static int test_timedwait(pthread_cond_t *condition, pthread_mutex_t *mutex, const struct timespec *until) {
+    struct timespec moment = *until;
     __atomic_add_fetch(&timed_waits, 1, __ATOMIC_SEQ_CST);
-    return pthread_cond_timedwait(condition, mutex, until);
+    moment.tv_nsec += is_slow ? 100000000 : 0;
+    if (moment.tv_nsec >= 1000000000) {
+        moment.tv_sec++;
+        moment.tv_nsec -= 1000000000;
+    }
+    return pthread_cond_timedwait(condition, mutex, &moment);
 }
 
 static int fails(void) { return left >= 0 && left-- == 0; }
@@ -100,6 +107,7 @@ static ssize_t test_pwrite(int fd, const void *bytes, size_t len, off_t at) {
 static int test_fdatasync(int fd) {
     if (is_interrupted()) return -1;
     pass_gate();
+    if (is_slow) nap();
     __atomic_add_fetch(&syncs, 1, __ATOMIC_SEQ_CST);
     if (!fails()) return fdatasync(fd);
     errno = EIO;
@@ -645,6 +653,38 @@ static void leads(const char *path) {
     HOLDS(found(path) == 8);
 }
 
+/* Who commits waits for those that the last commit woke: of four threads that wait for each growth, each commit has one of all. */
+enum { GATHERED = 40 };
+
+static void *grow_and_wait(void *work) {
+    cvec_vector_seat *own = work;
+    const uint64_t record = 7;
+    cvec_receipt receipt;
+    for (int k = 0; k < GATHERED; k++) {
+        HOLDS(cvec_vector_grow(own, &record, 1, &receipt) == CVEC_DONE);
+        HOLDS(cvec_vector_await(own, receipt.number) == CVEC_DONE);
+    }
+    return NULL;
+}
+
+static void gathers(const char *path) {
+    cvec_vector_seat *all[4];
+    pthread_t threads[4];
+    make(path, 4);
+    all[0] = seat;
+    for (int k = 1; k < 4; k++) HOLDS(cvec_vector_take_seat(vector, &all[k]) == CVEC_DONE);
+    is_slow = 1;
+    const int before = syncs;
+    for (int k = 0; k < 4; k++) pthread_create(&threads[k], NULL, grow_and_wait, all[k]);
+    for (int k = 0; k < 4; k++) pthread_join(threads[k], NULL);
+    is_slow = 0;
+    HOLDS(settled() == 4 * GATHERED);
+    /* Two syncs each; those at the begin and at the end may have fewer. */
+    HOLDS((syncs - before) / 2 < GATHERED * 4 / 3);
+    for (int k = 0; k < 4; k++) HOLDS(cvec_vector_close_seat(all[k]) == CVEC_DONE);
+    HOLDS(cvec_vector_close(vector) == CVEC_DONE);
+}
+
 /* In version 1 the second growth takes a commit of its own, which isn't begun where the time has passed. */
 static void late_between(const char *path) {
     static uint64_t many[131071];
@@ -685,8 +725,9 @@ static void until_settled(uint64_t count) {
 
 static void flushes(const char *path) {
     pthread_t flusher, second, resting;
+    cvec_vector_seat *other;
     uint64_t number = 0;
-    make(path, 1);
+    make(path, 2);
     begin_flusher(&flusher, &soon);
     begin_flusher(&second, &at_once);
     begin_flusher(&resting, &never);
@@ -699,12 +740,21 @@ static void flushes(const char *path) {
     HOLDS(cvec_vector_close(vector) == CVEC_BUSY);
     HOLDS(grow(50, &number) == CVEC_DONE);
     until_settled(51);
+    /* So are the growths of each seat, also of one that is closed. */
+    shut_gate(1);
+    HOLDS(grow(51, &number) == CVEC_DONE);
+    until_held();
+    other = seat;
+    HOLDS(cvec_vector_take_seat(vector, &seat) == CVEC_DONE && grow(52, &number) == CVEC_DONE);
+    HOLDS(cvec_vector_close_seat(other) == CVEC_DONE);
+    shut_gate(0);
+    until_settled(53);
     HOLDS(cvec_vector_stop_flusher(vector) == CVEC_DONE);
     HOLDS(end_of_flusher(flusher) == CVEC_DONE && end_of_flusher(second) == CVEC_DONE && end_of_flusher(resting) == CVEC_DONE);
-    HOLDS(grow(51, &number) == CVEC_DONE);
-    HOLDS(cvec_vector_run_flusher(vector, 1) == CVEC_DONE && settled() == 51);
+    HOLDS(grow(53, &number) == CVEC_DONE);
+    HOLDS(cvec_vector_run_flusher(vector, 1) == CVEC_DONE && settled() == 53);
     HOLDS(cvec_vector_close_seat(seat) == CVEC_DONE && cvec_vector_close(vector) == CVEC_DONE);
-    HOLDS(found(path) == 52);
+    HOLDS(found(path) == 54);
 }
 
 /* The first turn takes all that it finds, also where another commits then, and more than one frame holds. */
@@ -1057,6 +1107,7 @@ int main(int argc, char **argv) {
                       {"foreign", foreign},
                       {"texts", texts},
                       {"leader", leads},
+                      {"gathers", gathers},
                       {"late", late},
                       {"late_between", late_between},
                       {"flusher", flushes},

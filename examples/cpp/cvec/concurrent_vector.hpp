@@ -102,12 +102,30 @@ template <class Rep, class Period> std::uint64_t milliseconds_of(const std::chro
     return static_cast<std::uint64_t>(std::chrono::ceil<std::chrono::milliseconds>(time).count());
 }
 
-// A number for each thread: threads begin their search for a seat at different ones.
-inline std::size_t number_of_thread() noexcept {
-    static std::atomic<std::size_t> next{0};
-    thread_local const std::size_t mine = next.fetch_add(1, std::memory_order_relaxed);
-    return mine;
-}
+// Where a thread begins its search for a seat: at the one that it had before. Threads begin at different ones.
+class start_of_thread {
+  public:
+    static start_of_thread &mine() noexcept {
+        static std::atomic<std::size_t> next{0};
+        thread_local start_of_thread found(next.fetch_add(1, std::memory_order_relaxed));
+        return found;
+    }
+
+    [[nodiscard]] std::size_t among(std::size_t count) noexcept {
+        if (count_ != count) {
+            count_ = count;
+            place_ = number_ % count;
+        }
+        return place_;
+    }
+    void move_to(std::size_t place) noexcept { place_ = place; }
+
+  private:
+    explicit start_of_thread(std::size_t number) noexcept : number_(number) {}
+
+    const std::size_t number_;
+    std::size_t count_ = 0, place_ = 0; // the place is one of so many
+};
 
 // Sleeps between looks for what another thread has: each time longer.
 class patience {
@@ -174,13 +192,13 @@ class word_file {
 
     // Waits for all growths that have returned.
     void await_all() {
-        const std::uint64_t grown = grown_.load(std::memory_order_acquire);
-        if (grown > 0) await(grown - 1);
+        const std::uint64_t count = grown();
+        if (count > 0) await(count - 1);
     }
 
     bool await_all_for(std::uint64_t milliseconds) {
-        const std::uint64_t grown = grown_.load(std::memory_order_acquire);
-        return grown == 0 || await_for(grown - 1, milliseconds);
+        const std::uint64_t count = grown();
+        return count == 0 || await_for(count - 1, milliseconds);
     }
 
     // Waits for all growths that have returned, and so again and again behind such a pause, until stop_flusher or the close.
@@ -274,6 +292,8 @@ class word_file {
     struct alignas(cache_line) slot {
         std::atomic<bool> is_lent{false};
         cvec_vector_seat *seat = nullptr;
+        // With the last growth by it so many had been made since the file was opened first. Who has it writes.
+        std::atomic<std::uint64_t> grown{0};
 
         bool try_take() noexcept {
             return !is_lent.load(std::memory_order_relaxed) && !is_lent.exchange(true, std::memory_order_acquire);
@@ -289,6 +309,7 @@ class word_file {
         lease &operator=(const lease &) = delete;
         ~lease() { slot_.give_back(); }
         [[nodiscard]] cvec_vector_seat *seat() const noexcept { return slot_.seat; }
+        void note_grown(std::uint64_t count) const noexcept { slot_.grown.store(count, std::memory_order_release); }
 
       private:
         slot &slot_;
@@ -352,9 +373,14 @@ class word_file {
     slot *find_idle() noexcept {
         if (all_wanted_.load(std::memory_order_relaxed)) return nullptr;
         const std::size_t count = seated_.load(std::memory_order_acquire);
+        start_of_thread &start = start_of_thread::mine();
+        std::size_t at = start.among(count);
         for (std::size_t k = 0; k < count; ++k) {
-            slot &one = slots_[(number_of_thread() + k) % count];
-            if (one.try_take()) return &one;
+            if (slots_[at].try_take()) {
+                start.move_to(at);
+                return &slots_[at];
+            }
+            if (++at == count) at = 0;
         }
         return nullptr;
     }
@@ -398,13 +424,17 @@ class word_file {
         const std::uint32_t status = cvec_vector_grow(lent.seat(), words, count, &receipt);
         if (status != CVEC_DONE) return status;
         receipt.number += base_;
-        raise_grown(receipt.number + 1);
+        lent.note_grown(receipt.number + 1);
         return status;
     }
 
-    void raise_grown(std::uint64_t count) noexcept {
-        std::uint64_t known = grown_.load(std::memory_order_relaxed);
-        while (known < count && !grown_.compare_exchange_weak(known, count, std::memory_order_acq_rel)) {}
+    // So many growths have returned since the file was opened first, or more. Each seat notes its own, so that threads that
+    // grow write to nothing together.
+    [[nodiscard]] std::uint64_t grown() const noexcept {
+        const std::size_t count = seated_.load(std::memory_order_acquire);
+        std::uint64_t most = 0;
+        for (std::size_t k = 0; k < count; ++k) most = std::max(most, slots_[k].grown.load(std::memory_order_acquire));
+        return most;
     }
 
     // An open vector takes a limited number of growths (CVEC_FULL). The first thread that is told so opens it again, while
@@ -425,9 +455,9 @@ class word_file {
 
     // With all seats. Where it is refused nothing has changed, and the file stays open.
     std::uint32_t settle_all(std::uint64_t *size) {
-        const std::uint64_t grown = grown_.load(std::memory_order_acquire);
+        const std::uint64_t count = grown();
         std::uint32_t status = CVEC_DONE;
-        if (grown > base_) status = cvec_vector_await(slots_[0].seat, grown - 1 - base_);
+        if (count > base_) status = cvec_vector_await(slots_[0].seat, count - 1 - base_);
         return status == CVEC_DONE ? cvec_vector_size(slots_[0].seat, size) : status;
     }
 
@@ -437,7 +467,7 @@ class word_file {
         if (status == CVEC_DONE) status = open_patiently();
         if (status == CVEC_DONE) status = take_seats_again(size);
         if (status != CVEC_DONE) return status;
-        base_ = grown_.load(std::memory_order_acquire);
+        base_ = grown();
         ++openings_;
         return status;
     }
@@ -522,7 +552,7 @@ class word_file {
             closed_.store(true, std::memory_order_release);
             return status;
         }
-        base_ = grown_.load(std::memory_order_acquire) - counted;
+        base_ = grown() - counted;
         ++openings_;
         return status;
     }
@@ -573,7 +603,6 @@ class word_file {
     std::condition_variable flusher_wakes_;
     bool flushers_end_ = false; // with flushing_
     std::mutex turn_;
-    std::atomic<std::uint64_t> grown_{0}; // so many growths have returned since the file was opened first
     // Read with a seat, and written with all of them.
     std::uint64_t base_ = 0; // of the growths so many were made before the file was opened last
     std::uint64_t openings_ = 0;
