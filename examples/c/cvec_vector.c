@@ -30,7 +30,7 @@ struct cvec_vector {
     uint32_t seats;          /* so many these are */
     uint32_t flushers;       /* whose loops run */
     uint32_t waiting;        /* so many wait for the commit that is under way */
-    uint32_t woken;          /* of those that the last one woke, and who made it, so many haven't come again */
+    uint32_t woken;          /* so many haven't come again of those that the last one woke, and who made it */
     uint16_t most_seats;
     bool committing, stopped; /* stopped: no loop of a flusher goes on */
     bool broken;              /* is written with the mutex, and by __atomic */
@@ -273,7 +273,7 @@ static bool is_lasting(uint32_t answer) {
     return answer != CVEC_DONE && answer != CVEC_MEMORY && answer != CVEC_FILE_FULL;
 }
 
-/* With the mutex: one more waits for a commit, or makes it. */
+/* With the mutex: one more has come that waits for a commit, and makes it where nobody does. */
 static void come(cvec_vector *vector) {
     if (vector->woken > 0 && --vector->woken == 0) pthread_cond_signal(&vector->returned);
 }
@@ -290,7 +290,6 @@ static void await_woken(cvec_vector *vector) {
 static uint32_t lead(cvec_vector *vector, uint64_t *growths) {
     uint64_t durable = 0;
     vector->committing = true;
-    come(vector);
     if (vector->woken > 0) await_woken(vector);
     pthread_mutex_unlock(&vector->mutex);
     uint32_t answer = commit(vector, growths, &durable);
@@ -298,7 +297,7 @@ static uint32_t lead(cvec_vector *vector, uint64_t *growths) {
     vector->committing = false;
     if (answer == CVEC_DONE) vector->durable = durable;
     if (is_lasting(answer)) __atomic_store_n(&vector->broken, true, __ATOMIC_RELAXED);
-    vector->woken = vector->waiting > 0 ? vector->waiting + 1 : 0;
+    vector->woken = vector->waiting;
     vector->waiting = 0;
     pthread_cond_broadcast(&vector->settled);
     return answer;
@@ -728,14 +727,11 @@ static bool has_passed(const struct timespec *moment) {
     return now.tv_sec > moment->tv_sec || (now.tv_sec == moment->tv_sec && now.tv_nsec >= moment->tv_nsec);
 }
 
-/* With the mutex: until a commit of another has ended, and no longer than to this moment. */
-static void await_other(cvec_vector *vector, const struct timespec *until) {
-    come(vector);
-    vector->waiting++;
-    if (until == NULL)
-        pthread_cond_wait(&vector->settled, &vector->mutex);
-    else if (pthread_cond_timedwait(&vector->settled, &vector->mutex, until) == ETIMEDOUT && vector->waiting > 0)
-        vector->waiting--;
+/* With the mutex: until a commit of another has ended, and no longer than to this moment. Whether the moment has come. */
+static bool await_other(cvec_vector *vector, const struct timespec *until) {
+    if (until != NULL) return pthread_cond_timedwait(&vector->settled, &vector->mutex, until) == ETIMEDOUT;
+    pthread_cond_wait(&vector->settled, &vector->mutex);
+    return false;
 }
 
 /* With the mutex: waits until so many growths are durable, for others no longer than to this moment. */
@@ -744,12 +740,15 @@ static uint32_t await_count(cvec_vector *vector, uint64_t count, const struct ti
     for (bool late = false; vector->durable < count; late = has_passed(until)) {
         if (vector->broken) return CVEC_BROKEN;
         if (late) return CVEC_LATE;
+        come(vector);
         if (vector->committing) {
-            await_other(vector, until);
+            vector->waiting++;
+            if (await_other(vector, until) && vector->waiting > 0) vector->waiting--;
             continue;
         }
         uint32_t answer = lead(vector, &growths);
         if (answer != CVEC_DONE) return answer;
+        if (vector->woken > 0) vector->woken++; /* who made it comes again too */
         if (growths == 0 && vector->durable < count) return CVEC_OUT_OF_RANGE;
     }
     return CVEC_DONE;
