@@ -18,12 +18,11 @@
 struct cvec_vector {
     int fd;
     pid_t process;
-    pthread_mutex_t mutex;   /* guards all below but `committer` and `made`, which who commits has */
+    pthread_mutex_t mutex;   /* guards all below but `committer`, which who commits has */
     pthread_cond_t settled;  /* a commit has ended */
     pthread_cond_t returned; /* each that it woke has come again */
     pthread_cond_t flushing; /* a loop of a flusher is to end, or has */
     cvec_handle phase, committer;
-    uint64_t made;    /* of the calls that are listed so many are made */
     uint64_t durable; /* so many growths are */
     uint64_t begun;   /* so many growths there are of seats that are closed */
     cvec_vector_seat *first; /* of the seats that aren't closed */
@@ -236,26 +235,19 @@ static struct timespec moment_behind(time_t seconds, long nanoseconds) {
     return moment;
 }
 
-/* Makes the listed call of that number. */
+/* Makes the listed call of that number: a write writes what stands in the library. */
 static uint32_t make_call(cvec_vector *vector, uint64_t number) {
     cvec_call call;
     uint32_t answer = cvec_phase_call(&vector->committer, number, &call);
     if (answer != CVEC_DONE) return answer;
-    if (call.kind == 1) return sync_data(vector->fd);
-    uint8_t *bytes = malloc((size_t)call.len + 1);
-    if (bytes == NULL) return CVEC_MEMORY;
-    answer = cvec_phase_bytes(&vector->committer, number, bytes, (size_t)call.len);
-    if (answer == CVEC_DONE) answer = write_at(vector->fd, call.at, bytes, (size_t)call.len);
-    free(bytes);
-    return answer;
+    return call.kind == 1 ? sync_data(vector->fd) : write_at(vector->fd, call.at, call.bytes, (size_t)call.len);
 }
 
-/* Makes the calls that aren't made, in their order. Where memory was refused, the next commit goes on there. */
+/* Makes the listed calls in their order. */
 static uint32_t make_calls(cvec_vector *vector) {
     uint64_t count = 0;
     uint32_t answer = cvec_phase_calls(&vector->committer, &count);
-    for (; answer == CVEC_DONE && vector->made < count; vector->made += answer == CVEC_DONE)
-        answer = make_call(vector, vector->made);
+    for (uint64_t number = 0; answer == CVEC_DONE && number < count; number++) answer = make_call(vector, number);
     return answer;
 }
 
@@ -263,9 +255,7 @@ static uint32_t make_calls(cvec_vector *vector) {
 static uint32_t commit(cvec_vector *vector, uint64_t *growths, uint64_t *durable) {
     uint32_t answer = cvec_phase_plan(&vector->committer, growths);
     if (answer == CVEC_DONE) answer = make_calls(vector);
-    if (answer != CVEC_DONE) return answer;
-    vector->made = 0;
-    return cvec_phase_settle(&vector->committer, durable);
+    return answer == CVEC_DONE ? cvec_phase_settle(&vector->committer, durable) : answer;
 }
 
 /* Whether the answer of a commit leaves a vector that commits no more: else the same commit may be tried again. */
@@ -317,9 +307,7 @@ static uint32_t told(cvec_vector *vector, uint32_t answer) {
 static uint32_t settle_listed(cvec_vector *vector) {
     uint64_t durable;
     uint32_t answer = make_calls(vector);
-    if (answer != CVEC_DONE) return told(vector, answer);
-    vector->made = 0;
-    return told(vector, cvec_phase_settle(&vector->committer, &durable));
+    return told(vector, answer == CVEC_DONE ? cvec_phase_settle(&vector->committer, &durable) : answer);
 }
 
 /* A loop of a flusher may commit, though no seat is taken. Meanwhile it hasn't got the mutex. */

@@ -125,9 +125,10 @@ typedef struct cvec_handle {
 
 /* A call of the file that the host is to make. */
 typedef struct cvec_call {
-    uint64_t at;   /* the place from which on it writes */
-    uint64_t len;  /* how many bytes */
-    uint32_t kind; /* 0 a write, 1 a sync (fdatasync) */
+    uint64_t at;          /* the place from which on it writes */
+    const uint8_t *bytes; /* what it writes, which stays there until a call plans, settles, changes or closes */
+    uint64_t len;         /* how many bytes */
+    uint32_t kind;        /* 0 a write, 1 a sync (fdatasync) */
 } cvec_call;
 
 /* Begins a vector over a file that holds these bytes, and fills two handles: the phase, which gives seats, and who commits. */
@@ -144,7 +145,7 @@ uint32_t cvec_phase_size(cvec_handle *grower, uint64_t *size);
 uint32_t cvec_phase_read(cvec_handle *grower, uint64_t from, uint64_t *out, size_t room, uint64_t *count);
 
 /* Who commits has the vector alone, where each other handle of it is closed (else CVEC_BUSY): its handle has a vault then, for
- * which cvec_phase_calls, _call, _bytes and _settle are too. share: threads have it again, with so many seats. */
+ * which cvec_phase_calls, _call and _settle are too. share: threads have it again, with so many seats. */
 uint32_t cvec_phase_gather(cvec_handle *committer);
 uint32_t cvec_phase_share(cvec_handle *vault, uint16_t seats, cvec_handle *phase);
 
@@ -162,7 +163,6 @@ uint32_t cvec_vault_fold(cvec_handle *vault);
 uint32_t cvec_phase_plan(cvec_handle *committer, uint64_t *growths);
 uint32_t cvec_phase_calls(cvec_handle *committer, uint64_t *count);
 uint32_t cvec_phase_call(cvec_handle *committer, uint64_t number, cvec_call *call);
-uint32_t cvec_phase_bytes(cvec_handle *committer, uint64_t number, uint8_t *out, size_t len);
 uint32_t cvec_phase_settle(cvec_handle *committer, uint64_t *count);
 
 #ifdef __cplusplus

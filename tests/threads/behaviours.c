@@ -508,26 +508,19 @@ static void texts(const char *path) {
     HOLDS(access(path, F_OK) != 0);
 }
 
-/* Memory for either write of a commit is refused once: nothing is lost, and the next wait goes on. */
+/* Where memory that is asked for ahead is refused, a growth is made all the same; and a file that can't be read isn't opened. */
 static void memory(const char *path) {
-    uint64_t number = 0, count = 9;
+    uint64_t number = 0;
     make(path, 1);
-    for (int request = 0; request < 2; request++) {
-        HOLDS(grow((uint64_t)request, &number) == CVEC_DONE);
-        mallocs = request;
-        HOLDS(cvec_vector_await(seat, number) == CVEC_MEMORY);
-        HOLDS(mallocs == -1);
-        HOLDS(cvec_vector_settled(seat, &count) == CVEC_DONE && count == (uint64_t)request);
-        HOLDS(cvec_vector_await(seat, number) == CVEC_DONE);
-        HOLDS(cvec_vector_settled(seat, &count) == CVEC_DONE && count == (uint64_t)request + 1);
-    }
+    mallocs = 0;
+    HOLDS(grow(0, &number) == CVEC_DONE && mallocs == -1);
     HOLDS(cvec_vector_close_seat(seat) == CVEC_DONE);
     HOLDS(cvec_vector_close(vector) == CVEC_DONE);
-    HOLDS(found(path) == 2);
+    HOLDS(found(path) == 1);
     mallocs = 0;
     HOLDS(cvec_vector_open(&vector, path, 1) == CVEC_MEMORY);
     HOLDS(vector == NULL);
-    HOLDS(found(path) == 2);
+    HOLDS(found(path) == 1);
 }
 
 /* As many growths as there may be; once each seat is closed, it goes on with the next one. */
@@ -790,14 +783,12 @@ static void flushes_all(const char *path) {
     HOLDS(cvec_vector_close(vector) == CVEC_DONE);
 }
 
-/* A commit that is refused ends the loop. Behind a refusal of memory it may be begun again. */
+/* A commit that is refused ends the loop. */
 static void flusher_fails(const char *path) {
     pthread_t flusher;
     uint64_t number = 0;
     make(path, 1);
     HOLDS(grow(0, &number) == CVEC_DONE);
-    mallocs = 0;
-    HOLDS(cvec_vector_run_flusher(vector, never) == CVEC_MEMORY && settled() == 0);
     begin_flusher(&flusher, &soon);
     until_settled(1);
     left = 0;
@@ -930,7 +921,6 @@ static void alone_fails_at(const char *path, int call) {
 }
 
 static void alone_faults(const char *path) {
-    const uint64_t over[] = {7, 7}, is[] = {0, 7, 7, 3, 4, 5};
     for (int call = 0; call < 4; call++) alone_fails_at(path, call);
     /* Growths that nobody awaited are committed first: so it fails there. */
     remove(path);
@@ -941,28 +931,6 @@ static void alone_faults(const char *path) {
     all_answer(CVEC_BROKEN);
     HOLDS(cvec_vector_close(vector) == CVEC_BROKEN);
     HOLDS(found(path) == 3);
-    /* Memory for either write is refused: the same call may be made again. */
-    for (int request = 0; request < 2; request++) {
-        remove(path);
-        grown(path);
-        HOLDS(cvec_vector_resize(vector, 6, 0) == CVEC_DONE);
-        mallocs = request;
-        HOLDS(cvec_vector_change(vector, 1, over, 2) == CVEC_MEMORY);
-        HOLDS(mallocs == -1);
-        HOLDS(cvec_vector_change(vector, 1, over, 2) == CVEC_DONE);
-        has(path, is, 6);
-        HOLDS(cvec_vector_close(vector) == CVEC_DONE);
-    }
-    /* Or it is closed: then it is written all the same. */
-    remove(path);
-    grown(path);
-    HOLDS(cvec_vector_resize(vector, 6, 0) == CVEC_DONE);
-    mallocs = 1;
-    HOLDS(cvec_vector_change(vector, 1, over, 2) == CVEC_MEMORY);
-    HOLDS(cvec_vector_close(vector) == CVEC_DONE);
-    HOLDS(cvec_vector_open(&vector, path, 2) == CVEC_DONE);
-    has(path, is, 6);
-    HOLDS(cvec_vector_close(vector) == CVEC_DONE);
 }
 
 static void alone_forks(const char *path) {

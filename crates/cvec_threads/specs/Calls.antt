@@ -10,10 +10,10 @@ use Rattle.handle_core.specs.declared.session.Role.{Role}
 use Rattle.handle_core.specs.declared.session.Role.TheVariants as roles
 use Rattle.cvec_threads.specs.declared.file_call.CvecCall.{CvecCall}
 
--- what is told of a call
-abbrev pub call_told : Call → CvecCall
-call_told (Write at bytes) = record { at = at; len = length bytes.items; kind = 0 }
-call_told Sync = record { at = 0; len = 0; kind = 1 }
+-- what is told of a call: of a write where it begins, where its bytes stand, and how many they are
+abbrev pub IsToldOf : Call → CvecCall → Type 0
+IsToldOf (Write at bytes) call = (call.at ≡ at) × (call.bytes ≡ bytes.ptr) × (call.len ≡ length bytes.items) × (call.kind ≡ 0)
+IsToldOf Sync call = (call.at ≡ 0) × (call.len ≡ 0) × (call.kind ≡ 1)
 
 -- So many calls are listed, and they make of the file as the host has made it the file as it is to be. The handle is as it was.
 abbrev pub CountsCalls : ℕ → Role → Role → Type 0
@@ -29,25 +29,9 @@ CountsCalls count old new = ⊥
 pub record IsToldAt (calls : List Call) (number : ℕ) (call : CvecCall) : Type 0 where
   pub listed : Call
   pub at : slice_get calls number ≡ Some listed
-  pub told : call ≡ call_told listed
+  pub told : IsToldOf listed call
 
 abbrev pub TellsCall : ℕ → CvecCall → Role → Role → Type 0
 TellsCall number call (roles.Committer old) new = (new ≡ roles.Committer old) × IsToldAt (calls_of old) number call
 TellsCall number call (roles.Vault old) new = (new ≡ roles.Vault old) × IsToldAt (vaults.calls_of old) number call
 TellsCall number call old new = ⊥
-
--- it writes these bytes
-abbrev pub IsWriteOf : List ℕ → Call → Type 0
-IsWriteOf out (Write at bytes) = out ≡ bytes.items
-IsWriteOf out Sync = ⊥
-
--- the bytes are those of the write of that number
-pub record AreBytesAt (calls : List Call) (number : ℕ) (out : List ℕ) : Type 0 where
-  pub listed : Call
-  pub at : slice_get calls number ≡ Some listed
-  pub are : IsWriteOf out listed
-
-abbrev pub CopiesCall : ℕ → List ℕ → Role → Role → Type 0
-CopiesCall number out (roles.Committer old) new = (new ≡ roles.Committer old) × AreBytesAt (calls_of old) number out
-CopiesCall number out (roles.Vault old) new = (new ≡ roles.Vault old) × AreBytesAt (vaults.calls_of old) number out
-CopiesCall number out old new = ⊥

@@ -3,9 +3,9 @@
 ghost use Rattle.std.specs.Prelude.{◌≡◌, ◌≢◌};
 ghost use Rattle.handle_core.specs.Roles.{Plans, Settles, RefusesPlan, RefusesSettle};
 ghost use Rattle.handle_core.specs.Handles.{role_of, Becomes, Refused};
-ghost use Rattle.cvec_threads.specs.Calls.{CountsCalls, TellsCall, CopiesCall};
+ghost use Rattle.cvec_threads.specs.Calls.{CountsCalls, TellsCall};
 
-use crate::file_call::{CvecCall, call_at, copy_bytes, count_of};
+use crate::file_call::{CvecCall, call_at, count_of};
 use handle_core::{Handle, Refusal};
 use std::alloc::Global;
 
@@ -49,7 +49,7 @@ pub extern "C" fn cvec_phase_calls(alloc: Global, committer: &mut Handle, count:
     }
 }
 
-/// The call of that number.
+/// The call of that number. The bytes that it writes stay where they are until a call plans, changes or closes.
 #[unsafe(no_mangle)]
 pub extern "C" fn cvec_phase_call(
     alloc: Global,
@@ -70,28 +70,6 @@ pub extern "C" fn cvec_phase_call(
             *call = found;
             0
         }
-        Err(refusal) => refusal.code(),
-    }
-}
-
-/// Copies the bytes of a listed write over `out`, which is as long as they are.
-#[unsafe(no_mangle)]
-pub extern "C" fn cvec_phase_bytes(
-    alloc: Global,
-    committer: &mut Handle,
-    number: u64,
-    out: &mut [u8],
-) -> u32
-    ensures copied { result ≡ 0 → Becomes (CopiesCall number out.new) (role_of committer.old) (role_of committer.new) }
-    ensures refused { result ≢ 0 → (role_of committer.new ≡ role_of committer.old) × (out.new ≡ out.old) }
-{
-    let Some(session) = committer.take(alloc) else {
-        return Refusal::NotSo.code();
-    };
-    let copied = copy_bytes(&session, number, out);
-    committer.put(session);
-    match copied {
-        Ok(()) => 0,
         Err(refusal) => refusal.code(),
     }
 }

@@ -1,10 +1,11 @@
 //! The calls of the file that C is to make.
 
-ghost use Rattle.std.specs.Prelude.{◌≡◌, IfOk, OnOk, OnErr};
-ghost use Rattle.cvec_threads.specs.Calls.{call_told, CountsCalls, TellsCall, CopiesCall};
+ghost use Rattle.std.specs.Prelude.{IfOk};
+ghost use Rattle.cvec_threads.specs.Calls.{IsToldOf, CountsCalls, TellsCall};
 
 use handle_core::{Refusal, Session};
 use relay_core::Call;
+use std::ptr;
 
 /// A call of the file that C is to make.
 #[repr(C)]
@@ -12,6 +13,8 @@ use relay_core::Call;
 pub struct CvecCall {
     /// The place from which on it writes, 0 of a sync.
     pub at: u64,
+    /// Where the bytes stand that it writes. They stay there until the list changes.
+    pub bytes: *const u8,
     /// How many bytes it writes, 0 of a sync.
     pub len: u64,
     /// 0 of a write, 1 of a sync.
@@ -20,16 +23,18 @@ pub struct CvecCall {
 
 impl CvecCall {
     fn of(call: &Call) -> CvecCall
-        ensures { result ≡ call_told call.now }
+        ensures { IsToldOf call.now result }
     {
         match call {
             Call::Write { at, bytes } => CvecCall {
                 at: *at,
+                bytes: bytes.as_ptr(),
                 len: bytes.len() as u64,
                 kind: 0,
             },
             Call::Sync => CvecCall {
                 at: 0,
+                bytes: ptr::null(),
                 len: 0,
                 kind: 1,
             },
@@ -52,22 +57,5 @@ pub(crate) fn call_at(session: &Session, number: u64) -> Result<CvecCall, Refusa
     match session.calls()?.get(number as usize) {
         Some(call) => Ok(CvecCall::of(call)),
         None => Err(Refusal::NotSo),
-    }
-}
-
-/// Copies the bytes of a listed write over `out`, which is as long as they are.
-pub(crate) fn copy_bytes(session: &Session, number: u64, out: &mut [u8]) -> Result<(), Refusal>
-    ensures copied { OnOk result (CopiesCall number out.new session.now.role session.now.role) }
-    ensures refused { OnErr result (out.new ≡ out.old) }
-{
-    match session.calls()?.get(number as usize) {
-        Some(Call::Write { at: _, bytes }) => {
-            if bytes.len() != out.len() {
-                return Err(Refusal::NoRoom);
-            }
-            out.copy_from_slice(bytes.as_slice());
-            Ok(())
-        }
-        _ => Err(Refusal::NotSo),
     }
 }
