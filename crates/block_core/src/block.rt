@@ -105,8 +105,8 @@ impl<R: Record> Fresh<R> {
         let label = Label {
             number: 0,
             start: 0,
-            seat: 0,
             serial: 0,
+            seat: 0,
         };
         match Box::new(alloc, Entry { label, records }) {
             Ok(entry) => Ok(Fresh { entry }),

@@ -6,17 +6,18 @@ ghost use Rattle.block_core.specs.Length.{IsBlockLength};
 use record_core::Record;
 use std::marker::Model;
 
-/// What names a growth among those of its phase.
+/// What names a growth among those of its phase. It is as narrow as its numbers allow: of a small growth most of the time
+/// goes to the first touch of its memory.
 #[derive(Clone, Copy)]
 pub struct Label {
     /// How many growths stand before it.
-    pub number: u64,
+    pub number: u32,
     /// How many records stand before it.
-    pub start: u64,
+    pub start: u32,
+    /// How many growths of that seat stand before it.
+    pub serial: u32,
     /// Whose growth it is.
     pub seat: u16,
-    /// How many growths of that seat stand before it.
-    pub serial: u64,
 }
 
 /// A growth: a label, and at least one record, few enough for one frame of the segment file. What it is can't be
@@ -47,14 +48,14 @@ impl<R: Record> Entry<R> {
     pub fn number(&self) -> u64
         ensures { result ≡ self.now.number }
     {
-        self.label.number
+        self.label.number as u64
     }
 
     /// How many records stand before it.
     pub fn start(&self) -> u64
         ensures { result ≡ self.now.start }
     {
-        self.label.start
+        self.label.start as u64
     }
 
     /// Whose growth it is.
@@ -68,7 +69,7 @@ impl<R: Record> Entry<R> {
     pub fn serial(&self) -> u64
         ensures { result ≡ self.now.serial }
     {
-        self.label.serial
+        self.label.serial as u64
     }
 
     /// The records in order.

@@ -52,10 +52,10 @@ impl<R: Record> Live<R> {
             return Err((fresh, GrowFault::TooLong));
         }
         let label = Label {
-            number,
-            start: before,
+            number: number as u32,
+            start: before as u32,
+            serial: seat.serial as u32,
             seat: seat.id,
-            serial: seat.serial,
         };
         match self.directory.publish(&mut seat.pass, fresh.seal(label)) {
             Ok(()) => {

@@ -10,10 +10,10 @@ use std::alloc::{AllocError, Global};
 
 /// The label of the end: no directory has a growth of that number.
 const END: Label = Label {
-    number: GROWTH_LIMIT,
+    number: GROWTH_LIMIT as u32,
     start: 0,
-    seat: 0,
     serial: 0,
+    seat: 0,
 };
 
 /// What a pass can end its directory by: the entry for the cell behind the last growth, and a bucket without places,

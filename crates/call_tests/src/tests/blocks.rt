@@ -41,8 +41,8 @@ fn parts_and_halves_are_written_through(rt: HostRuntime) -> Result<(), Fail> {
 const LABEL: Label = Label {
     number: 4,
     start: 9,
-    seat: 2,
     serial: 3,
+    seat: 2,
 };
 
 /// What an entry says of itself.

@@ -21,11 +21,14 @@ fn put(
     let Ok(fresh) = Fresh::from_slice(alloc, records) else {
         return Err(DirFault::Memory);
     };
+    let Ok(start) = u32::try_from(pass.size()) else {
+        return Err(DirFault::Full);
+    };
     let entry = fresh.seal(Label {
-        number: pass.known(),
-        start: pass.size(),
-        seat: 0,
+        number: pass.known() as u32,
+        start,
         serial: 0,
+        seat: 0,
     });
     match directory.publish(pass, entry) {
         Ok(()) => Ok(()),
