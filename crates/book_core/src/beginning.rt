@@ -11,6 +11,7 @@ use crate::live::{Door, Live};
 use crate::mark::{Mark, Writer};
 use crate::opening::Opening;
 use crate::seat::Seat;
+use crate::stretch::Stretch;
 use crate::waking::Waking;
 use crossbeam_utils::CachePadded;
 use directory_core::{Directory, GROWTH_LIMIT, Pass};
@@ -46,7 +47,7 @@ struct Parts<R: Record> {
 fn doors_of(alloc: Global, count: u16) -> Option<Vec<Door>> {
     let mut doors = Vec::with_capacity(alloc, count as usize).ok()?;
     for _ in 0..count {
-        doors.push_reserved(CachePadded::new(Mutex::new(())));
+        doors.push_reserved(CachePadded::new(Mutex::new(Stretch::new())));
     }
     Some(doors)
 }

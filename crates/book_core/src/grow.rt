@@ -10,6 +10,7 @@ use crate::fault::GrowFault;
 use crate::live::Live;
 use crate::patience::Patience;
 use crate::seat::{Receipt, Seat};
+use crate::stretch::Stretch;
 use block_core::{Fresh, Label};
 use directory_core::DirFault;
 use record_core::{RECORD_LIMIT, Record};
@@ -17,7 +18,7 @@ use std::sync::{MutexGuard, Wait};
 
 impl<R: Record> Live<R> {
     /// The seat's door, taken. `None` once the book is closed.
-    fn enter<E: Wait>(&self, rt: &E, id: u16) -> Option<MutexGuard<'_, ()>> {
+    fn enter<E: Wait>(&self, rt: &E, id: u16) -> Option<MutexGuard<'_, Stretch>> {
         let door = self.doors.get(id as usize)?.lock(rt);
         if self.waking.closes() {
             return None;
@@ -96,10 +97,12 @@ impl<R: Record> Live<R> {
             (λ refused. (refused.0 ≡ fresh) × SeatLearns seat.old seat.new) }
         ensures fault { IfErr result (λ refused. IsBookRefusal self.now seat.new (length fresh) refused.1) }
     {
-        let Some(door) = self.enter(rt, seat.id) else {
+        let Some(mut door) = self.enter(rt, seat.id) else {
             return Err((fresh, GrowFault::Closed));
         };
+        let len = fresh.len();
         let put = self.put_in_turn(rt, seat, fresh);
+        door.count::<R>(self.alloc, len);
         drop(door);
         self.waking.wake_flusher();
         put

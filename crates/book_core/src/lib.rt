@@ -28,6 +28,7 @@ mod reading;
 mod seat;
 mod settling;
 mod snapshot;
+mod stretch;
 mod waking;
 
 pub use appender::Appender;

@@ -6,6 +6,7 @@ ghost use Rattle.book_core.specs.Lists.{records_of, opening_of};
 
 use crate::mark::Mark;
 use crate::opening::Opening;
+use crate::stretch::Stretch;
 use crate::waking::Waking;
 use crossbeam_utils::CachePadded;
 use directory_core::Directory;
@@ -14,8 +15,9 @@ use std::alloc::Global;
 use std::marker::Model;
 use std::sync::{Mutex, Wait};
 
-/// A seat's way into the book. Its grower holds it while it publishes, and a close takes each once: nobody else does.
-pub(crate) type Door = CachePadded<Mutex<()>>;
+/// A seat's way into the book. Its grower holds it while it publishes, and a close takes each once: nobody else does. Behind it
+/// lies what the grower's heap has at hand.
+pub(crate) type Door = CachePadded<Mutex<Stretch>>;
 
 /// What all threads of a growth phase share: the blocks from before it, the directory of its growths, a door for each
 /// seat, and the mark. Contracts see which directory and which mark it has, and the records from before.
