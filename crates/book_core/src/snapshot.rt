@@ -140,6 +140,7 @@ impl<'a, R: Record> Snapshot<'a, R> {
     }
 
     /// The record at position `i`. `None` past the end.
+    #[inline]
     pub fn get(&self, i: u64) -> Option<&'a R>
         ensures { MatchOption result
             (length (list_in self.now) ≤ i)

@@ -157,7 +157,21 @@ impl<'a, R: Record> Slices<'a, R> {
         self.slices.as_slice()
     }
 
+    /// The number of the slice that has position `i`, and the place there, by a search. It stands by itself, so that what
+    /// is left of a read is small enough to stand in its caller's loop.
+    #[inline(never)]
+    fn search(&self, i: u64) -> (usize, usize)
+        requires { i < length (joined_pieces self.now.pieces) }
+        ensures { IsPlaceIn self.now.pieces i result.0 result.1 }
+    {
+        let starts = self.starts.as_slice();
+        let (low, high) = self.hints.around(i, starts.len());
+        let number = last_start_near(starts, self.size, i, low, high);
+        (number, (i - starts[number] as u64) as usize)
+    }
+
     /// The number of the slice that has position `i`, and the place there. `None` past the end.
+    #[inline]
     fn find(&self, i: u64) -> Option<(usize, usize)>
         ensures { MatchOption result
             (length (joined_pieces self.now.pieces) ≤ i)
@@ -169,10 +183,7 @@ impl<'a, R: Record> Slices<'a, R> {
         if self.step != 0 {
             return Some(((i / self.step) as usize, (i % self.step) as usize));
         }
-        let starts = self.starts.as_slice();
-        let (low, high) = self.hints.around(i, starts.len());
-        let number = last_start_near(starts, self.size, i, low, high);
-        Some((number, (i - starts[number] as u64) as usize))
+        Some(self.search(i))
     }
 
     /// The records from position `i` to the end of its slice. `None` past the end.
@@ -188,6 +199,7 @@ impl<'a, R: Record> Slices<'a, R> {
     }
 
     /// The record at position `i`. `None` past the end.
+    #[inline]
     pub(crate) fn get(&self, i: u64) -> Option<&'a R>
         ensures { MatchOption result
             (length (joined_pieces self.now.pieces) ≤ i)
