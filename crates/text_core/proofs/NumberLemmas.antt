@@ -1,11 +1,13 @@
 -- A text is a number's where std's `parse` reads it and neither a plus nor a zero stands in front.
-use Rattle.std.proofs.Common.{◌≡◌, ◌≢◌, ℕ, ◌<◌, ◌≤◌, ◌^◌, List, length, slice_index, Result, Ok, Err, sym, ap, ◌∙◌, subst, arith, inl, inr}
+use Rattle.std.proofs.Common.{◌≡◌, ◌≢◌, ℕ, ◌<◌, ◌≤◌, ◌^◌, List, length, take, slice_index, Option, Some, None, Result, Ok, Err, sym, ap, ◌∙◌, subst, arith, inl, inr}
 use Rattle.std.specs.Prelude.{decimal, IfSome, IfNone, IsUtf8}
+use Rattle.std.specs.Option.{SomeIff}
 use Rattle.std.specs.Result.{OkIff, result_ok}
 use Rattle.std.specs.Str.Parse.{ParsesUnsigned, AllDigits, IsNumeral, digits_value, without_leading_plus}
 use Rattle.std.proofs.lemmas.Bool.{cases_lt}
 use Rattle.std.proofs.lemmas.Fmt.{decimal_nonempty, decimal_is_IsNumeral, decimal_digit, first_decimal, parse-decimal, decimal-digits_value, IsAscii-decimal, decimal_injective}
-use Rattle.std.proofs.lemmas.Str.Parse.{digit_at, numerals_by_value, tells_digits, without_leading_plus_none}
+use Rattle.std.proofs.lemmas.List.{length-take-le}
+use Rattle.std.proofs.lemmas.Str.Parse.{digit_at, digits_value_short, numerals_by_value, tells_digits, without_leading_plus_none}
 use Rattle.std.proofs.lemmas.Str.{IsUtf8-from_ascii}
 use Rattle.text_core.specs.Numbers.{BeginsAsNumber, fits_64}
 
@@ -46,6 +48,31 @@ refused_is_none bs text (Err e) same parsed = λ n small is. not_err e n (parse-
 
 pub no_text : (bs : List ℕ) → (IsUtf8 bs → ⊥) → (n : ℕ) → n < 2 ^ 64 → decimal n ≢ bs
 no_text bs not_so n small is = not_so (subst IsUtf8 is (IsUtf8-from_ascii (decimal n) (IsAscii-decimal n small)))
+
+-- ---- a text that is short enough for any digits
+
+pub short_digits_small : (bs : List ℕ) → length bs ≤ 19 → AllDigits 10 bs → digits_value 10 bs < 2 ^ 64
+short_digits_small bs short digits = let below = digits_value_short (numerals_by_value (AllDigits 10) tells_digits) bs 19 digits short in omega (arith, below)
+
+-- with one digit more it is small still
+pub front_digits_small : (bs : List ℕ) (k : ℕ) → k < length bs → length bs ≤ 19 → AllDigits 10 (take k bs) → digits_value 10 (take k bs) < 10 ^ 18
+front_digits_small bs k inside short digits =
+    let len = length-take-le k bs (omega arith) in
+    digits_value_short (numerals_by_value (AllDigits 10) tells_digits) (take k bs) 18 digits (omega (arith, len))
+
+pub short_is_text : (bs : List ℕ) (r : Option ℕ) → length bs ≤ 19 → BeginsAsNumber bs → SomeIff r (AllDigits 10 bs) (digits_value 10 bs)
+    → IfSome r (λ n. (n < 2 ^ 64) × (decimal n ≡ bs))
+short_is_text bs None short begins read = tt
+short_is_text bs (Some n) short begins read =
+    let fits = short_digits_small bs short read.0 in
+    let value : n ≡ digits_value 10 bs = read.1 in (
+      omega (arith, value, fits),
+      ap decimal value ∙ decimal-digits_value (numerals_by_value (AllDigits 10) tells_digits) bs read.0 begins.some begins.no_zero fits,
+    )
+
+pub short_is_none : (bs : List ℕ) (r : Option ℕ) → SomeIff r (AllDigits 10 bs) (digits_value 10 bs) → IfNone r ((n : ℕ) → n < 2 ^ 64 → decimal n ≢ bs)
+short_is_none bs (Some n) read = tt
+short_is_none bs None read = λ n small is. read (subst (AllDigits 10) is (decimal_is_IsNumeral n small).0.1)
 
 -- ---- a number of fewer bits
 

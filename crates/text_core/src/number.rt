@@ -1,7 +1,9 @@
 //! Numbers as text: decimal digits with no zero in front.
 
-ghost use Rattle.std.specs.Prelude.{◌<◌, ◌^◌, ◌↔◌, decimal, OnOk, IsTrue};
+ghost use Rattle.std.specs.Prelude.{◌<◌, ◌≤◌, ◌^◌, ◌↔◌, decimal, length, OnOk, IsTrue};
 ghost use Rattle.std.specs.Io.KnownBytes.{Appends};
+ghost use Rattle.std.specs.Option.{SomeIff};
+ghost use Rattle.std.specs.Str.Parse.{AllDigits, digits_value};
 ghost use Rattle.std.proofs.Common.{lit≤};
 ghost use Rattle.text_core.specs.Numbers.{BeginsAsNumber, number_spelling, IsWord-decimal, one_decimal};
 
@@ -26,12 +28,35 @@ fn begins_as_number(text: &[u8]) -> bool
     !text.is_empty() && text[0] != b'+' && (text[0] != b'0' || text.len() == 1)
 }
 
+/// The digits that any number may have: as many nines are below 2^64.
+const SHORT_LEN: usize = 19;
+
+/// The number that the digits of a short text write. `None`: it has something else than digits.
+fn short_number(text: &[u8]) -> Option<u64>
+    requires { length text.now ≤ 19 }
+    ensures { SomeIff result (AllDigits 10 text.now) (digits_value 10 text.now) }
+{
+    let mut number: u64 = 0;
+    for k in 0..text.len() {
+        let byte = text[k];
+        if byte < b'0' || byte > b'9' {
+            return None;
+        }
+        number = number * 10 + (byte - b'0') as u64;
+    }
+    Some(number)
+}
+
 impl TextRecord for u64 {
     ghost spelling = { number_spelling 64 };
 
     fn parse(text: &[u8]) -> Option<u64> {
         if !begins_as_number(text) {
             return None;
+        }
+        // std's own parse would test at each digit whether the number is too large.
+        if text.len() <= SHORT_LEN {
+            return short_number(text);
         }
         let Ok(text) = str::from_utf8(text) else {
             return None;
