@@ -16,7 +16,7 @@ use std::num::NonZeroU32;
 use text_core::{INPUT_LIMIT, Refusal, TextRecord};
 
 /// The bytes that are read at least before blocks are committed, where so many are at hand.
-const BATCH_LEN: usize = 1_048_576;
+const BATCH_LEN: usize = 4_194_304;
 
 /// The bytes that one read asks for at most.
 const PIECE_LEN: usize = 65_536;
