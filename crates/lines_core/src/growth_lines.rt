@@ -13,7 +13,7 @@ use record_core::{GROWTH_HEAD_LEN, PAYLOAD_LIMIT, width_of};
 use segment_core::Growths;
 use std::alloc::Global;
 use std::io::Read;
-use text_core::{LineFault, Refusal, TextRecord, cut, read_input};
+use text_core::{LineFault, Refusal, TextRecord, cut, cut_far, read_input};
 
 /// Takes in one word of a growth line: a record.
 fn take_word<R: TextRecord>(word: &[u8], growths: &mut Growths<R>) -> Result<(), LineFault>
@@ -83,7 +83,7 @@ pub(crate) fn read_lines<R: TextRecord>(
     let mut lines = 0u64;
     let mut rest = input;
     while !rest.is_empty() {
-        let (line, after) = cut(rest, b'\n');
+        let (line, after) = cut_far(rest, b'\n');
         lines += 1;
         match read_growth(line, &mut growths) {
             Ok(()) => {}

@@ -7,6 +7,7 @@ pub mod Joins
 pub mod HexLines
 pub mod Reading
 pub mod LineLemmas
+pub mod FarCuts
 pub mod LineGroups
 pub mod GroupLines
 pub mod Written

@@ -18,7 +18,7 @@ mod text;
 pub use group_line::{BAR, LineFault};
 pub use hex_line::{bytes_of_hex_line, write_hex_line};
 pub use input::{INPUT_LIMIT, read_input};
-pub use line::{cut, next_line};
+pub use line::{cut, cut_far, next_line};
 pub use number::write_number;
 pub use output::{write_found, write_line, write_number_line, write_records, write_text};
 pub use refusal::{Refusal, refuse, write_numbered, write_refusal};
