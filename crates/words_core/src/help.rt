@@ -160,7 +160,7 @@ const APPEND: &[u8] =
 
 Appends growths of an input of any length, and puts them on the device some lines at a time. The records of N lines, else of
 one, are a growth; the last one may have fewer lines. Lines that have come wait for more MS milliseconds (1 to 60000, else
-200), and no longer than until there is a MiB. Where a line is refused, the growths before the one that it is in stand, and
+200), and no longer than until there are 4 MiB. Where a line is refused, the growths before the one that it is in stand, and
 standard error tells of how many lines they are. --lenient takes lines as 'load' does with it. With --progress a line of
 standard error tells what is on the device, at most each second, also where that is no terminal.
 
