@@ -4,7 +4,7 @@ use Rattle.std.specs.Prelude.{nat_eq, slice_get, IsSomeAnd}
 use Rattle.std.proofs.lemmas.Bool.Decides.{nat_tests}
 use Rattle.segment_core.proofs.Replaced.{slice_get-append_right}
 use Rattle.std.specs.List.{sum, count_by}
-use Rattle.std.proofs.lemmas.List.{length-append, append_assoc, map_push, append-nil}
+use Rattle.std.proofs.lemmas.List.{length-append, append_assoc, map-append, map_push, append-nil}
 use Rattle.std.proofs.lemmas.List.Sums.{sum_by-cons, sum_by-append, count_by-le-length}
 use Rattle.std.proofs.lemmas.List.Concat.{flat_map-append}
 use Rattle.std.specs.Iterator.{Yields}
@@ -49,6 +49,12 @@ records_push {R} slices s =
     ap joined (map_push (λ (t : Bor (List R)). t.now) slices s)
     ∙ flat_map-append (λ (rs : List R). rs) (map (λ (t : Bor (List R)). t.now) slices) (s.now ∷ [])
     ∙ ap (λ (rs : List R). records_in slices ++ rs) (append-nil s.now)
+
+-- slices that are parted
+pub records_cut : {R : Type 0} (slices front back : List (Bor (List R))) → slices ≡ front ++ back → records_in slices ≡ records_in front ++ records_in back
+records_cut {R} slices front back cut =
+    ap records_in cut ∙ ap joined (map-append (λ (t : Bor (List R)). t.now) front back)
+    ∙ flat_map-append (λ (rs : List R). rs) (map (λ (t : Bor (List R)). t.now) front) (map (λ (t : Bor (List R)). t.now) back)
 
 module _ {I R : Type 0} (steps : I → Option (Bor (List R)) → I → Type 0) (p : R → Bool) (start here next : I) (items : List (Bor (List R)))
     (piece : Bor (List R)) (few : LendsFew steps start) (so_far : Yields steps start items here) (step : steps here (Some piece) next) where

@@ -1,15 +1,12 @@
 -- The first record of a list that is picked.
 use Rattle.std.proofs.Common.{◌≡◌, ℕ, zero, suc, ◌+◌, ◌-◌, ◌≤◌, ◌<◌, Bool, cond, List, [], ◌∷◌, ◌++◌, length, take, drop, get_or, Bor, Option, Some, None, true, refl, sym, ap, subst, ◌∙◌, arith}
-use Rattle.std.specs.Prelude.{◌^◌, false, map, min, nat_lt, slice_get, IsSomeAnd, MatchOption}
-use Rattle.std.specs.Option.{option_map}
-use Rattle.rayon.specs.Lists.{first_true}
-use Rattle.std.proofs.lemmas.Bool.Decides.{nat_tests}
+use Rattle.std.specs.Prelude.{slice_get, IsSomeAnd, MatchOption}
 use Rattle.std.specs.List.{count_by}
 use Rattle.std.proofs.lemmas.List.{length-append, append_assoc, take-append-le}
-use Rattle.std.proofs.lemmas.List.Sums.{sum_by-cons, sum_by-append}
+use Rattle.std.proofs.lemmas.List.Sums.{sum_by-append}
 use Rattle.record_core.proofs.Cells.{slice_get-append_left}
 use Rattle.segment_core.proofs.Replaced.{slice_get-append_right}
-use Rattle.search_core.specs.Search.{records_in, IsFirst, IsFirstSlice, PassesOver}
+use Rattle.search_core.specs.Search.{records_in, IsFirst, PassesOver}
 use Rattle.search_core.proofs.Counts.{take-append-past, found_within}
 
 -- ---- slices
@@ -31,16 +28,6 @@ at_slice_len slices k d lt =
     omega (arith, ap length (at_slice slices k d lt), length-append front ((get_or slices k d).now ++ back), length-append (get_or slices k d).now back)
 
 -- an element of a list, by its place
-pub at_some : {X : Type 0} (Q : X → Type 0) (xs : List X) (k : ℕ) (d : X) → IsSomeAnd (slice_get xs k) Q → (k < length xs) × Q (get_or xs k d)
-at_some Q [] k d some = absurd some
-at_some Q (x ∷ xs) zero d some = (omega arith, some)
-at_some Q (x ∷ xs) (suc k) d some = let rest = at_some Q xs k d some in (omega (arith, rest.0), rest.1)
-
-pub some_within : {X : Type 0} (Q : X → Type 0) (xs : List X) (k : ℕ) → IsSomeAnd (slice_get xs k) Q → k < length xs
-some_within Q [] k some = absurd some
-some_within Q (x ∷ xs) zero some = omega arith
-some_within Q (x ∷ xs) (suc k) some = let rest = some_within Q xs k some in omega arith
-
 pub some_at : {X : Type 0} (Q : X → Type 0) (xs : List X) (k : ℕ) (d : X) → k < length xs → Q (get_or xs k d) → IsSomeAnd (slice_get xs k) Q
 some_at Q [] k d lt holds = absurd (omega arith)
 some_at Q (x ∷ xs) zero d lt holds = holds
@@ -51,12 +38,6 @@ some_at Q (x ∷ xs) (suc k) d lt holds = some_at Q xs k d (omega arith) holds
 module _ {R : Type 0} (p : R → Bool) where
   pub counts-append : (xs ys : List R) → count_by p (xs ++ ys) ≡ count_by p xs + count_by p ys
   counts-append xs ys = sum_by-append (λ x. cond (p x) 1 0) xs ys
-
-  -- a list with one that is picked
-  pub picked_counts : (records : List R) (place : ℕ) → IsSomeAnd (slice_get records place) (λ r. p r ≡ true) → 0 < count_by p records
-  picked_counts [] place here = absurd here
-  picked_counts (r ∷ records) zero here = omega (arith, sum_by-cons (λ x. cond (p x) 1 0) r records, ap {B = ℕ} (λ b. cond b 1 0) here)
-  picked_counts (r ∷ records) (suc place) here = omega (arith, sum_by-cons (λ x. cond (p x) 1 0) r records, picked_counts records place here)
 
   -- the first of a list is the first of a longer one
   pub first_before : (records back : List R) (i : ℕ) → IsFirst p records (Some i) → IsFirst p (records ++ back) (Some i)
@@ -175,27 +156,3 @@ module _ {R : Type 0} (p : R → Bool) where
   passes_end before then records left later (Some i) passed found none =
       let same : i - 0 ≡ i = omega arith in
       subst (λ n. IsFirst p records (Some n)) same (passes_found 0 before i records left passed found.0 found.1).1
-
-  -- ---- slices that are asked at once
-
-  none_behind : (s : Bor (List R)) (slices : List (Bor (List R))) (o : Option ℕ) → count_by p s.now ≡ 0 → length slices + 1 < 2 ^ 64
-      → IsFirstSlice p slices o → IsFirstSlice p (s ∷ slices) (option_map (λ k. min (k + 1) (2 ^ 64 - 1)) o)
-  none_behind s slices None none few first = counts-append s.now (records_in slices) ∙ omega (arith, none, first)
-  none_behind s slices (Some k) none few first =
-      let lt = (at_some (λ (t : Bor (List R)). 0 < count_by p t.now) slices k s first.1).0 in
-      let same : min (k + 1) (2 ^ 64 - 1) ≡ suc k = grind arith in
-      subst (λ n. IsFirstSlice p (s ∷ slices) (Some n)) (sym same) (
-        counts-append s.now (records_in (take k slices)) ∙ omega (arith, none, first.0),
-        first.1,
-      )
-
-  first_cons : (s : Bor (List R)) (slices : List (Bor (List R))) (b : Bool) (bs : List Bool) → nat_lt 0 (count_by p s.now) ≡ b
-      → length slices + 1 < 2 ^ 64 → IsFirstSlice p slices (first_true bs) → IsFirstSlice p (s ∷ slices) (first_true (b ∷ bs))
-  first_cons s slices true bs has few first = (refl, grind (arith, nat_tests))
-  first_cons s slices false bs has few first = none_behind s slices (first_true bs) (grind (arith, nat_tests)) few first
-
-  pub first_answers : (slices : List (Bor (List R))) → length slices < 2 ^ 64 → IsFirstSlice p slices (first_true (map (λ (s : Bor (List R)). nat_lt 0 (count_by p s.now)) slices))
-  first_answers [] few = refl
-  first_answers (s ∷ slices) few =
-      first_cons s slices (nat_lt 0 (count_by p s.now)) (map (λ (t : Bor (List R)). nat_lt 0 (count_by p t.now)) slices) refl (omega arith)
-      (first_answers slices (omega arith))

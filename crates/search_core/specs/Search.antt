@@ -1,5 +1,5 @@
 -- What a search goes over.
-use Rattle.std.specs.Prelude.{◌≡◌, ℕ, ◌+◌, ◌≤◌, ◌<◌, ◌^◌, ◌++◌, Bool, true, List, length, map, take, slice_get, Option, None, MatchOption, IsSomeAnd}
+use Rattle.std.specs.Prelude.{◌≡◌, ℕ, ◌+◌, ◌≤◌, ◌^◌, ◌++◌, Bool, true, List, length, map, take, slice_get, Option, None, MatchOption, IsSomeAnd}
 use Rattle.std.specs.List.{count_by}
 use Rattle.std.specs.Borrow.{Bor}
 use Rattle.std.specs.Iterator.{Yields, YieldsThen}
@@ -29,12 +29,6 @@ LendsUntil {I} steps pieces items found = MatchOption found (LendsAll steps piec
 -- no record is picked, or this is the first position of one that is
 abbrev pub IsFirst : {R : Type 0} → (R → Bool) → List R → Option ℕ → Type 0
 IsFirst picks records found = MatchOption found (count_by picks records ≡ 0) (λ i. (count_by picks (take i records) ≡ 0) × IsSomeAnd (slice_get records i) (λ r. picks r ≡ true))
-
--- no record of the slices is picked, or this is the number of the first slice with one that is
-abbrev pub IsFirstSlice : {R : Type 0} → (R → Bool) → List (Bor (List R)) → Option ℕ → Type 0
-IsFirstSlice picks slices found =
-    MatchOption found (count_by picks (records_in slices) ≡ 0)
-    (λ k. (count_by picks (records_in (take k slices)) ≡ 0) × IsSomeAnd (slice_get slices k) (λ s. 0 < count_by picks s.now))
 
 -- Of records behind so many others the first ones were let go, of which none is picked, and these are left.
 abbrev pub PassesOver : {R : Type 0} → (R → Bool) → ℕ → List R → ℕ → List R → Type 0

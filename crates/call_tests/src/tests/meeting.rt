@@ -141,8 +141,8 @@ fn two_threads_work_at_once(rt: HostRuntime) {
     assert_eq!(rt; met, Some((true, (1_048_000, true))));
 }
 
-/// What two threads look for that isn't there, and whether at once. The front and the first three slices are searched by one
-/// thread, so these records are 0.
+/// What two threads look for that isn't there, and whether at once. The front and the first slice are searched by one thread,
+/// so these records are 0.
 fn find_meeting<E: Threads + Wait + Sync>(
     rt: &E,
     vault: &mut Vault<u64, RamDisk>,

@@ -1,4 +1,4 @@
-use Rattle.std.proofs.Common.{◌≡◌, ◌-◌, ◌++◌, ◌∷◌, [], length, Some, refl, ap, sym, subst, ◌∙◌, rules, arith}
+use Rattle.std.proofs.Common.{◌≡◌, ◌-◌, ◌++◌, ◌∷◌, [], length, Some, refl, ap, sym, subst, rules, arith}
 use Rattle.std.proofs.lemmas.List.{length-append, append-nil}
 use Rattle.search_core.specs.Search.{records_in, IsFirst, PassesOver}
 use Rattle.search_core.proofs.Counts.{lent, lent_until, behind_push, few_behind}

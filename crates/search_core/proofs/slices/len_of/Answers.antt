@@ -3,7 +3,7 @@ use Rattle.std.proofs.lemmas.List.{take_more, length-append}
 use Rattle.search_core.specs.Search.{records_in}
 use Rattle.search_core.proofs.Counts.{records_push}
 use Rattle.search_core.proofs.Firsts.{at_slice_len}
-use Rattle.search_core.proofs.slices.len_before.Goals as goal
+use Rattle.search_core.proofs.slices.len_of.Goals as goal
 
 pub overflow_add-len : goal.overflow_add-len
 overflow_add-len g c =
