@@ -12,11 +12,15 @@ use std::thread::Threads;
 /// The slices of a batch at most.
 const BATCH_LEN: usize = 512;
 
-/// The records of a slice of a batch at most: what one thread searches at a time.
+/// The records of a slice of a batch, where a piece has as many: what one thread searches at a time. Slices of a long piece
+/// whose records are counted have more.
 pub(crate) const SLICE_LEN: usize = 131_072;
 
 /// The slices of a batch at most that is searched for the first record: those behind it are searched in vain.
 const FIND_LEN: usize = 64;
+
+/// The slices of a piece at most whose records are counted, so that threads begin and end few times, however long it is.
+const COUNT_LEN: usize = 256;
 
 /// Slices that are searched together: as many threads share them as there are processors. Contracts see how many there
 /// are, and their records.
@@ -134,11 +138,12 @@ impl<'a, R: Sync> Batch<'a, R> {
         ensures count { result + count_by (P.picks_of pick.now) self.new.1 ≡ count_by (P.picks_of pick.now) self.old.1 + count_by (P.picks_of pick.now) piece.now }
         ensures few { length self.new.1 ≤ length self.old.1 + length piece.now }
     {
+        let most = SLICE_LEN.max(piece.len().div_ceil(COUNT_LEN));
         let mut rest = piece;
         let mut count: u64 = 0;
         while !rest.is_empty() {
             count += self.make_room(rt, pick);
-            let (front, back) = rest.split_at(SLICE_LEN.min(rest.len()));
+            let (front, back) = rest.split_at(most.min(rest.len()));
             self.push(front);
             rest = back;
         }
