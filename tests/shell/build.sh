@@ -290,8 +290,8 @@ if __name__ == "__main__":
 RT
 }
 
-# 'low long last' is the longest chain. What isn't proof has the jobs that the toolchain gives it.
-the_longest_chain_gets_more_jobs() (
+# What isn't proof has the jobs that the toolchain gives it.
+a_crate_that_little_stands_beside_gets_more_jobs() (
     seeming_repository
     dividing_toolchain
     jobs_are() {
@@ -301,7 +301,8 @@ the_longest_chain_gets_more_jobs() (
         [ "$(grep -c -E '^[a-z0-9]+ (tests|edits) 1$' "$out")" -eq "$(grep -c -E ' (tests|edits) ' "$out")" ]
     }
     jobs_are 0 4 'low proof 4,long proof 4,short proof 1,last proof 4'
-    jobs_are 9 3 'low proof 3,long proof 3,short proof 1,last proof 3,wide0 proof 1'
+    jobs_are 4 3 'low proof 3,long proof 3,short proof 1,last proof 1,wide0 proof 1'
+    jobs_are 12 3 'low proof 3,long proof 1,short proof 1,last proof 1,wide0 proof 1'
     jobs_are 0 1 'low proof 1,long proof 1,short proof 1,last proof 1'
 )
 
