@@ -203,3 +203,31 @@ the_gate_and_the_tests_are_counted_together() (
 each_test_has_a_name_of_its_own() (
     [ -z "$("$top/tests/run" --list | sed 's/^ *//' | sort | uniq -d)" ]
 )
+
+# The gate tries those of one crate at a time. That each can be applied, so that the prover refuses what it makes, is seen here.
+each_wrong_body_changes_texts_that_stand_once() (
+    has python3 'the texts of wrong bodies' || exit $is_skipped
+    cd "$top"
+    python3 - tests/wrong/*/*.edit <<'PY'
+import sys
+
+lost = []
+for name in sys.argv[1:]:
+    crate, texts = name.split("/")[2], {}
+    with open(name, encoding="utf-8") as edit:
+        for line in edit.read().split("\n"):
+            word, _, rest = line.partition(": ")
+            if word == "file":
+                file = f"crates/{crate}/{rest}"
+                if file not in texts:
+                    with open(file, encoding="utf-8") as code:
+                        texts[file] = code.read()
+            elif word == "old":
+                old = rest
+            elif word == "new":
+                if texts[file].count(old) != 1:
+                    lost.append(f"{name}: {texts[file].count(old)} times in {file}: {old}")
+                texts[file] = texts[file].replace(old, rest)
+sys.exit("\n".join(lost) or 0)
+PY
+)
