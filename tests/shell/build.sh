@@ -1,4 +1,4 @@
-# `./cvec` and `./build`, which prove and build the program; none of these tests runs a toolchain.
+# `./cvec` and `./build`, which prove and build the program; one of these tests alone runs the toolchain.
 
 # ---- the script that builds the program, with a toolchain that only seems one
 
@@ -66,7 +66,7 @@ the_program_is_built_once() (
     with_toolchain
     [ "$status" -eq 0 ]
     [ "$(cat "$out")" = 'made with word' ]
-    tells_only 'cvec: proves and builds the program, which takes about half an hour the first time'
+    tells_only 'cvec: proves and builds the program, which takes 30 to 40 minutes the first time'
     with_toolchain
     answers 0 'made with word\n'
 )
@@ -247,18 +247,28 @@ as_many_crates_are_proved_at_once_as_there_are_processors() (
 )
 
 # A toolchain that divides its work as the real one does: over a crate 'low', 'long' and then 'last' wait for one another,
-# as 'short' and then 'last' do; beside them stand as many crates 'wide' as it is told to have.
+# as 'short' and then 'last' do; beside them stand as many crates 'wide' as it is told to have. It says of each proof how many
+# jobs it has and how far it gives way to other processes, what it looks for, and where it keeps what was proved.
 dividing_toolchain() {
     cat >"$there/bin/rt" <<'RT'
 #!/usr/bin/env python3
 import os
 import sys
+import types
+
+NICENESS = os.nice(0)
+rtlib = types.SimpleNamespace(help_of=lambda verb: f"{verb} --jobs --empty-contracts")
 
 
 class Crate:
     def compile_by(self, backend, words, to):
         print(f"compiled by {backend}")
         return 0
+
+
+class Kept:
+    def place(self, crate, tests, key):
+        return f"{os.environ['KEPT']}/{crate}-{tests}-{key}"
 
 
 def processors():
@@ -271,18 +281,25 @@ def in_lanes(tasks):
 
 def ci():
     lines = {"low": 1000, "long": 3000, "short": 100, "last": 600}
-    waits = {"low": [], "long": ["low"], "short": ["low"], "last": ["long", "short"]}
+    waits = {"low": [], "long": ["low"], "short": ["low"]}
     for at in range(int(os.environ["WIDE"])):
         lines[f"wide{at}"], waits[f"wide{at}"] = 1000, ["low"]
+    waits["last"] = ["long", "short"]
     tasks = {}
-    for name in lines:
+    for name in waits:
         for step in ("proof", "tests", "edits"):
-            call = lambda given, jobs, it=name, of=step: print(f"{it} {of} {jobs}", flush=True)
+            call = lambda given, jobs, it=name, of=step: print(f"{it} {of} {jobs} {os.nice(0) - NICENESS}", flush=True)
             tasks[name, step] = [(it, "proof") for it in waits[name]], lines[name], 0, call
     in_lanes(tasks)
     Crate().compile_by("llvm", [], "out")
     Crate().compile_by("rattle", [], "out")
+    print("looks:", rtlib.help_of("check"))
+    print("keeps:", os.path.basename(Kept().place("low", False, "sum")))
     return 0
+
+
+def main(words):
+    return ci() if words == ["ci"] else 2
 
 
 if __name__ == "__main__":
@@ -290,27 +307,69 @@ if __name__ == "__main__":
 RT
 }
 
-# What isn't proof has the jobs that the toolchain gives it.
-a_crate_that_little_stands_beside_gets_more_jobs() (
+# proves WIDE JOBS: what tools/prove has that toolchain say stands in $out then.
+proves() {
+    PATH=$there/bin:/usr/bin:/bin KEPT=$there/kept WIDE=$1 RT_JOBS=$2 "$there/tools/prove" >"$out"
+}
+
+# The crates of the longest chain, until it takes no longer than all crates take the processors. What isn't proof has the jobs
+# that the toolchain gives it.
+a_crate_for_which_others_wait_gets_more_jobs() (
     seeming_repository
     dividing_toolchain
     jobs_are() {
-        PATH=$there/bin:/usr/bin:/bin WIDE=$1 RT_JOBS=$2 "$there/tools/prove" >"$out"
+        proves "$1" "$2"
         shift 2
-        [ "$(grep -E '^(low|long|short|last|wide0) proof' "$out" | paste -sd,)" = "$*" ]
-        [ "$(grep -c -E '^[a-z0-9]+ (tests|edits) 1$' "$out")" -eq "$(grep -c -E ' (tests|edits) ' "$out")" ]
+        [ "$(grep -E '^(low|long|short|last|wide0) proof' "$out" | cut -d' ' -f1-3 | paste -sd,)" = "$*" ]
+        [ "$(grep -c -E '^[a-z0-9]+ (tests|edits) 1 0$' "$out")" -eq "$(grep -c -E ' (tests|edits) ' "$out")" ]
     }
     jobs_are 0 4 'low proof 4,long proof 4,short proof 1,last proof 4'
-    jobs_are 4 3 'low proof 3,long proof 3,short proof 1,last proof 1,wide0 proof 1'
-    jobs_are 12 3 'low proof 3,long proof 1,short proof 1,last proof 1,wide0 proof 1'
+    jobs_are 4 3 'low proof 3,long proof 3,short proof 1,wide0 proof 1,last proof 3'
+    jobs_are 12 3 'low proof 1,long proof 1,short proof 1,wide0 proof 1,last proof 1'
     jobs_are 0 1 'low proof 1,long proof 1,short proof 1,last proof 1'
+)
+
+# By the part of the longest chain that it has to spare: 'short' has 1,250 of 2,750 lines, 'wide' has 800.
+a_crate_gives_way_as_far_as_it_has_time() (
+    seeming_repository
+    dividing_toolchain
+    proves 4 3
+    [ "$(grep -c -E '^(low|long|last) proof 3 0$' "$out")" -eq 3 ]
+    grep -qx 'short proof 1 9' "$out"
+    [ "$(grep -c -E '^wide[0-3] proof 1 5$' "$out")" -eq 4 ]
 )
 
 a_program_is_compiled_once() (
     seeming_repository
     dividing_toolchain
-    PATH=$there/bin:/usr/bin:/bin WIDE=0 RT_JOBS=4 "$there/tools/prove" >"$out"
+    proves 0 4
     [ "$(grep '^compiled' "$out")" = 'compiled by llvm' ]
+)
+
+# So the gate, which looks for contracts that no call can meet, doesn't take what was proved without that; what the gate has
+# kept is taken.
+what_the_gate_asks_for_beside_proofs_is_left_to_it() (
+    seeming_repository
+    dividing_toolchain
+    proves 0 4
+    grep -qx 'looks: check --jobs ' "$out"
+    grep -qx 'keeps: low-False-sum-built' "$out"
+    mkdir -p "$there/kept/low-False-sum"
+    proves 0 4
+    grep -qx 'keeps: low-False-sum' "$out"
+)
+
+# The toolchain at hand proves a crate of one function so, and keeps it apart.
+the_toolchain_at_hand_is_run() (
+    has rt 'a proof by tools/prove' || exit "$is_skipped"
+    there=$work/small
+    mkdir -p "$there/.git" "$there/crates/small$$/src"
+    echo "small$$:" >"$there/crates.txt"
+    printf '#![tactic(auto)]\n\npub fn one() -> u8 {\n    1\n}\n' >"$there/crates/small$$/src/lib.rt"
+    (cd "$there" && RT_JOBS=1 "$top/tools/prove" >"$out" 2>"$err")
+    grep -qx "rt: small$$ proved" "$out"
+    ! grep -q '^empty contracts' "$out"
+    [ "$(tail -n 1 "$out")" = '1 passed, 0 failed' ]
 )
 
 # 'rt lib' runs over the noted libraries of the copy. Where it fails, nothing is left here.
