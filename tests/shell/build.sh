@@ -247,8 +247,8 @@ as_many_crates_are_proved_at_once_as_there_are_processors() (
 )
 
 # A toolchain that divides its work as the real one does: over a crate 'low', 'long' and then 'last' wait for one another,
-# as 'short' and then 'last' do; beside them stand as many crates 'wide' as it is told to have. It says of each proof how many
-# jobs it has and how far it gives way to other processes, what it looks for, and where it keeps what was proved.
+# as 'short' and then 'last' do; beside them stand as many crates 'wide' as it is told to have. It says how many
+# jobs each proof has, what it looks for, and where it keeps what was proved.
 dividing_toolchain() {
     cat >"$there/bin/rt" <<'RT'
 #!/usr/bin/env python3
@@ -256,7 +256,6 @@ import os
 import sys
 import types
 
-NICENESS = os.nice(0)
 rtlib = types.SimpleNamespace(help_of=lambda verb: f"{verb} --jobs --empty-contracts")
 
 
@@ -288,7 +287,7 @@ def ci():
     tasks = {}
     for name in waits:
         for step in ("proof", "tests", "edits"):
-            call = lambda given, jobs, it=name, of=step: print(f"{it} {of} {jobs} {os.nice(0) - NICENESS}", flush=True)
+            call = lambda given, jobs, it=name, of=step: print(f"{it} {of} {jobs}", flush=True)
             tasks[name, step] = [(it, "proof") for it in waits[name]], lines[name], 0, call
     in_lanes(tasks)
     Crate().compile_by("llvm", [], "out")
@@ -312,31 +311,21 @@ proves() {
     PATH=$there/bin:/usr/bin:/bin KEPT=$there/kept WIDE=$1 RT_JOBS=$2 "$there/tools/prove" >"$out"
 }
 
-# The crates of the longest chain, until it takes no longer than all crates take the processors. What isn't proof has the jobs
-# that the toolchain gives it.
-a_crate_for_which_others_wait_gets_more_jobs() (
+# Alone, or where what stands beside it has time, a crate has all processors. Where there are enough others, one job costs
+# least. What isn't proof has the jobs that the toolchain gives it.
+a_crate_gets_more_jobs_where_processors_are_idle() (
     seeming_repository
     dividing_toolchain
     jobs_are() {
         proves "$1" "$2"
         shift 2
-        [ "$(grep -E '^(low|long|short|last|wide0) proof' "$out" | cut -d' ' -f1-3 | paste -sd,)" = "$*" ]
-        [ "$(grep -c -E '^[a-z0-9]+ (tests|edits) 1 0$' "$out")" -eq "$(grep -c -E ' (tests|edits) ' "$out")" ]
+        [ "$(grep -E '^(low|long|short|last) proof' "$out" | paste -sd,)" = "$*" ]
+        [ "$(grep -c -E '^[a-z0-9]+ (tests|edits) 1$' "$out")" -eq "$(grep -c -E ' (tests|edits) ' "$out")" ]
     }
     jobs_are 0 4 'low proof 4,long proof 4,short proof 1,last proof 4'
-    jobs_are 4 3 'low proof 3,long proof 3,short proof 1,wide0 proof 1,last proof 3'
-    jobs_are 12 3 'low proof 1,long proof 1,short proof 1,wide0 proof 1,last proof 1'
+    jobs_are 12 3 'low proof 3,long proof 1,short proof 1,last proof 1'
+    [ "$(grep -c '^wide[0-9]* proof 1$' "$out")" -ge 9 ]
     jobs_are 0 1 'low proof 1,long proof 1,short proof 1,last proof 1'
-)
-
-# By the part of the longest chain that it has to spare: 'short' has 1,250 of 2,750 lines, 'wide' has 800.
-a_crate_gives_way_as_far_as_it_has_time() (
-    seeming_repository
-    dividing_toolchain
-    proves 4 3
-    [ "$(grep -c -E '^(low|long|last) proof 3 0$' "$out")" -eq 3 ]
-    grep -qx 'short proof 1 9' "$out"
-    [ "$(grep -c -E '^wide[0-3] proof 1 5$' "$out")" -eq 4 ]
 )
 
 a_program_is_compiled_once() (
