@@ -18,207 +18,216 @@ pub const COMMANDS: [&str; 19] = [
     "list", "follow", "count", "find", "stat", "set", "resize", "clear", "fold",
 ];
 
-/// A command that takes the word of a type.
-fn typed<'a>(alloc: Global, name: &'a str) -> Result<Command<'a>, AllocError> {
-    let of_type = Arg::new(alloc, "TYPE")
-        .required(true)
-        .action(ArgAction::Set)
-        .value_parser(TYPES.as_slice());
-    Command::new(alloc, name).arg(of_type)
+/// How a word of a command is given.
+#[derive(Clone, Copy)]
+enum Form {
+    /// By its place, as a type of record. It has to be there.
+    Type,
+    /// By its place, as the name of a command.
+    Command,
+    /// By its place. It has to be there, and may be a negative number, which is none of the program's and refused as such.
+    Placed,
+    /// By its name alone: it is there or isn't.
+    Flag,
+    /// A flag that this other word rules out.
+    FlagWithout(&'static str),
+    /// A value behind its name, with `=` or as the next word. That may be a negative number, but no other word of an option.
+    Valued,
+    /// A value that has to be there.
+    Needed,
+    /// A value that this other word rules out.
+    ValuedWithout(&'static str),
+    /// A value that needs this other word.
+    ValuedWith(&'static str),
+    /// A value that is a version of a file.
+    Format,
+    /// A value that is a number of seconds. Without a number they are for good.
+    Seconds,
+    /// Records, the first of which may be negative. They have to be there unless this other word is, and never both are.
+    RecordsUnless(&'static str),
 }
 
-/// A word that has to be there. It may be a negative number, which is none of the program's and refused as such.
-fn word<'a>(alloc: Global, name: &'a str) -> Arg<'a> {
-    Arg::new(alloc, name)
-        .required(true)
-        .action(ArgAction::Set)
-        .allow_negative_numbers(true)
+/// A word of a command: its name, and how it is given.
+#[derive(Clone, Copy)]
+struct Word(&'static str, Form);
+
+const TYPE: Word = Word("TYPE", Form::Type);
+
+const FILE: Word = Word("FILE", Form::Placed);
+
+const NEW: Word = Word("NEW", Form::Placed);
+
+const QUIET: Word = Word("quiet", Form::Flag);
+
+/// For how many seconds another command is waited for.
+const WAIT: Word = Word("wait", Form::Seconds);
+
+const FORMAT: Word = Word("format", Form::Format);
+
+const BLOCK: Word = Word("block", Form::Valued);
+
+const RECORD: Word = Word("record", Form::Needed);
+
+const LENIENT: Word = Word("lenient", Form::Flag);
+
+/// The words that most commands have over a file.
+static OVER_FILE: [Word; 4] = [TYPE, FILE, QUIET, WAIT];
+
+/// Those of a command over the input.
+static OVER_INPUT: [Word; 1] = [TYPE];
+
+/// Those of `follow`, which takes no lock, so it never waits for one.
+static OVER_FOLLOWED: [Word; 3] = [TYPE, FILE, QUIET];
+
+/// Those of `stat`, for which a file has no type.
+static OVER_ANY_FILE: [Word; 3] = [FILE, QUIET, WAIT];
+
+static NO_WORDS: [Word; 0] = [];
+
+static OF_CREATE: [Word; 2] = [FORMAT, Word("over", Form::Flag)];
+
+static OF_LOAD: [Word; 2] = [Word("seats", Form::Valued), LENIENT];
+
+static OF_APPEND: [Word; 4] = [
+    BLOCK,
+    Word("every", Form::Valued),
+    Word("progress", Form::Flag),
+    LENIENT,
+];
+
+static OF_SERVE: [Word; 1] = [Word("seats", Form::Needed)];
+
+static OF_UPGRADE: [Word; 1] = [NEW];
+
+static OF_COPY: [Word; 3] = [NEW, FORMAT, BLOCK];
+
+static OF_LIST: [Word; 2] = [Word("from", Form::Valued), Word("count", Form::Valued)];
+
+static OF_SEARCH: [Word; 1] = [RECORD];
+
+static OF_STAT: [Word; 1] = [Word("json", Form::Flag)];
+
+static OF_FOLLOW: [Word; 5] = [
+    Word("from", Form::ValuedWithout("events")),
+    Word("once", Form::Flag),
+    Word("poll", Form::Valued),
+    Word("events", Form::Flag),
+    Word("after", Form::ValuedWith("events")),
+];
+
+static OF_SET: [Word; 4] = [
+    Word("START", Form::Placed),
+    Word("records", Form::RecordsUnless("input")),
+    Word("input", Form::Flag),
+    Word("lenient", Form::FlagWithout("records")),
+];
+
+static OF_RESIZE: [Word; 3] = [Word("N", Form::Placed), RECORD, Word("parts", Form::Flag)];
+
+static OF_HELP: [Word; 1] = [Word("COMMAND", Form::Command)];
+
+/// The words that a command has in common with others.
+fn common_words(name: &str) -> &'static [Word] {
+    match name {
+        "image" | "show" | "play" => &OVER_INPUT,
+        "follow" => &OVER_FOLLOWED,
+        "stat" => &OVER_ANY_FILE,
+        "help" | "version" => &NO_WORDS,
+        _ => &OVER_FILE,
+    }
 }
 
-/// A value behind its name, with `=` or as the next word. That may be a negative number, but no other word of an option.
-fn valued<'a>(alloc: Global, name: &'a str) -> Arg<'a> {
-    Arg::new(alloc, name)
-        .long(name)
-        .action(ArgAction::Set)
-        .allow_negative_numbers(true)
+/// The words that are a command's own, behind the common ones.
+fn own_words(name: &str) -> &'static [Word] {
+    match name {
+        "create" => &OF_CREATE,
+        "load" => &OF_LOAD,
+        "append" => &OF_APPEND,
+        "serve" => &OF_SERVE,
+        "upgrade" => &OF_UPGRADE,
+        "copy" => &OF_COPY,
+        "list" => &OF_LIST,
+        "follow" => &OF_FOLLOW,
+        "count" | "find" => &OF_SEARCH,
+        "stat" => &OF_STAT,
+        "set" => &OF_SET,
+        "resize" => &OF_RESIZE,
+        "help" => &OF_HELP,
+        _ => &NO_WORDS,
+    }
 }
 
-/// A word that is there or isn't.
+/// A word by its place.
+fn placed<'a>(alloc: Global, name: &'a str) -> Arg<'a> {
+    Arg::new(alloc, name).action(ArgAction::Set)
+}
+
 fn flag<'a>(alloc: Global, name: &'a str) -> Arg<'a> {
     Arg::new(alloc, name).long(name).action(ArgAction::SetTrue)
 }
 
-/// For how many seconds another command is waited for. Without a number it is for good.
-fn waiting<'a>(alloc: Global) -> Arg<'a> {
-    valued(alloc, "wait")
+fn valued<'a>(alloc: Global, name: &'a str) -> Arg<'a> {
+    placed(alloc, name).long(name).allow_negative_numbers(true)
+}
+
+fn seconds<'a>(alloc: Global, name: &'a str) -> Arg<'a> {
+    valued(alloc, name)
         .num_args(0..=1)
         .require_equals(true)
         .default_missing_value(FOR_GOOD)
 }
 
-/// The command with one more word, unless memory was refused before.
-fn with<'a>(
-    command: Result<Command<'a>, AllocError>,
-    word: Arg<'a>,
-) -> Result<Command<'a>, AllocError> {
-    command?.arg(word)
+fn records_unless<'a>(alloc: Global, name: &'a str, other: &'a str) -> Result<Arg<'a>, AllocError> {
+    valued(alloc, name)
+        .allow_hyphen_values(true)
+        .required_unless_present(other)?
+        .conflicts_with(other)
 }
 
-/// The same with a word that is tied to others, for which memory may be refused too.
-fn with_tied<'a>(
-    command: Result<Command<'a>, AllocError>,
-    word: Result<Arg<'a>, AllocError>,
-) -> Result<Command<'a>, AllocError> {
-    with(command, word?)
+/// The word as `clap` takes it.
+fn arg_of<'a>(alloc: Global, word: Word) -> Result<Arg<'a>, AllocError> {
+    let Word(name, form) = word;
+    match form {
+        Form::Type => Ok(
+            placed(alloc, name)
+                .required(true)
+                .value_parser(TYPES.as_slice()),
+        ),
+        Form::Command => Ok(placed(alloc, name).value_parser(COMMANDS.as_slice())),
+        Form::Placed => Ok(
+            placed(alloc, name)
+                .required(true)
+                .allow_negative_numbers(true),
+        ),
+        Form::Flag => Ok(flag(alloc, name)),
+        Form::FlagWithout(other) => flag(alloc, name).conflicts_with(other),
+        Form::Valued => Ok(valued(alloc, name)),
+        Form::Needed => Ok(valued(alloc, name).required(true)),
+        Form::ValuedWithout(other) => valued(alloc, name).conflicts_with(other),
+        Form::ValuedWith(other) => valued(alloc, name).requires_arg(other),
+        Form::Format => Ok(valued(alloc, name).value_parser(FORMATS.as_slice())),
+        Form::Seconds => Ok(seconds(alloc, name)),
+        Form::RecordsUnless(other) => records_unless(alloc, name, other),
+    }
 }
 
-/// A command with the words that all have over a file.
-fn with_file<'a>(
-    alloc: Global,
-    command: Result<Command<'a>, AllocError>,
-) -> Result<Command<'a>, AllocError> {
-    with(with(command, word(alloc, "FILE")), flag(alloc, "quiet"))
-}
-
-/// A command that may have to wait for its file.
-fn with_locked_file<'a>(
-    alloc: Global,
-    command: Result<Command<'a>, AllocError>,
-) -> Result<Command<'a>, AllocError> {
-    with(with_file(alloc, command), waiting(alloc))
-}
-
-/// A command over a file.
-fn over_file<'a>(alloc: Global, name: &'a str) -> Result<Command<'a>, AllocError> {
-    with_locked_file(alloc, typed(alloc, name))
-}
-
-/// A command over a file, with a word of its own.
-fn with_word<'a>(alloc: Global, name: &'a str, word: Arg<'a>) -> Result<Command<'a>, AllocError> {
-    with(over_file(alloc, name), word)
-}
-
-/// A command over a file, with two words of its own.
+/// The command with these words too.
 fn with_words<'a>(
     alloc: Global,
-    name: &'a str,
-    first: Arg<'a>,
-    second: Arg<'a>,
+    command: Command<'a>,
+    words: &[Word],
 ) -> Result<Command<'a>, AllocError> {
-    with(with_word(alloc, name, first), second)
-}
-
-/// A value that has to be there.
-fn needed<'a>(alloc: Global, name: &'a str) -> Arg<'a> {
-    valued(alloc, name).required(true)
-}
-
-/// Records that have to be there unless the input has them. The first one may be negative.
-fn given_records<'a>(alloc: Global) -> Result<Arg<'a>, AllocError> {
-    valued(alloc, "records")
-        .allow_hyphen_values(true)
-        .required_unless_present("input")?
-        .conflicts_with("input")
-}
-
-/// `set`, with the words that are its own.
-fn setting<'a>(alloc: Global, name: &'a str) -> Result<Command<'a>, AllocError> {
-    let command = with_word(alloc, name, word(alloc, "START"));
-    let command = with_tied(command, given_records(alloc));
-    let command = with(command, flag(alloc, "input"));
-    with_tied(command, flag(alloc, "lenient").conflicts_with("records"))
-}
-
-/// A command that reads, with the words that are its own.
-fn reading<'a>(alloc: Global, name: &'a str) -> Result<Command<'a>, AllocError> {
-    match name {
-        "list" => with_words(alloc, name, valued(alloc, "from"), valued(alloc, "count")),
-        "count" | "find" => with_word(alloc, name, needed(alloc, "record")),
-        _ => over_file(alloc, name),
+    let mut command = command;
+    for word in words {
+        command = command.arg(arg_of(alloc, *word)?)?;
     }
-}
-
-/// `follow`, with the words that are its own. It takes no lock, so it never waits for one.
-fn following<'a>(alloc: Global, name: &'a str) -> Result<Command<'a>, AllocError> {
-    let command = with_file(alloc, typed(alloc, name));
-    let command = with_tied(command, valued(alloc, "from").conflicts_with("events"));
-    let command = with(command, flag(alloc, "once"));
-    let command = with(command, valued(alloc, "poll"));
-    let command = with(command, flag(alloc, "events"));
-    with_tied(command, valued(alloc, "after").requires_arg("events"))
-}
-
-/// `append`, with the words that are its own.
-fn appending<'a>(alloc: Global, name: &'a str) -> Result<Command<'a>, AllocError> {
-    let command = with_words(alloc, name, valued(alloc, "block"), valued(alloc, "every"));
-    let command = with(command, flag(alloc, "progress"));
-    with(command, flag(alloc, "lenient"))
-}
-
-/// A command that appends, with the words that are its own.
-fn growing<'a>(alloc: Global, name: &'a str) -> Result<Command<'a>, AllocError> {
-    match name {
-        "load" => with_words(alloc, name, valued(alloc, "seats"), flag(alloc, "lenient")),
-        "append" => appending(alloc, name),
-        _ => with_word(alloc, name, needed(alloc, "seats")),
-    }
-}
-
-/// The version of a file that is made.
-fn format<'a>(alloc: Global) -> Arg<'a> {
-    valued(alloc, "format").value_parser(FORMATS.as_slice())
-}
-
-/// A command that makes a file, with the words that are its own.
-fn making<'a>(alloc: Global, name: &'a str) -> Result<Command<'a>, AllocError> {
-    match name {
-        "create" => with_words(alloc, name, format(alloc), flag(alloc, "over")),
-        "upgrade" => with_word(alloc, name, word(alloc, "NEW")),
-        _ => {
-            let command = with_words(alloc, name, word(alloc, "NEW"), format(alloc));
-            with(command, valued(alloc, "block"))
-        }
-    }
-}
-
-/// A command that changes what is there, with the words that are its own.
-fn changing<'a>(alloc: Global, name: &'a str) -> Result<Command<'a>, AllocError> {
-    match name {
-        "set" => setting(alloc, name),
-        "resize" => {
-            let command = with_words(alloc, name, word(alloc, "N"), needed(alloc, "record"));
-            with(command, flag(alloc, "parts"))
-        }
-        _ => over_file(alloc, name),
-    }
-}
-
-/// `stat`, which takes no word of a type.
-fn stat_command<'a>(alloc: Global) -> Result<Command<'a>, AllocError> {
-    let command = with_locked_file(alloc, Ok(Command::new(alloc, "stat")));
-    with(command, flag(alloc, "json"))
-}
-
-/// `help`, which may be asked of a command.
-fn help_command<'a>(alloc: Global) -> Result<Command<'a>, AllocError> {
-    let of_command = Arg::new(alloc, "COMMAND")
-        .action(ArgAction::Set)
-        .value_parser(COMMANDS.as_slice());
-    Command::new(alloc, "help").arg(of_command)
+    Ok(command)
 }
 
 /// A command with its words.
 fn command_of<'a>(alloc: Global, name: &'a str) -> Result<Command<'a>, AllocError> {
-    match name {
-        "image" | "show" | "play" => typed(alloc, name),
-        "create" | "upgrade" | "copy" => making(alloc, name),
-        "load" | "append" | "serve" => growing(alloc, name),
-        "check" | "list" | "count" | "find" => reading(alloc, name),
-        "follow" => following(alloc, name),
-        "stat" => stat_command(alloc),
-        "help" => help_command(alloc),
-        _ => changing(alloc, name),
-    }
+    let command = with_words(alloc, Command::new(alloc, name), common_words(name))?;
+    with_words(alloc, command, own_words(name))
 }
 
 /// The program, which has none of its commands yet.
@@ -235,15 +244,7 @@ fn with_command<'a>(
     all: Command<'a>,
     name: &'a str,
 ) -> Result<Command<'a>, AllocError> {
-    match command_of(alloc, name) {
-        Ok(command) => all.subcommand(command),
-        Err(error) => Err(error),
-    }
-}
-
-/// The commands that tell of the program, behind the others.
-fn with_telling<'a>(alloc: Global, all: Command<'a>) -> Result<Command<'a>, AllocError> {
-    with_command(alloc, all, "help")?.subcommand(Command::new(alloc, "version"))
+    all.subcommand(command_of(alloc, name)?)
 }
 
 /// All commands.
@@ -252,5 +253,5 @@ pub fn all_commands<'a>(alloc: Global) -> Result<Command<'a>, AllocError> {
     for name in COMMANDS.iter() {
         all = with_command(alloc, all, *name)?;
     }
-    with_telling(alloc, all)
+    with_command(alloc, with_command(alloc, all, "help")?, "version")
 }

@@ -39,7 +39,7 @@ echo '1 2 | 3' | cvec image u64
 /// The program's version, the versions of files that it reads and writes, and what it was proved and built with.
 pub const VERSION: &[u8] = b"cvec 1.0
 files of version 1 and 2
-proved and built with rattle-kit-13b logic dac8208d650f15bf
+proved and built with rattle-kit-13f logic dac8208d650f15bf
 ";
 
 const IMAGE: &[u8] = b"cvec image TYPE
