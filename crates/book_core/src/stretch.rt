@@ -24,11 +24,15 @@ impl Stretch {
         Stretch { left: STRETCH }
     }
 
-    /// Counts a block of so many records, and has the heap grow where no more is left.
+    /// Counts a block of so many records, and has the heap grow where no more is left. One that is as large has it grow by
+    /// itself.
     pub(crate) fn count<R: Record>(&mut self, alloc: Global, len: u64) {
         let bytes = len
             .saturating_mul(width_of::<R>() as u64)
             .saturating_add(BESIDE);
+        if bytes >= STRETCH {
+            return;
+        }
         match self.left.checked_sub(bytes) {
             Some(left) => self.left = left,
             None => {
