@@ -931,8 +931,8 @@ template <class T> class concurrent_vector {
     }
 
     // -- having the vector alone: each waits until the calls under way have ended, and later ones wait for it. It is durable when
-    // it returns. Iterators from before may still show what was. After CVEC_MEMORY it may be called again: until then there is
-    // what was or what is to be. After a write or a sync that failed all calls are refused.
+    // it returns. Iterators from before may still show what was. After CVEC_MEMORY nothing has
+    // changed. After a write or a sync that failed all calls are refused.
 
     // Writes rows over those from this position on: behind a crash all of them are there or none. With none it does nothing. A
     // position past the end is std::out_of_range, and nothing has changed then.
