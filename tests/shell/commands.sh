@@ -75,6 +75,24 @@ a_part_is_listed_without_the_other_records() (
     seq 2 300000 | sed 's/^200002$/7/' | cmp - "$out"
 )
 
+# Runs the program, which is built, in so little memory that the 80 MB of a file don't fit.
+run_in_little_memory() {
+    status=0
+    (ulimit -v 70000 && "$top/crates/cvec/out/cvec" "$@") >"$out" 2>"$err" || status=$?
+}
+
+a_long_file_is_checked_in_little_memory() (
+    t=$work/t.cv
+    run create u64 "$t"
+    seq 1 10000000 >"$in"
+    run append u64 "$t" --block=100000
+    given ''
+    run set u64 "$t" 65535 --records=7,10000001
+    run_in_little_memory check u64 "$t"
+    [ "$status" -eq 0 ]
+    grep -qx 'ok version 1 width 8 size 10000000 frames [0-9]* live 1' "$out"
+)
+
 a_file_is_upgraded() (
     a_changed_file
     run upgrade u64 "$work/t.cv" "$work/n.cv"

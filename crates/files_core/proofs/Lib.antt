@@ -6,6 +6,7 @@ pub mod Lengthened
 pub mod Written
 pub mod Windows
 pub mod WindowRecords
+pub mod FramedScan
 pub mod Folded
 pub mod Commas
 pub mod Fronts

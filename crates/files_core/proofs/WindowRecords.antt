@@ -207,6 +207,27 @@ module _ {R : Type 0} (form : Encoding R) (small : form.width < 2 ^ 16) (keeps :
           ∙ sym (slice_get-drop from records i)
           ∙ sym (slice_get-take count (drop from records) i few)
 
+  -- the file's list, where the disk has kept the model; else some list that is as long
+  abbrev pub frames_list : R → List R
+  frames_list blank = records_in form blank framed.tally.size (raw_cells framed.shape bytes on.frames)
+
+  pub length-frames_list : (blank : R) → length (frames_list blank) ≡ framed.tally.size
+  length-frames_list blank = length-records_in form blank framed.tally.size (raw_cells framed.shape bytes on.frames)
+
+  pub frames_vector : (blank : R) → ReadsAny form → keeps → HasVector framed.shape.format form bytes on.frames (frames_list blank)
+  frames_vector blank any model =
+      let stand : List (List ℕ) = raw_cells framed.shape bytes on.frames in
+      let has : HasVector framed.shape.format (raw form.width) bytes on.frames stand
+      = subst (λ w. HasVector framed.shape.format (raw w) bytes on.frames stand) width (raw_vector framed.shape bytes on.frames (on.framed_by model)) in
+      let many : length stand ≡ framed.tally.size = has.read.size ∙ sym (ap (λ t. t.size) on.is.tally_is) in
+      record {
+        framed = has_frames model;
+        read = IsVectorOf_typed framed.shape.format form bytes on.frames stand (frames_list blank) has.read (AreReadAs-records_in form blank framed.tally.size stand any many);
+      }
+
+  pub frames_open : (blank : R) → ReadsAny form → keeps → OpensTo form bytes (frames_list blank)
+  frames_open blank any model = record { format = framed.shape.format; frames = on.frames; vector = frames_vector blank any model }
+
   -- Where the disk has kept the model these are the records of the file's window; else they are in some list's.
   pub window_read : (blank : R) → ReadsAny form → (window : Window) (from count : ℕ) (read : List R) → from ≡ min window.from framed.tally.size
       → count ≡ min window.count (framed.tally.size - from) → length read ≡ count → (keeps → AreRecordsFrom form bytes from count read) → AreWindowOf form window keeps bytes read
@@ -216,25 +237,11 @@ module _ {R : Type 0} (form : Encoding R) (small : form.width < 2 ^ 16) (keeps :
     shown = sym (spliced_shown window.from window.count from count read all (first ∙ ap (min window.from) (sym size_is)) (many ∙ ap (λ n. min window.count (n - from)) (sym size_is)) len);
   }
     where
-      stand : List (List ℕ)
-      stand = raw_cells framed.shape bytes on.frames
-
       all : List R
-      all = records_in form blank framed.tally.size stand
+      all = frames_list blank
 
       size_is : length all ≡ framed.tally.size
-      size_is = length-records_in form blank framed.tally.size stand
+      size_is = length-frames_list blank
 
       opens : keeps → OpensTo form bytes all
-      opens model =
-          let has : HasVector framed.shape.format (raw form.width) bytes on.frames stand
-          = subst (λ w. HasVector framed.shape.format (raw w) bytes on.frames stand) width (raw_vector framed.shape bytes on.frames (on.framed_by model)) in
-          let many : length stand ≡ framed.tally.size = has.read.size ∙ sym (ap (λ t. t.size) on.is.tally_is) in
-          record {
-            format = framed.shape.format;
-            frames = on.frames;
-            vector = record {
-              framed = has_frames model;
-              read = IsVectorOf_typed framed.shape.format form bytes on.frames stand all has.read (AreReadAs-records_in form blank framed.tally.size stand any many);
-            };
-          }
+      opens model = frames_open blank any model

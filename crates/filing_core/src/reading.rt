@@ -38,7 +38,7 @@ pub fn window_of(from: Option<&str>, count: Option<&str>) -> Result<Window, File
 }
 
 impl<'a, F: Files<File = File> + Clock + AllocGlobal, P: Progress + Sync> Filing<'a, F, P> {
-    fn check_locked<R: TextRecord, W: Write>(
+    fn check_locked<R: TextRecord + OpensToWrite, W: Write>(
         &self,
         opened: Opened,
         writer: &mut W,
@@ -67,7 +67,10 @@ impl<'a, F: Files<File = File> + Clock + AllocGlobal, P: Progress + Sync> Filing
         status_of_look(check_beside::<R, SharedFile, W>(self.alloc, &mut file, writer))
     }
 
-    pub fn check<R: TextRecord, W: Write>(&self, writer: &mut W) -> Result<Status, Complaint>
+    pub fn check<R: TextRecord + OpensToWrite, W: Write>(
+        &self,
+        writer: &mut W,
+    ) -> Result<Status, Complaint>
         ensures { IsCheckRun R.form (W.contents writer.old) (W.contents writer.new) result }
     {
         match open_beside(self.files, self.file)? {
