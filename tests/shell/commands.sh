@@ -81,7 +81,8 @@ run_in_little_memory() {
     (ulimit -v 70000 && "$top/crates/cvec/out/cvec" "$@") >"$out" 2>"$err" || status=$?
 }
 
-a_long_file_is_checked_in_little_memory() (
+# A change lies over the end of what is read at once.
+a_long_file_is_checked_and_counted_in_little_memory() (
     t=$work/t.cv
     run create u64 "$t"
     seq 1 10000000 >"$in"
@@ -91,6 +92,8 @@ a_long_file_is_checked_in_little_memory() (
     run_in_little_memory check u64 "$t"
     [ "$status" -eq 0 ]
     grep -qx 'ok version 1 width 8 size 10000000 frames [0-9]* live 1' "$out"
+    run_in_little_memory count u64 "$t" --record=7
+    did '2\n'
 )
 
 a_file_is_upgraded() (

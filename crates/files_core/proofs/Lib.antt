@@ -7,6 +7,8 @@ pub mod Written
 pub mod Windows
 pub mod WindowRecords
 pub mod FramedScan
+pub mod PartsRead
+pub mod ReadAgain
 pub mod Folded
 pub mod Commas
 pub mod Fronts

@@ -15,6 +15,7 @@ mod fault;
 mod folding;
 mod lengthening;
 mod listing;
+mod parts;
 mod progress;
 mod resizing;
 mod searching;

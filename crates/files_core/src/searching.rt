@@ -1,26 +1,80 @@
 //! `count` and `find`: records that are the one wanted. That `==` calls no others equal is a law of `Record`.
 
-ghost use Rattle.std.specs.Prelude.{◌≡◌, List, Option};
+ghost use Rattle.std.specs.Prelude.{◌≡◌, ℕ, List, Option, IfOk, IfErr};
 ghost use Rattle.std.specs.List.{count_by};
 ghost use Rattle.disk_core.specs.Calls.{bytes_of};
+ghost use Rattle.disk_core.specs.Fault.{CountsFailures};
+ghost use Rattle.disk_core.specs.Moments.{LeavesOnly};
+ghost use Rattle.disk_core.specs.State.{now, IsImage};
+ghost use Rattle.pen_core.specs.Framing.{IsFramedOn};
+ghost use Rattle.pen_core.specs.Opening.{IsOpenRefusal, failed_openings};
 ghost use Rattle.pen_core.specs.Typed.{OpensTo};
 ghost use Rattle.search_core.specs.Search.{IsFirst};
 ghost use Rattle.files_core.specs.Ended.{WritesAnswer};
 ghost use Rattle.files_core.specs.Opened.{CommandOnlyReads};
 ghost use Rattle.files_core.specs.Searching.{TellsCount, TellsFirst};
+ghost use Rattle.files_core.specs.Writable.{ReadsAny};
 
 use crate::ended::Ended;
 use crate::fault::FileFault;
+use crate::parts::{Part, walk_for_parts};
+use crate::writable::OpensToWrite;
 use disk_core::Disk;
+use pen_core::OpenFault;
+use record_core::Record;
 use search_core::Equals;
+use segment_core::Framed;
 use std::alloc::Global;
 use std::io::Write;
 use std::thread::Threads;
 use text_core::{TextRecord, write_found, write_number_line};
 use vault_core::Vault;
 
-/// Writes how many records of the file's vector are this one. Refused: `Open`.
-pub fn count<R: TextRecord, D: Disk, W: Write, E: Threads + Sync>(
+/// How many of the records are this one.
+fn count_equal<R: Record>(records: &[R], wanted: R) -> u64
+    ensures { result ≡ count_by (λ r. R.Eq.eq r wanted) records.now }
+{
+    let mut count: u64 = 0;
+    for r in records {
+        if *r == wanted {
+            count += 1;
+        }
+    }
+    count
+}
+
+/// How many records are this one of a file whose frames were walked.
+fn count_parts<R: Record, D: Disk>(
+    alloc: Global,
+    disk: &mut D,
+    framed: &Framed,
+    wanted: R,
+) -> Result<u64, OpenFault>
+    requires any { ReadsAny R.form }
+    requires framed { (size : ℕ) × IsFramedOn (D.keeps disk.old) (bytes_of (D.states disk.old)) size framed.now }
+    requires width { framed.now.shape.width ≡ R.form.width }
+    ensures counted { IfOk result (λ total. (records : List R) × (D.keeps disk.new → OpensTo R.form (bytes_of (D.states disk.old)) records)
+        × (total ≡ count_by (λ r. R.Eq.eq r wanted) records)) }
+    ensures refused { D.keeps disk.new → IfErr result (IsOpenRefusal R.form (bytes_of (D.states disk.old))) }
+    ensures same { D.keeps disk.new → now (D.states disk.new) ≡ now (D.states disk.old) }
+    ensures images { D.keeps disk.new → LeavesOnly (D.states disk.old) (D.states disk.new) (IsImage (now (D.states disk.old))) }
+    ensures faults { CountsFailures failed_openings (D.faults disk.old) (D.faults disk.new) result }
+    ensures model { D.keeps disk.new → D.keeps disk.old }
+{
+    let mut part = Part::new(alloc);
+    let mut total: u64 = 0;
+    let mut done: u64 = 0;
+    while done < framed.tally.size {
+        part.read(disk, framed, done)?;
+        let records = part.records();
+        total += count_equal(records, wanted);
+        done += records.len() as u64;
+    }
+    Ok(total)
+}
+
+/// `count`, where the file is read as a whole.
+fn count_whole<R: TextRecord, D: Disk, W: Write, E: Threads + Sync>(
     rt: &E,
     alloc: Global,
     disk: D,
@@ -37,6 +91,54 @@ pub fn count<R: TextRecord, D: Disk, W: Write, E: Threads + Sync>(
     let total = vault.count_where(rt, &Equals { record: wanted });
     let written = write_number_line(writer, total);
     (vault.into_disk(), Ended::told(written))
+}
+
+/// `count`, where any bytes are a record.
+fn count_framed<R: TextRecord, D: Disk, W: Write, E: Threads + Sync>(
+    rt: &E,
+    alloc: Global,
+    disk: D,
+    wanted: R,
+    writer: &mut W,
+) -> (D, Ended)
+    requires { ReadsAny R.form }
+    ensures reads { CommandOnlyReads R.form D.keeps D.states D.faults disk result.0 result.1 }
+    ensures writes { WritesAnswer (W.contents writer.old) (W.contents writer.new) (TellsCount R.form wanted (D.keeps result.0) (bytes_of (D.states disk))) result.1 }
+{
+    let mut disk = disk;
+    let found = match walk_for_parts::<R, D>(alloc, &mut disk) {
+        Ok(found) => found,
+        Err(fault) => return (disk, Ended::Refused(FileFault::Open(fault))),
+    };
+    let Some(framed) = found else {
+        return count_whole(rt, alloc, disk, wanted, writer);
+    };
+    match count_parts(alloc, &mut disk, &framed, wanted) {
+        Ok(total) => {
+            let written = write_number_line(writer, total);
+            (disk, Ended::told(written))
+        }
+        Err(fault) => (disk, Ended::Refused(FileFault::Open(fault))),
+    }
+}
+
+/// Writes how many records of the file's vector are this one. Where any bytes are a record it takes memory for a part of them,
+/// if groups aren't short, else for all. Refused: `Open`.
+pub fn count<R: TextRecord + OpensToWrite, D: Disk, W: Write, E: Threads + Sync>(
+    rt: &E,
+    alloc: Global,
+    disk: D,
+    wanted: R,
+    writer: &mut W,
+) -> (D, Ended)
+    ensures reads { CommandOnlyReads R.form D.keeps D.states D.faults disk result.0 result.1 }
+    ensures writes { WritesAnswer (W.contents writer.old) (W.contents writer.new) (TellsCount R.form wanted (D.keeps result.0) (bytes_of (D.states disk))) result.1 }
+{
+    if R::READS_ANY {
+        count_framed(rt, alloc, disk, wanted, writer)
+    } else {
+        count_whole(rt, alloc, disk, wanted, writer)
+    }
 }
 
 /// Writes the least position of this record, or `none`. Refused: `Open`.

@@ -21,13 +21,13 @@ use std::alloc::Global;
 pub(crate) const PART_LEN: u64 = 65_536;
 
 /// Reads `count` records of a file whose frames were walked, from position `from` on, behind those that are there. `PART_LEN`
-/// of them at most.
-fn read_part<R: Record, D: Disk>(
-    alloc: Global,
+/// of them at most. Their bytes come into a list whose memory is used again.
+pub(crate) fn read_part<R: Record, D: Disk>(
     disk: &mut D,
     framed: &Framed,
     from: u64,
     count: u64,
+    bytes: &mut Vec<u8>,
     records: &mut Vec<R>,
 ) -> Result<(), OpenFault>
     requires any { ReadsAny R.form }
@@ -43,14 +43,13 @@ fn read_part<R: Record, D: Disk>(
     ensures faults { CountsFailures failed_openings (D.faults disk.old) (D.faults disk.new) result }
     ensures model { D.keeps disk.new → D.keeps disk.old }
 {
-    let mut bytes = Vec::new(alloc);
     let Ok(()) = bytes.resize(count as usize * width_of::<R>(), 0) else {
         return Err(OpenFault::Scan(ScanFault::Memory));
     };
-    if let Err(fault) = read_window(disk, framed, from, count, &mut bytes) {
+    if let Err(fault) = read_window(disk, framed, from, count, bytes) {
         return Err(OpenFault::Disk(fault));
     }
-    match read_records(&bytes, count as usize, records) {
+    match read_records(bytes, count as usize, records) {
         Ok(()) => Ok(()),
         Err(RecordsFault::Bad(_)) => unreachable!(),
         Err(RecordsFault::Memory) => Err(OpenFault::Scan(ScanFault::Memory)),
@@ -80,10 +79,11 @@ fn read_parts<R: Record, D: Disk>(
     let Ok(mut records) = Vec::with_capacity(alloc, count as usize) else {
         return Err(OpenFault::Scan(ScanFault::Memory));
     };
+    let mut bytes = Vec::new(alloc);
     let mut done: u64 = 0;
     while done < count {
         let part = PART_LEN.min(count - done);
-        read_part(alloc, disk, framed, from + done, part, &mut records)?;
+        read_part(disk, framed, from + done, part, &mut bytes, &mut records)?;
         done += part;
     }
     Ok(records)

@@ -133,7 +133,7 @@ impl<'a, F: Files<File = File> + Clock + AllocGlobal, P: Progress + Sync> Filing
         }
     }
 
-    fn search_locked<R: TextRecord, W: Write, E: Threads + Sync>(
+    fn search_locked<R: TextRecord + OpensToWrite, W: Write, E: Threads + Sync>(
         &self,
         rt: &E,
         opened: Opened,
@@ -173,7 +173,7 @@ impl<'a, F: Files<File = File> + Clock + AllocGlobal, P: Progress + Sync> Filing
     }
 
     /// `count` and `find`.
-    pub fn search<R: TextRecord, W: Write, E: Threads + Sync>(
+    pub fn search<R: TextRecord + OpensToWrite, W: Write, E: Threads + Sync>(
         &self,
         rt: &E,
         sought: Sought,

@@ -9,7 +9,7 @@ ghost use Rattle.filing_core.specs.Beside.{SoughtBeside};
 ghost use Rattle.filing_core.specs.Commands.{TellsSought};
 
 use disk_core::{Disk, Shared};
-use files_core::{Ended, count, find};
+use files_core::{Ended, OpensToWrite, count, find};
 use follow_core::{LookEnd, count_beside, find_beside};
 use std::alloc::Global;
 use std::io::Write;
@@ -26,7 +26,7 @@ pub enum Sought {
 }
 
 /// Has the engine of what is sought do its work.
-pub fn search<R: TextRecord, D: Disk, W: Write, E: Threads + Sync>(
+pub fn search<R: TextRecord + OpensToWrite, D: Disk, W: Write, E: Threads + Sync>(
     rt: &E,
     alloc: Global,
     sought: Sought,

@@ -17,8 +17,8 @@ pub returns-in_default-clause-images : goal.returns-in_default-clause-images
 returns-in_default-clause-images g c = λ model.
     LeavesOnly-start (g.D.Disk.states c.args.disk.now) (IsImage (now (g.D.Disk.states c.args.disk.now))) (λ image left. left)
 
-pub returns-clause-refused : goal.returns-clause-refused
-returns-clause-refused g c = λ model.
+pub returns-in-Err-Memory-clause-refused : goal.returns-in-Err-Memory-clause-refused
+returns-in-Err-Memory-clause-refused g c = λ model.
     let laws = g.met.R.Record g.world.𝓛 g.world.𝓜 g.world.𝓡 ((λ s x. x), (λ x. x), (λ x. x), λ x. x) in
     memory_refused g.R.Record.form laws.width_in_range.1 (g.D.Disk.keeps c.args.disk.now) (bytes_of (g.D.Disk.states c.args.disk.now)) c.requires.framed.0 c.args.framed.now
     c.requires.framed.1 c.requires.width (c.read_window.ensures.model model)
