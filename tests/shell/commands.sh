@@ -82,7 +82,7 @@ run_in_little_memory() {
 }
 
 # A change lies over the end of what is read at once.
-a_long_file_is_checked_and_counted_in_little_memory() (
+a_long_file_is_checked_and_searched_in_little_memory() (
     t=$work/t.cv
     run create u64 "$t"
     seq 1 10000000 >"$in"
@@ -94,6 +94,12 @@ a_long_file_is_checked_and_counted_in_little_memory() (
     grep -qx 'ok version 1 width 8 size 10000000 frames [0-9]* live 1' "$out"
     run_in_little_memory count u64 "$t" --record=7
     did '2\n'
+    run_in_little_memory find u64 "$t" --record=10000001
+    did '65536\n'
+    run_in_little_memory find u64 "$t" --record=10000000
+    did '9999999\n'
+    run_in_little_memory find u64 "$t" --record=65536
+    did 'none\n'
 )
 
 a_file_is_upgraded() (

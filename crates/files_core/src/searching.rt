@@ -43,6 +43,18 @@ fn count_equal<R: Record>(records: &[R], wanted: R) -> u64
     count
 }
 
+/// The place of the first of the records that is this one.
+fn first_equal<R: Record>(records: &[R], wanted: R) -> Option<u64>
+    ensures { IsFirst (λ r. R.Eq.eq r wanted) records.now result }
+{
+    for k in 0..records.len() {
+        if records[k] == wanted {
+            return Some(k as u64);
+        }
+    }
+    None
+}
+
 /// How many records are this one of a file whose frames were walked.
 fn count_parts<R: Record, D: Disk>(
     alloc: Global,
@@ -71,6 +83,37 @@ fn count_parts<R: Record, D: Disk>(
         done += records.len() as u64;
     }
     Ok(total)
+}
+
+/// The least position of this record in a file whose frames were walked. No part behind it is read.
+fn find_in_parts<R: Record, D: Disk>(
+    alloc: Global,
+    disk: &mut D,
+    framed: &Framed,
+    wanted: R,
+) -> Result<Option<u64>, OpenFault>
+    requires any { ReadsAny R.form }
+    requires framed { (size : ℕ) × IsFramedOn (D.keeps disk.old) (bytes_of (D.states disk.old)) size framed.now }
+    requires width { framed.now.shape.width ≡ R.form.width }
+    ensures found { IfOk result (λ found. (records : List R) × (D.keeps disk.new → OpensTo R.form (bytes_of (D.states disk.old)) records)
+        × IsFirst (λ r. R.Eq.eq r wanted) records found) }
+    ensures refused { D.keeps disk.new → IfErr result (IsOpenRefusal R.form (bytes_of (D.states disk.old))) }
+    ensures same { D.keeps disk.new → now (D.states disk.new) ≡ now (D.states disk.old) }
+    ensures images { D.keeps disk.new → LeavesOnly (D.states disk.old) (D.states disk.new) (IsImage (now (D.states disk.old))) }
+    ensures faults { CountsFailures failed_openings (D.faults disk.old) (D.faults disk.new) result }
+    ensures model { D.keeps disk.new → D.keeps disk.old }
+{
+    let mut part = Part::new(alloc);
+    let mut done: u64 = 0;
+    while done < framed.tally.size {
+        part.read(disk, framed, done)?;
+        let records = part.records();
+        if let Some(place) = first_equal(records, wanted) {
+            return Ok(Some(done + place));
+        }
+        done += records.len() as u64;
+    }
+    Ok(None)
 }
 
 /// `count`, where the file is read as a whole.
@@ -141,8 +184,8 @@ pub fn count<R: TextRecord + OpensToWrite, D: Disk, W: Write, E: Threads + Sync>
     }
 }
 
-/// Writes the least position of this record, or `none`. Refused: `Open`.
-pub fn find<R: TextRecord, D: Disk, W: Write, E: Threads + Sync>(
+/// `find`, where the file is read as a whole.
+fn find_whole<R: TextRecord, D: Disk, W: Write, E: Threads + Sync>(
     rt: &E,
     alloc: Global,
     disk: D,
@@ -159,4 +202,52 @@ pub fn find<R: TextRecord, D: Disk, W: Write, E: Threads + Sync>(
     let found = vault.find_first(rt, &Equals { record: wanted });
     let written = write_found(writer, found);
     (vault.into_disk(), Ended::told(written))
+}
+
+/// `find`, where any bytes are a record.
+fn find_framed<R: TextRecord, D: Disk, W: Write, E: Threads + Sync>(
+    rt: &E,
+    alloc: Global,
+    disk: D,
+    wanted: R,
+    writer: &mut W,
+) -> (D, Ended)
+    requires { ReadsAny R.form }
+    ensures reads { CommandOnlyReads R.form D.keeps D.states D.faults disk result.0 result.1 }
+    ensures writes { WritesAnswer (W.contents writer.old) (W.contents writer.new) (TellsFirst R.form wanted (D.keeps result.0) (bytes_of (D.states disk))) result.1 }
+{
+    let mut disk = disk;
+    let found = match walk_for_parts::<R, D>(alloc, &mut disk) {
+        Ok(found) => found,
+        Err(fault) => return (disk, Ended::Refused(FileFault::Open(fault))),
+    };
+    let Some(framed) = found else {
+        return find_whole(rt, alloc, disk, wanted, writer);
+    };
+    match find_in_parts(alloc, &mut disk, &framed, wanted) {
+        Ok(place) => {
+            let written = write_found(writer, place);
+            (disk, Ended::told(written))
+        }
+        Err(fault) => (disk, Ended::Refused(FileFault::Open(fault))),
+    }
+}
+
+/// Writes the least position of this record, or `none`. Where any bytes are a record it takes memory for a part of them, if
+/// groups aren't short, and reads no part behind the one where it is found. Refused: `Open`.
+pub fn find<R: TextRecord + OpensToWrite, D: Disk, W: Write, E: Threads + Sync>(
+    rt: &E,
+    alloc: Global,
+    disk: D,
+    wanted: R,
+    writer: &mut W,
+) -> (D, Ended)
+    ensures reads { CommandOnlyReads R.form D.keeps D.states D.faults disk result.0 result.1 }
+    ensures writes { WritesAnswer (W.contents writer.old) (W.contents writer.new) (TellsFirst R.form wanted (D.keeps result.0) (bytes_of (D.states disk))) result.1 }
+{
+    if R::READS_ANY {
+        find_framed(rt, alloc, disk, wanted, writer)
+    } else {
+        find_whole(rt, alloc, disk, wanted, writer)
+    }
 }

@@ -1,7 +1,7 @@
 use Rattle.std.proofs.Common.{refl}
 use Rattle.files_core.proofs.Opened.{opened_list, told_answer, same_keeps, told_reads}
 use Rattle.text_core.proofs.Wanted.{equals_alone}
-use Rattle.files_core.proofs.searching.find.Goals as goal
+use Rattle.files_core.proofs.searching.find_whole.Goals as goal
 
 pub returns-clause-writes : goal.returns-clause-writes
 returns-clause-writes g c =
