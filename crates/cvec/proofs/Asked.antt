@@ -1,16 +1,12 @@
--- A command over a file ends as what was asked for, and never with usage.
+-- A command over a file never ends with usage.
 use Rattle.std.proofs.Common.{◌≡◌, ℕ, List, sym, subst, ◌∙◌, inl, inr, Result, Ok, Err}
-use Rattle.std.specs.Prelude.{Option, Some}
-use Rattle.std.specs.Io.KnownBytes.{Keeps}
+use Rattle.std.specs.Prelude.{Option}
 use Rattle.record_core.specs.Bytes.{Encoding}
 use Rattle.text_core.specs.Text.{Spelling}
 use Rattle.files_core.specs.declared.ended.Ended.{Ended}
 use Rattle.files_core.specs.declared.ended.Ended.TheVariants.{Done, OutputFailed, Refused}
 use Rattle.files_core.specs.declared.fault.FileFault.{FileFault}
 use Rattle.segment_core.specs.declared.format.Format.{Format}
-use Rattle.stat_core.specs.declared.telling.StatEnded.{StatEnded}
-use Rattle.stat_core.specs.declared.telling.StatEnded.TheVariants as stat_ends
-use Rattle.stat_core.specs.declared.writing.Form.{Form}
 use Rattle.beside_core.specs.declared.fault.LookFault.{LookFault}
 use Rattle.follow_core.specs.declared.ended.FollowEnd.{FollowEnd}
 use Rattle.follow_core.specs.declared.ended.FollowEnd.TheVariants as follow_ends
@@ -23,14 +19,13 @@ use Rattle.words_core.specs.declared.request.Following.{Following}
 use Rattle.words_core.specs.declared.request.Following.TheVariants.{Records, Events}
 use Rattle.words_core.specs.declared.request.RecordType.{RecordType}
 use Rattle.words_core.specs.declared.request.RecordType.TheVariants.{U32, U64, I64, Pair, Flagged}
-use Rattle.words_core.specs.declared.request.Request.{Request}
 use Rattle.sentences.specs.declared.complaint.Complaint.{Complaint}
 use Rattle.text_core.specs.declared.status.Status.{Status}
 use Rattle.text_core.specs.declared.status.Status.TheVariants as statuses
-use Rattle.filing_core.specs.Complaints.{Disk, IsLeftAlone, IsStatStatus, IsStatusOf}
+use Rattle.filing_core.specs.Complaints.{Disk, IsLeftAlone, IsStatusOf}
 use Rattle.filing_core.specs.Beside.{Foreign, IsCopyStatus, IsFollowStatus, IsLookStatus}
-use Rattle.filing_core.specs.Commands.{IsCommandRun, IsEngineDone, IsFollowRun, IsNewFileRun, IsOverFile, IsReadingRun, IsServedAs, IsStatRun}
-use Rattle.cvec.specs.Runs.{IsAskedRun, IsComplaintRun, IsToldRun, IsTypedCommandRun}
+use Rattle.filing_core.specs.Commands.{IsCommandRun, IsEngineDone, IsFollowRun, IsNewFileRun, IsOverFile, IsReadingRun, IsServedAs}
+use Rattle.cvec.specs.Runs.{IsComplaintRun, IsToldRun, IsTypedCommandRun}
 
 -- a command doesn't end so
 abbrev IsNoUsage : Result Status Complaint → Type 0
@@ -44,11 +39,6 @@ no_usage_of_status : (IsComplaint : FileFault → Complaint → Type 0) (ended :
 no_usage_of_status IsComplaint Done filed is = subst IsNoUsage (sym is) tt
 no_usage_of_status IsComplaint OutputFailed filed is = subst IsNoUsage (sym is) tt
 no_usage_of_status IsComplaint (Refused fault) filed is = subst IsNoUsage (sym is.1) tt
-
-no_usage_of_stat : (ended : StatEnded) (filed : Result Status Complaint) → IsStatStatus ended filed → IsNoUsage filed
-no_usage_of_stat stat_ends.Done filed is = subst IsNoUsage (sym is) tt
-no_usage_of_stat (stat_ends.Unwritten error) filed is = subst IsNoUsage (sym is) tt
-no_usage_of_stat (stat_ends.Refused fault) filed is = subst IsNoUsage (sym is) tt
 
 no_usage_of_look : (end : LookEnd) (filed : Result Status Complaint) → IsLookStatus end filed → IsNoUsage filed
 no_usage_of_look look_ends.Done filed is = subst IsNoUsage (sym is) tt
@@ -135,27 +125,12 @@ no_usage_of_file I64 task input old new filed run = no_usage_of_task _ old new f
 no_usage_of_file Pair task input old new filed run = no_usage_of_task _ old new filed _ task input run
 no_usage_of_file Flagged task input old new filed run = no_usage_of_task _ old new filed _ task input run
 
-no_usage_of_stat_run : (form : Form) (old new : Option (List ℕ)) (filed : Result Status Complaint) → IsStatRun form old new filed → IsNoUsage filed
-no_usage_of_stat_run form old new filed (inl shut) = no_usage_alone old new filed _ shut
-no_usage_of_stat_run form old new filed (inr (inl told)) = no_usage_of_stat told.ended filed told.told
-no_usage_of_stat_run form old new filed (inr (inr looked)) = no_usage_of_look looked.end filed looked.told
+told_no_usage : (filed : Result Status Complaint) (mid new : Option (List ℕ)) (status : Status) (complaint : Option Complaint) → IsNoUsage filed
+    → IsToldRun filed mid new status complaint → status ≡ statuses.Usage → ⊥
+told_no_usage (Ok ended) mid new status complaint none told is = subst (λ (s : Status). IsNoUsage (Ok s)) (sym told.1 ∙ is) none
+told_no_usage (Err why) mid new status complaint none told is = subst (IsComplaintRun mid new why) is told.1
 
-told_no_usage : (filed : Result Status Complaint) (mid new earlier later : Option (List ℕ)) (status : Status) (complaint : Option Complaint) → IsNoUsage filed
-    → IsToldRun filed mid new status complaint → status ≡ statuses.Usage → Keeps earlier later
-told_no_usage (Ok ended) mid new earlier later status complaint none told is = absurd (subst (λ (s : Status). IsNoUsage (Ok s)) (sym told.1 ∙ is) none)
-told_no_usage (Err why) mid new earlier later status complaint none told is = absurd (subst (IsComplaintRun mid new why) is told.1)
-
-pub file_tells_no_usage : (record_type : RecordType) (task : FileTask) (input old mid new earlier later : Option (List ℕ)) (filed : Result Status Complaint) (status : Status) (complaint : Option Complaint)
-    → IsTypedCommandRun record_type task input old mid filed → IsToldRun filed mid new status complaint → status ≡ statuses.Usage → Keeps earlier later
-file_tells_no_usage record_type task input old mid new earlier later filed status complaint run told =
-    told_no_usage filed mid new earlier later status complaint (no_usage_of_file record_type task input old mid filed run) told
-
-pub stat_tells_no_usage : (form : Form) (old mid new earlier later : Option (List ℕ)) (filed : Result Status Complaint) (status : Status) (complaint : Option Complaint)
-    → IsStatRun form old mid filed → IsToldRun filed mid new status complaint → status ≡ statuses.Usage → Keeps earlier later
-stat_tells_no_usage form old mid new earlier later filed status complaint run told =
-    told_no_usage filed mid new earlier later status complaint (no_usage_of_stat_run form old mid filed run) told
-
--- what was done that was asked for
-pub asked_run_of : (asked : Option Request) (request : Request) (input old new : Option (List ℕ)) (status : Status) (complaint : Option Complaint)
-    → asked ≡ Some request → IsAskedRun (Some request) input old new status complaint → IsAskedRun asked input old new status complaint
-asked_run_of asked request input old new status complaint is run = subst (λ (a : Option Request). IsAskedRun a input old new status complaint) (sym is) run
+pub file_tells_no_usage : (record_type : RecordType) (task : FileTask) (input old mid new : Option (List ℕ)) (filed : Result Status Complaint) (status : Status) (complaint : Option Complaint)
+    → IsTypedCommandRun record_type task input old mid filed → IsToldRun filed mid new status complaint → status ≡ statuses.Usage → ⊥
+file_tells_no_usage record_type task input old mid new filed status complaint run told =
+    told_no_usage filed mid new status complaint (no_usage_of_file record_type task input old mid filed run) told

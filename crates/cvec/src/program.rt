@@ -7,7 +7,7 @@ ghost use Rattle.text_core.specs.Text.{ended_line};
 ghost use Rattle.sentences.specs.Beside.{beside_name};
 ghost use Rattle.words_core.specs.declared.request.Request.TheVariants as requests;
 ghost use Rattle.filing_core.specs.Commands.{IsStatRun};
-ghost use Rattle.cvec.specs.Runs.{IsTaskRun, IsProgramRun, IsAskedRun, IsTypedCommandRun, IsIdleRun, IsComplaintRun, IsTellRun, IsToldRun};
+ghost use Rattle.cvec.specs.Runs.{IsTaskRun, IsProgramRun, IsFileRun, IsAskedRun, IsTypedCommandRun, IsIdleRun, IsComplaintRun, IsTellRun, IsToldRun};
 
 use files_core::{Progress, refuse_file};
 use filing_core::{Filing, tell_stat};
@@ -269,6 +269,86 @@ fn answer_fault<'a, W: Write>(fault: WordsFault, writer: &mut W) -> Outcome<'a>
     }
 }
 
+/// The outcome of what was asked for, where that isn't a command over a file.
+fn outcome_of_input<'a>(request: Request<'a>, status: Status) -> Outcome<'a>
+    ensures { (result.status ≡ status) × (result.asked ≡ Some request.entry) × (result.complaint ≡ None) }
+{
+    Outcome {
+        status,
+        asked: Some(request),
+        complaint: None,
+        shown: None,
+    }
+}
+
+/// Answers words that ask for a command over a file.
+fn answer_file<
+    'a,
+    I: Read,
+    W: Write,
+    E: Threads + Wait + Sync,
+    F: Files<File = File> + Clock + AllocGlobal,
+    P: Progress + Sync,
+>(
+    system: &System<'_, F, P>,
+    rt: &E,
+    words: FileWords<'a>,
+    reader: &mut I,
+    writer: &mut W,
+) -> Outcome<'a>
+    ensures asked { result.asked ≡ Some (requests.File words.entry) }
+    ensures ends { IsFileRun (IsTypedCommandRun words.entry.record_type words.entry.task (I.remaining reader.old) (W.contents writer.old)) (W.contents writer.new) result.status result.complaint }
+    ensures no_usage { result.status ≢ Status.Usage }
+{
+    let mut shown = None;
+    let filed = run_file(system, rt, &words, reader, &mut shown, writer);
+    outcome_of(Request::File(words), filed, shown, writer)
+}
+
+/// Answers words that ask what a file has.
+fn answer_stat<'a, W: Write, F: Files<File = File> + Clock + AllocGlobal, P: Progress>(
+    system: &System<'_, F, P>,
+    words: StatWords<'a>,
+    writer: &mut W,
+) -> Outcome<'a>
+    ensures asked { result.asked ≡ Some (requests.Stat words.entry) }
+    ensures ends { IsFileRun (IsStatRun words.entry.form (W.contents writer.old)) (W.contents writer.new) result.status result.complaint }
+    ensures no_usage { result.status ≢ Status.Usage }
+{
+    let filed = run_stat(system, &words, writer);
+    outcome_of(Request::Stat(words), filed, None, writer)
+}
+
+/// Answers words that ask for this.
+fn answer<
+    'a,
+    I: Read,
+    W: Write,
+    E: Threads + Wait + Sync,
+    F: Files<File = File> + Clock + AllocGlobal,
+    P: Progress + Sync,
+>(
+    system: &System<'_, F, P>,
+    rt: &E,
+    request: Request<'a>,
+    reader: &mut I,
+    writer: &mut W,
+) -> Outcome<'a>
+    ensures asked { result.asked ≡ Some request.entry }
+    ensures ends { IsAskedRun (Some request.entry) (I.remaining reader.old) (W.contents writer.old) (W.contents writer.new) result.status result.complaint }
+    ensures no_usage { result.status ≢ Status.Usage }
+{
+    match request {
+        Request::Input(task, record_type) => {
+            let status = run_task(system.alloc, rt, task, record_type, reader, writer);
+            outcome_of_input(request, status)
+        }
+        Request::File(words) => answer_file(system, rt, words, reader, writer),
+        Request::Stat(words) => answer_stat(system, words, writer),
+        Request::Tell(text) => outcome_of_input(request, tell(text, writer)),
+    }
+}
+
 /// Does what the words behind the program's name ask for, and with no words what `image u64` does. Words that
 /// are not the program's, and those that ask for help, are answered with `Usage`.
 pub fn run<
@@ -288,27 +368,5 @@ pub fn run<
         Ok(request) => request,
         Err(fault) => return answer_fault(fault, writer),
     };
-    match request {
-        Request::Input(task, record_type) => Outcome {
-            status: run_task(system.alloc, rt, task, record_type, reader, writer),
-            asked: Some(request),
-            complaint: None,
-            shown: None,
-        },
-        Request::File(words) => {
-            let mut shown = None;
-            let filed = run_file(system, rt, &words, reader, &mut shown, writer);
-            outcome_of(request, filed, shown, writer)
-        }
-        Request::Stat(words) => {
-            let filed = run_stat(system, &words, writer);
-            outcome_of(request, filed, None, writer)
-        }
-        Request::Tell(text) => Outcome {
-            status: tell(text, writer),
-            asked: Some(request),
-            complaint: None,
-            shown: None,
-        },
-    }
+    answer(system, rt, request, reader, writer)
 }
