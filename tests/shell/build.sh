@@ -346,6 +346,9 @@ what_the_gate_asks_for_beside_proofs_is_left_to_it() (
     mkdir -p "$there/kept/low-False-sum"
     proves 0 4
     grep -qx 'keeps: low-False-sum' "$out"
+    sed -i 's/def place(/def folder(/; s/Kept()\.place(/Kept().folder(/' "$there/bin/rt"
+    proves 0 4
+    grep -qx 'looks: check --jobs --empty-contracts' "$out"
 )
 
 # The toolchain at hand proves a crate of one function so, and keeps it apart.
