@@ -1,3 +1,4 @@
+mod Begins
 pub mod BlockEnds
 pub mod MarkMoves
 pub mod Owns

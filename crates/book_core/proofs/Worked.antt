@@ -20,7 +20,7 @@ use Rattle.book_core.specs.Marks.{MarkName, MarkEnd, HasAllRaises, IsRaiseOf, no
 use Rattle.book_core.specs.Lists.{Phase, Seated, IsFirstOf, IsPlaceIn, IsRestOfPiece, IsSeatOf, joined_pieces, own_of, seat_list, seat_pieces, StandInList}
 use Rattle.book_core.specs.Pieces.{from_place, IsLeftOf}
 use Rattle.book_core.specs.Snapshots.{AreEven, AreFoundAt, HasRoomFor, HaveStarts, IsFoundAt, IsStepWith, Shown, ShowsSeat, full_of, list_in, pieces_in}
-use Rattle.book_core.specs.Beginning.{AreNewSeats, IsNewSeat, MayBegin, IsBeginRefusal}
+use Rattle.book_core.specs.Beginning.{AreNewSeats, IsNewSeat, MayBegin, IsBeginRefusal, MayBeginWide, IsWideBeginRefusal}
 use Rattle.book_core.specs.Faults.{fault_of_block, state_of}
 use Rattle.book_core.specs.Names.{grow_name}
 use Rattle.book_core.specs.Growing.{SeatLearns, IsPast, SeatIsTold, IsToldOf}
@@ -223,6 +223,23 @@ refused_for_memory grow.TooLarge why = elim why [
   | inl none ↦ absurd (omega arith)
   | inr more ↦ elim more [ inl room ↦ absurd (omega arith) | inr seats ↦ elim seats [ inl none ↦ absurd (omega arith) | inr many ↦ absurd (omega arith) ] ]
 ]
+
+-- a wide one may have more, but no more than a directory
+wide_room : MayBeginWide 1048569 1 × MayBeginWide 536870904 64
+wide_room = (record { room_in = (omega arith, omega arith); seats_in = (omega arith, omega arith) }, record { room_in = (omega arith, omega arith); seats_in = (omega arith, omega arith) })
+
+too_much_wide_room : (MayBeginWide 536870905 1 → ⊥) × (IsWideBeginRefusal 536870905 1 grow.Memory → ⊥)
+too_much_wide_room = ((λ may. let within = may.room_in.1 in absurd (omega arith)), λ why. let within = why.room_in.1 in absurd (omega arith))
+
+wide_room_refused : (IsWideBeginRefusal 536870904 64 grow.TooLarge → ⊥) × IsWideBeginRefusal 536870905 64 grow.TooLarge × IsWideBeginRefusal 536870904 65 grow.TooLarge
+wide_room_refused = (
+  λ why. elim why [
+    | inl none ↦ absurd (omega arith)
+    | inr more ↦ elim more [ inl room ↦ absurd (omega arith) | inr seats ↦ elim seats [ inl none ↦ absurd (omega arith) | inr many ↦ absurd (omega arith) ] ]
+  ],
+  inr (inl (omega arith)),
+  inr (inr (inr (omega arith))),
+)
 
 refused_as_too_large : (fault : GrowFault) → IsBeginRefusal 1 65 fault → fault ≡ grow.TooLarge
 refused_as_too_large grow.Closed why = absurd why

@@ -4,7 +4,7 @@ ghost use Rattle.std.specs.Prelude.{◌≡◌, ◌≤◌, [], ◌++◌, length, 
 ghost use Rattle.record_core.specs.Limits.{record_limit};
 ghost use Rattle.book_core.specs.Marks.{nothing_told};
 ghost use Rattle.book_core.specs.Lists.{records_of, joined_pieces, IsSeatOf};
-ghost use Rattle.book_core.specs.Beginning.{IsNewSeat, AreNewSeats, IsBeginRefusal, MayBegin};
+ghost use Rattle.book_core.specs.Beginning.{IsNewSeat, AreNewSeats, IsBeginRefusal, IsWideBeginRefusal, MayBegin, MayBeginWide};
 
 use crate::fault::GrowFault;
 use crate::live::{Door, Live};
@@ -14,7 +14,7 @@ use crate::seat::Seat;
 use crate::stretch::Stretch;
 use crate::waking::Waking;
 use crossbeam_utils::CachePadded;
-use directory_core::{Directory, GROWTH_LIMIT, Pass};
+use directory_core::{Directory, GROWTH_LIMIT, PLACE_LIMIT, Pass};
 use record_core::{RECORD_LIMIT, Record};
 use std::alloc::Global;
 use std::sync::Mutex;
@@ -79,7 +79,7 @@ fn seats_of<R: Record>(
 
 impl<R: Record> Parts<R> {
     fn make(alloc: Global, room: u64, limit: u64, seats: u16) -> Option<Parts<R>>
-        requires { MayBegin room seats × (limit ≤ record_limit) }
+        requires { MayBeginWide room seats × (limit ≤ record_limit) }
         ensures directory { IfSome result (λ parts.
             (parts.directory.room ≡ room) × (parts.directory.limit ≡ limit)) }
         ensures seats { IfSome result (λ parts.
@@ -136,7 +136,36 @@ impl<R: Record> Live<R> {
         ensures refused { IfErr result (λ refused.
             (refused.0.items ≡ blocks.items) × IsBeginRefusal room seats refused.1) }
     {
-        if room == 0 || room > GROWTH_LIMIT || seats == 0 || seats > SEAT_LIMIT {
+        if room > GROWTH_LIMIT {
+            return Err((blocks, GrowFault::TooLarge));
+        }
+        Live::begin_wide(alloc, blocks, room, seats)
+    }
+
+    /// As `begin`, with room for as many growths as a directory has places for. Each pass of the phase reserves 4 bytes
+    /// for each of them, so it is refused `Memory` where the system gives no such addresses.
+    pub fn begin_wide(
+        alloc: Global,
+        blocks: Vec<Vec<R>>,
+        room: u64,
+        seats: u16,
+    ) -> Result<Begun<R>, (Vec<Vec<R>>, GrowFault)>
+        requires { length (joined_pieces (records_of blocks.items)) ≤ record_limit }
+        ensures live { IfOk result (λ begun.
+            (begun.live.blocks ≡ records_of blocks.items) × (begun.live.directory.room ≡ room)) }
+        ensures seats { IfOk result (λ begun.
+            (length begun.seats.items ≡ seats)
+            × AreNewSeats begun.live.directory begun.live.mark begun.seats.items) }
+        ensures pass { IfOk result (λ begun.
+            (begun.pass.of ≡ begun.live.directory) × (begun.pass.entries ≡ [])) }
+        ensures mark { IfOk result (λ begun.
+            begun.mark ≡ record { of = begun.live.mark; told = nothing_told; raises = [] }) }
+        ensures seat_count { IfOk result (λ begun. begun.live.seat_count ≡ seats) }
+        ensures may { OnOk result (MayBeginWide room seats) }
+        ensures refused { IfErr result (λ refused.
+            (refused.0.items ≡ blocks.items) × IsWideBeginRefusal room seats refused.1) }
+    {
+        if room == 0 || room > PLACE_LIMIT || seats == 0 || seats > SEAT_LIMIT {
             return Err((blocks, GrowFault::TooLarge));
         }
         let opening = match Opening::of(alloc, blocks) {

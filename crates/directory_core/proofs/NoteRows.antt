@@ -6,7 +6,7 @@ use Rattle.std.proofs.lemmas.Option.{slice_get_cases}
 use Rattle.std.proofs.lemmas.List.{length-set, get_or_append_left, get_or_push, get_or-set_same, get_or-set_other, length_push}
 use Rattle.once_cell.specs.declared.race.note.Note.{Note}
 use Rattle.block_core.specs.Growth.{Growth}
-use Rattle.directory_core.specs.Limits.{growth_limit}
+use Rattle.directory_core.specs.Limits.{place_limit}
 use Rattle.directory_core.specs.Chain.{IsChained}
 use Rattle.directory_core.specs.Spot.{IsSpot}
 use Rattle.record_core.specs.Limits.{record_limit}
@@ -63,12 +63,12 @@ end_cell (Some names) (Some names') place cell None past is agree = absurd (cell
 end_cell (Some names) (Some names') place cell (Some note) ends is agree =
     (one_some (slice_get names place) note.cell cell ends.0 (ap (λ (ns : List ℕ). slice_get ns place) agree ∙ is), ends.1)
 
-end_number : {R : Type 0} (e : Growth R) (end : Option (Growth R)) → MatchOption end ⊥ IsEnd → IfSome end (λ x. x ≡ e) → e.number ≡ growth_limit
+end_number : {R : Type 0} (e : Growth R) (end : Option (Growth R)) → MatchOption end ⊥ IsEnd → IfSome end (λ x. x ≡ e) → e.number ≡ place_limit
 end_number e None ends is = absurd ends
 end_number e (Some x) ends is = ap (λ (f : Growth _). f.number) (sym is) ∙ ends
 
 -- the cell of a growth that is known doesn't hold the end
-pub end_is_none : {R : Type 0} (es : List (Growth R)) (i : ℕ) (known end : Option (Growth R)) → IsChained es → i < length es → i < growth_limit → known ≡ slice_get es i
+pub end_is_none : {R : Type 0} (es : List (Growth R)) (i : ℕ) (known end : Option (Growth R)) → IsChained es → i < length es → i < place_limit → known ≡ slice_get es i
     → MatchOption end ⊥ IsEnd → IfSome known (λ x. IfSome end (λ y. y ≡ x)) → ⊥
 end_is_none es i known end chained lt few is ends agree = elim ((slice_get_cases es i).1) [
   | inl found ↦
@@ -113,9 +113,9 @@ module _ (g : ℕ) (at place : ℕ) (here : IsSpot g at place) where
 
 module _ {R : Type 0} {buckets : List (Option (List ℕ))} {cells : List ℕ} {known : List (Option (Growth R))} (h : NotesHold buckets cells known) where
   -- the rows with another note of a bucket, which keeps what was known of it
-  notes_kept : (at : ℕ) (bucket : Option (List ℕ)) → at < 17 → IfSome (get_or buckets at None) (λ names. bucket ≡ Some names)
+  notes_kept : (at : ℕ) (bucket : Option (List ℕ)) → at < 26 → IfSome (get_or buckets at None) (λ names. bucket ≡ Some names)
       → NotesHold (set buckets at bucket) cells known
-  notes_kept at bucket in17 keeps =
+  notes_kept at bucket in_row keeps =
       let all = h.all_buckets in
       record {
         all_buckets = length-set buckets at bucket ∙ all;
@@ -138,10 +138,10 @@ module _ {R : Type 0} {buckets : List (Option (List ℕ))} {cells : List ℕ} {k
       }
 
   -- the rows with the note of the next growth
-  notes_added : (at place : ℕ) (bucket : Option (List ℕ)) (cell : ℕ) (e : Growth R) → at < 17
+  notes_added : (at place : ℕ) (bucket : Option (List ℕ)) (cell : ℕ) (e : Growth R) → at < 26
       → IfSome (get_or buckets at None) (λ names. bucket ≡ Some names) → StandsIn (length (somes known)) at place bucket cell
       → NotesHold (set buckets at bucket) (cells ++ cell ∷ []) (known ++ Some e ∷ [])
-  notes_added at place bucket cell e in17 keeps stands =
+  notes_added at place bucket cell e in_row keeps stands =
       let many = as_many known h.all_known in
       let same = h.as_many in
       let all = h.all_buckets in
@@ -179,13 +179,13 @@ module _ {R : Type 0} {buckets : List (Option (List ℕ))} {cells : List ℕ} {k
 module _ {R : Type 0} {width room limit : ℕ} {buckets : List (Option (List ℕ))} {cells : List ℕ} {known : List (Option (Growth R))} {starts : List ℕ}
     {size noted kept : ℕ} where
   pub added : {was : Bool} {end : Option (Note (Growth R))} → PassHolds width room limit buckets cells known starts size noted kept was end
-      → (at place : ℕ) (bucket : Option (List ℕ)) (cell : ℕ) (note : Option (Growth R)) (len : ℕ) → at < 17
+      → (at place : ℕ) (bucket : Option (List ℕ)) (cell : ℕ) (note : Option (Growth R)) (len : ℕ) → at < 26
       → (length (somes known) < room) × IfSome (get_or buckets at None) (λ names. bucket ≡ Some names)
       × StandsIn (length (somes known)) at place bucket cell × MatchOption note ⊥ (IsNextInLimit width limit (somes known) len) × (was ≡ false)
       → PassHolds width room limit (set buckets at bucket) (cells ++ cell ∷ []) (known ++ note ∷ []) (starts ++ size ∷ []) (size + len) noted kept was end
-  added h at place bucket cell None len in17 asked = absurd asked.3
-  added h at place bucket cell (Some e) len in17 asked = record {
-    notes = notes_added h.notes at place bucket cell e in17 asked.1 asked.2;
+  added h at place bucket cell None len in_row asked = absurd asked.3
+  added h at place bucket cell (Some e) len in_row asked = record {
+    notes = notes_added h.notes at place bucket cell e in_row asked.1 asked.2;
     list = rw (somes-append known (Some e ∷ [])) (list_added h.list e len asked.0 asked.3);
     reserved = h.reserved;
     ends = λ is. absurd (let not_ended = asked.4 in cc);
@@ -193,11 +193,11 @@ module _ {R : Type 0} {width room limit : ℕ} {buckets : List (Option (List ℕ
 
   -- and one that found the end
   pub ended : {was : Bool} {end : Option (Note (Growth R))} → PassHolds width room limit buckets cells known starts size noted kept was end
-      → (at place : ℕ) (bucket : Option (List ℕ)) (stands : Option (Note (Growth R))) → at < 17
+      → (at place : ℕ) (bucket : Option (List ℕ)) (stands : Option (Note (Growth R))) → at < 26
       → IfSome (get_or buckets at None) (λ names. bucket ≡ Some names) × IsSpot (length (somes known)) at place × MatchOption bucket ⊥ (EndsIn place stands)
       → PassHolds width room limit (set buckets at bucket) cells known starts size noted kept true stands
-  ended h at place bucket stands in17 asked = record {
-    notes = notes_kept h.notes at bucket in17 asked.0;
+  ended h at place bucket stands in_row asked = record {
+    notes = notes_kept h.notes at bucket in_row asked.0;
     list = h.list;
     reserved = h.reserved;
     ends = λ _. record {
@@ -210,7 +210,7 @@ module _ {R : Type 0} {width room limit : ℕ} {buckets : List (Option (List ℕ
 
 -- a pass that knows nothing
 pub knows_none : {R : Type 0} (width room limit : ℕ) (buckets : List (Option (List ℕ))) (notes : List (Note (Growth R))) (starts : List ℕ) (noted kept : ℕ)
-    → length buckets ≡ 17 → length notes ≡ 0 → length starts ≡ 0 → (room ≤ noted) × (room ≤ kept) → (room ≤ growth_limit) × (limit ≤ record_limit)
+    → length buckets ≡ 26 → length notes ≡ 0 → length starts ≡ 0 → (room ≤ noted) × (room ≤ kept) → (room ≤ place_limit) × (limit ≤ record_limit)
     → PassHolds width room limit buckets (cells_of notes) (known_of notes) starts 0 noted kept false None
 knows_none width room limit buckets (n ∷ notes) starts noted kept all none empty reserved limits = absurd (omega arith)
 knows_none width room limit buckets [] (s ∷ starts) noted kept all none empty reserved limits = absurd (omega arith)

@@ -11,7 +11,7 @@ use Rattle.directory_core.specs.declared.fault.DirFault.TheVariants.{Strayed}
 use Rattle.directory_core.specs.Identity.{Identity}
 use Rattle.directory_core.specs.Known.{Known, KnowsAll}
 use Rattle.directory_core.specs.Judging.{IsJudged}
-use Rattle.directory_core.specs.Limits.{growth_limit}
+use Rattle.directory_core.specs.Limits.{place_limit}
 
 not_true : (b : Bool) → (b ≡ true → ⊥) → b ≡ false
 not_true true other = absurd (other refl)
@@ -31,8 +31,8 @@ module _ {R : Type 0} (pass : Known R) (told : Bool) (says : IsTrue told ↔ Kno
   pub not_yet_ended : pass.ended ≡ false
   not_yet_ended = not_true pass.ended (λ (is : pass.ended ≡ true). not_all (inl is))
 
-  pub in_directory : (now : Known R) (number : ℕ) → now ≡ pass → number ≡ length now.entries → (number ≤ now.of.room) × (now.of.room ≤ growth_limit)
-      → number < growth_limit
+  pub in_directory : (now : Known R) (number : ℕ) → now ≡ pass → number ≡ length now.entries → (number ≤ now.of.room) × (now.of.room ≤ place_limit)
+      → number < place_limit
   in_directory now number was count in_room =
       let left = room_left in
       let many = ap (λ (p : Known _). length p.entries) was in

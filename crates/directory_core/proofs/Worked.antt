@@ -13,14 +13,14 @@ use Rattle.directory_core.specs.Known.{Known, Held, KnowsAll}
 use Rattle.directory_core.specs.Notes.{IsEnd, EndsIn, IsEndedAt}
 use Rattle.directory_core.specs.Judging.{IsJudged}
 use Rattle.directory_core.specs.Names.{dir_name}
-use Rattle.directory_core.specs.Limits.{growth_limit}
+use Rattle.directory_core.specs.Limits.{place_limit, growth_limit}
 use Rattle.record_core.specs.Limits.{record_limit}
 use Rattle.directory_core.specs.Spot.{places_before, IsSpot}
 
 -- ---- spots
 
-limits : (growth_limit ≡ places_before 17) × (record_limit ≡ 4294967296)
-limits = (refl, refl)
+limits : (place_limit ≡ places_before 26) × (growth_limit ≡ places_before 17) × (record_limit ≡ 4294967296)
+limits = (refl, refl, refl)
 
 first_place : IsSpot 0 0 0
 first_place = record { inside = omega arith; at = refl }
@@ -31,8 +31,19 @@ last_of_the_first = record { inside = omega arith; at = refl }
 first_of_the_second : IsSpot 8 1 0
 first_of_the_second = record { inside = omega arith; at = refl }
 
-last_place : IsSpot 1048567 16 524287
+-- the last place of 17 buckets, the one behind it, and the last of all
+last_place_of_17 : IsSpot 1048567 16 524287
+last_place_of_17 = record { inside = omega arith; at = refl }
+
+first_of_the_18th : IsSpot 1048568 17 0
+first_of_the_18th = record { inside = omega arith; at = refl }
+
+last_place : IsSpot 536870903 25 268435455
 last_place = record { inside = omega arith; at = refl }
+
+-- a number behind the last place has a bucket that no directory has
+first_beyond : IsSpot 536870904 26 0
+first_beyond = record { inside = omega arith; at = refl }
 
 -- the first bucket has no ninth place
 no_ninth : IsSpot 8 0 8 → ⊥
@@ -155,7 +166,7 @@ module _ (name : Name) (held : Held) where
   knows entries ended strayed = record { of = bounded name 2 5; entries = entries; ended = ended; strayed = strayed; held = held }
 
   abbrev end : Growth ℕ
-  end = record { number = 1048568; start = 0; seat = 0; serial = 0; records = 0 ∷ [] }
+  end = record { number = 536870904; start = 0; seat = 0; serial = 0; records = 0 ∷ [] }
 
   abbrev astray : Growth ℕ
   astray = record { number = 1; start = 3; seat = 1; serial = 0; records = 9 ∷ [] }

@@ -3,7 +3,7 @@ use Rattle.std.specs.Prelude.{◌≡◌, ℕ, ◌+◌, ◌<◌, ◌≤◌, Bool,
 use Rattle.once_cell.specs.declared.race.note.Note.{Note}
 use Rattle.block_core.specs.Length.{IsBlockLength}
 use Rattle.block_core.specs.Growth.{Growth}
-use Rattle.directory_core.specs.Limits.{growth_limit}
+use Rattle.directory_core.specs.Limits.{place_limit}
 use Rattle.record_core.specs.Limits.{record_limit}
 use Rattle.directory_core.specs.Spot.{IsSpot}
 use Rattle.directory_core.specs.Chain.{total, IsNextGrowth, IsChained, AreBlocks}
@@ -45,7 +45,7 @@ pub record IsNextInLimit {R : Type 0} (width limit : ℕ) (entries : List (Growt
 
 -- that entry ends the list: it bears a number that no growth has
 abbrev pub IsEnd : {R : Type 0} → Growth R → Type 0
-IsEnd e = e.number ≡ growth_limit
+IsEnd e = e.number ≡ place_limit
 
 -- a bucket of these cells has no growth at that place: it has no such place, or a note knows the end there
 abbrev pub EndsIn : {R : Type 0} → ℕ → Option (Note (Growth R)) → List ℕ → Type 0
@@ -61,7 +61,7 @@ pub record IsEndedAt {R : Type 0} (buckets : List (Option (List ℕ))) (g : ℕ)
 
 -- the notes are of growths that are known, each by the cell at its place in a bucket that is known
 pub record NotesHold {R : Type 0} (buckets : List (Option (List ℕ))) (cells : List ℕ) (known : List (Option (Growth R))) : Type 0 where
-  pub all_buckets : length buckets ≡ 17
+  pub all_buckets : length buckets ≡ 26
   pub all_known : known ≡ map Some (somes known)
   pub as_many : length cells ≡ length known
   pub filed : (g : ℕ) → g < length cells → HasCell buckets g (get_or cells g 0)
@@ -74,7 +74,7 @@ pub record ListHolds {R : Type 0} (width room limit : ℕ) (entries : List (Grow
   pub size_is : size ≡ total entries
   pub in_limit : size ≤ limit
   pub in_room : length entries ≤ room
-  pub limits : (room ≤ growth_limit) × (limit ≤ record_limit)
+  pub limits : (room ≤ place_limit) × (limit ≤ record_limit)
 
 -- what a pass keeps true: of its notes, of its list, of the end, and that its rows are reserved for the whole room
 pub record PassHolds {R : Type 0} (width room limit : ℕ) (buckets : List (Option (List ℕ))) (cells : List ℕ) (known : List (Option (Growth R)))

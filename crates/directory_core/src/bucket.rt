@@ -30,7 +30,7 @@ impl<R: Record> Bucket<R> {
     /// The bucket of that number, whose cells are empty.
     #[cold]
     pub(crate) fn boxed(alloc: Global, number: usize) -> Result<Box<Bucket<R>>, AllocError>
-        requires { number < 17 }
+        requires { number < 26 }
         ensures { IfOk result (λ bucket. length bucket.value ≡ span number) }
     {
         let len = bucket_len(number);

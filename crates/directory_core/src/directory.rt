@@ -1,7 +1,7 @@
 //! The growths that all threads share.
 
 ghost use Rattle.std.specs.Prelude.{◌≡◌, ◌+◌, ◌<◌, ◌≤◌, ◌∷◌, [], ◌++◌, false, true, ◌↔◌, if◌then◌else◌, length, slice_get, Some, MatchOption, MatchResult, IfOk, IfErr, IfSome, IsTrue};
-ghost use Rattle.directory_core.specs.Limits.{growth_limit};
+ghost use Rattle.directory_core.specs.Limits.{place_limit};
 ghost use Rattle.record_core.specs.Limits.{record_limit};
 ghost use Rattle.directory_core.specs.Spot.{span};
 ghost use Rattle.directory_core.specs.Chain.{total, grown_records, IsNextGrowth, IsPrefix};
@@ -35,7 +35,7 @@ impl<R: Record> Model for Directory<R> {
     ghost use Rattle.std.specs.Prelude.{◌≤◌, ◌≡◌, length, map};
     ghost use Rattle.once_cell.specs.Once.{cell_name};
     ghost use Rattle.directory_core.specs.Identity.{Identity};
-    ghost use Rattle.directory_core.specs.Limits.{growth_limit};
+    ghost use Rattle.directory_core.specs.Limits.{place_limit};
     ghost use Rattle.record_core.specs.Limits.{record_limit};
 
     ghost Value = { Identity };
@@ -47,15 +47,15 @@ impl<R: Record> Model for Directory<R> {
     } };
 
     ghost invariant = { λ directory.
-        (length directory.buckets.items ≡ 17)
-        × (directory.room ≤ growth_limit)
+        (length directory.buckets.items ≡ 26)
+        × (directory.room ≤ place_limit)
         × (directory.limit ≤ record_limit) };
 }
 
 impl<R: Record> Directory<R> {
     /// An empty directory with room for so many growths, of 2^32 records together at most.
     pub fn new(alloc: Global, room: u64) -> Result<Directory<R>, DirFault>
-        requires { room ≤ growth_limit }
+        requires { room ≤ place_limit }
         ensures { MatchResult result
             (λ directory. (directory.room ≡ room) × (directory.limit ≡ record_limit))
             (λ fault. fault ≡ DirFault.Memory) }
@@ -65,7 +65,7 @@ impl<R: Record> Directory<R> {
 
     /// An empty directory with room for so many growths, of so many records together at most.
     pub fn with_limit(alloc: Global, room: u64, limit: u64) -> Result<Directory<R>, DirFault>
-        requires { (room ≤ growth_limit) × (limit ≤ record_limit) }
+        requires { (room ≤ place_limit) × (limit ≤ record_limit) }
         ensures { MatchResult result
             (λ directory. (directory.room ≡ room) × (directory.limit ≡ limit))
             (λ fault. fault ≡ DirFault.Memory) }
@@ -136,7 +136,7 @@ impl<R: Record> Directory<R> {
         let mut bucket_note = pass.bucket_note(at);
         let made = self.buckets[at].get_or_try_init_as(
             move || -> Result<Box<Bucket<R>>, AllocError>
-                requires { at < 17 }
+                requires { at < 26 }
                 ensures { IfOk result (λ bucket. length bucket.value ≡ span at) }
             { Bucket::boxed(alloc, at) },
             &mut bucket_note,

@@ -2,7 +2,7 @@
 
 ghost use Rattle.directory_core.specs.Notes.{IsEnd};
 
-use crate::address::GROWTH_LIMIT;
+use crate::address::PLACE_LIMIT;
 use crate::bucket::Bucket;
 use block_core::{Entry, Fresh, Label};
 use record_core::Record;
@@ -10,7 +10,7 @@ use std::alloc::{AllocError, Global};
 
 /// The label of the end: no directory has a growth of that number.
 const END: Label = Label {
-    number: GROWTH_LIMIT as u32,
+    number: PLACE_LIMIT as u32,
     start: 0,
     serial: 0,
     seat: 0,

@@ -8,7 +8,7 @@
 //! After the directory of "Lock-Free Dynamically Resizable Arrays" (Dechev, Pirkelbauer, Stroustrup, 2006), whose
 //! buckets double. Here the buckets hold growths and not single records.
 //!
-//! There are 17 buckets, the first of 8 cells, each twice as long as the one before. `publish` sets the cell of the next
+//! There are 26 buckets, the first of 8 cells, each twice as long as the one before. `publish` sets the cell of the next
 //! number; `look` reads cells up to the first empty one. Each growth that a pass knows is the value of the cell at its
 //! number's place.
 //!
@@ -24,7 +24,7 @@ mod fault;
 mod finding;
 mod pass;
 
-pub use address::{GROWTH_LIMIT, spot};
+pub use address::{GROWTH_LIMIT, PLACE_LIMIT, spot};
 pub use directory::Directory;
 pub use fault::DirFault;
 pub use finding::{last_start, last_start_near};

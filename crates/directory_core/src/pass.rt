@@ -1,7 +1,7 @@
 //! What one thread knows of a directory.
 
 ghost use Rattle.std.specs.Prelude.{[], false, true, ◌↔◌, IsTrue, Ok, vec_capacity, ◌≡◌, ◌+◌, ◌<◌, ◌≤◌, ◌++◌, length, take, slice_get, slice_index, slice_index_or, option_to_list, Some, None, MatchOption, IfSome};
-ghost use Rattle.directory_core.specs.Limits.{growth_limit};
+ghost use Rattle.directory_core.specs.Limits.{place_limit};
 ghost use Rattle.record_core.specs.Limits.{record_limit};
 ghost use Rattle.directory_core.specs.Chain.{total, IsChained, AreBlocks, Agree, IsLongerOf};
 ghost use Rattle.directory_core.specs.Finding.{IsPlaceOf};
@@ -10,7 +10,7 @@ ghost use Rattle.directory_core.specs.Spot.{IsSpot};
 ghost use Rattle.directory_core.specs.Notes.{cells_of, HasCell, StandsIn, IsNextInLimit, EndsIn, IsEndedAt};
 ghost use Rattle.directory_core.specs.Judging.{IsJudged};
 
-use crate::address::{GROWTH_LIMIT, spot};
+use crate::address::{PLACE_LIMIT, spot};
 use crate::bucket::Bucket;
 use crate::ending::Ends;
 use crate::fault::DirFault;
@@ -73,10 +73,10 @@ impl<R: Record> Pass<R> {
         limit: u64,
         ends: Ends<R>,
     ) -> Pass<R>
-        requires buckets { length buckets.items ≡ 17 }
+        requires buckets { length buckets.items ≡ 26 }
         requires notes { (length notes.items ≡ 0) × (room ≤ vec_capacity notes) }
         requires starts { (length starts.items ≡ 0) × (room ≤ vec_capacity starts) }
-        requires limits { (room ≤ growth_limit) × (limit ≤ record_limit) }
+        requires limits { (room ≤ place_limit) × (limit ≤ record_limit) }
         ensures of { result.of ≡ record {
           name = record { buckets = cells_of buckets.items };
           room = room;
@@ -103,7 +103,7 @@ impl<R: Record> Pass<R> {
         ensures count { result ≡ length self.now.entries }
         ensures chained { IsChained self.now.entries }
         ensures in_a_frame { AreBlocks R.form.width self.now.entries }
-        ensures in_room { (result ≤ self.now.of.room) × (self.now.of.room ≤ growth_limit) }
+        ensures in_room { (result ≤ self.now.of.room) × (self.now.of.room ≤ place_limit) }
         ensures in_limit { total self.now.entries ≤ self.now.of.limit }
     {
         self.starts.len() as u64
@@ -133,7 +133,7 @@ impl<R: Record> Pass<R> {
 
     /// A copy of the note of a bucket.
     pub(crate) fn bucket_note(&mut self, bucket: usize) -> Note<Bucket<R>>
-        requires { bucket < 17 }
+        requires { bucket < 26 }
         ensures same { self.new ≡ self.old }
         ensures cell { result.cell ≡ slice_index self.old.of.name.buckets bucket }
         ensures known { result.known ≡ slice_index_or self.old.held.buckets bucket None }
@@ -162,7 +162,7 @@ impl<R: Record> Pass<R> {
         len: u64,
     )
         requires room { length self.old.entries < self.old.of.room }
-        requires bucket { (bucket < 17) × (bucket_note.cell ≡ slice_index self.old.of.name.buckets bucket) }
+        requires bucket { (bucket < 26) × (bucket_note.cell ≡ slice_index self.old.of.name.buckets bucket) }
         requires keeps { IfSome
             (slice_index_or self.old.held.buckets bucket None)
             (λ names. bucket_note.known ≡ Some names) }
@@ -190,7 +190,7 @@ impl<R: Record> Pass<R> {
         bucket_note: Note<Bucket<R>>,
         end: Option<Note<Entry<R>>>,
     )
-        requires bucket { (bucket < 17) × (bucket_note.cell ≡ slice_index self.old.of.name.buckets bucket) }
+        requires bucket { (bucket < 26) × (bucket_note.cell ≡ slice_index self.old.of.name.buckets bucket) }
         requires keeps { IfSome
             (slice_index_or self.old.held.buckets bucket None)
             (λ names. bucket_note.known ≡ Some names) }
@@ -224,7 +224,7 @@ impl<R: Record> Pass<R> {
         entry: &Entry<R>,
     ) -> Result<bool, DirFault>
         requires room { length self.old.entries < self.old.of.room }
-        requires bucket { (bucket < 17) × (bucket_note.cell ≡ slice_index self.old.of.name.buckets bucket) }
+        requires bucket { (bucket < 26) × (bucket_note.cell ≡ slice_index self.old.of.name.buckets bucket) }
         requires keeps { IfSome
             (slice_index_or self.old.held.buckets bucket None)
             (λ names. bucket_note.known ≡ Some names) }
@@ -235,7 +235,7 @@ impl<R: Record> Pass<R> {
         ensures judged { IsJudged R.form.width self.old self.new entry.now result }
     {
         let number = self.known();
-        if entry.number() == GROWTH_LIMIT {
+        if entry.number() == PLACE_LIMIT {
             self.end_at(bucket, place, bucket_note, Some(note));
             return Ok(false);
         }
@@ -284,7 +284,7 @@ impl<R: Record> Pass<R> {
     /// Two passes of one directory know the same growth of a number.
     fn agree_at(&mut self, other: &mut Pass<R>, number: usize)
         requires of { self.old.of ≡ other.old.of }
-        requires number { number < growth_limit }
+        requires number { number < place_limit }
         requires mine { number < length self.old.entries }
         requires theirs { number < length other.old.entries }
         ensures same { (self.new ≡ self.old) × (other.new ≡ other.old) }
@@ -336,7 +336,7 @@ impl<R: Record> Pass<R> {
         requires of { self.old.of ≡ other.old.of }
         requires open { self.old.ended ≡ false }
         requires number { number ≡ length self.old.entries }
-        requires room { (number < self.old.of.room) × (number < growth_limit) }
+        requires room { (number < self.old.of.room) × (number < place_limit) }
         requires longer { number < length other.old.entries }
         requires begins { take number other.old.entries ≡ self.old.entries }
         ensures same { other.new ≡ other.old }
@@ -386,7 +386,7 @@ impl<R: Record> Pass<R> {
         ensures place { MatchOption result
             (total self.now.entries ≤ i)
             (λ found. IsPlaceOf self.now.entries i found.0 found.1) }
-        ensures in_directory { IfSome result (λ found. found.0 < growth_limit) }
+        ensures in_directory { IfSome result (λ found. found.0 < place_limit) }
     {
         if i >= self.size {
             return None;

@@ -5,7 +5,7 @@ ghost use Rattle.disk_core.specs.State.{now, IsImage};
 ghost use Rattle.segment_core.specs.Raw.{AreCellsOf};
 ghost use Rattle.pen_core.specs.Pen.{vector_after, stage_of};
 ghost use Rattle.pen_core.specs.Refusals.{first_refusal, ready_lines};
-ghost use Rattle.directory_core.specs.Limits.{growth_limit};
+ghost use Rattle.directory_core.specs.Limits.{place_limit};
 ghost use Rattle.record_core.specs.Limits.{record_limit};
 ghost use Rattle.directory_core.specs.Chain.{total, IsChained, AreBlocks};
 ghost use Rattle.book_core.specs.Marks.{nothing_told};
@@ -83,7 +83,7 @@ impl<R: Record, D: Disk> Flusher<R, D> {
         ensures count { result ≡ length self.now.pass.entries }
         ensures chained { IsChained self.now.pass.entries }
         ensures in_a_frame { AreBlocks R.form.width self.now.pass.entries }
-        ensures in_room { (result ≤ self.now.pass.of.room) × (self.now.pass.of.room ≤ growth_limit) }
+        ensures in_room { (result ≤ self.now.pass.of.room) × (self.now.pass.of.room ≤ place_limit) }
         ensures in_limit { total self.now.pass.entries ≤ self.now.pass.of.limit }
     {
         self.pass.known()

@@ -8,7 +8,7 @@ ghost use Rattle.pen_core.specs.Pen.{BeginsFrame, IsUnchanged};
 ghost use Rattle.pen_core.specs.Refusals.{first_refusal, ready_lines, is_full};
 ghost use Rattle.record_core.specs.Limits.{payload_limit};
 ghost use Rattle.directory_core.specs.Chain.{total};
-ghost use Rattle.directory_core.specs.Limits.{growth_limit};
+ghost use Rattle.directory_core.specs.Limits.{place_limit};
 ghost use Rattle.flush_core.specs.Flusher.{IsFlusherOf, untaken};
 ghost use Rattle.flush_core.specs.Group.{IsGreatest};
 ghost use Rattle.flush_core.specs.Refusals.{IsTakeFault};
@@ -40,7 +40,7 @@ fn next_group<R: Record>(live: &Live<R>, pass: &mut Pass<R>, from: u64, limit: u
     ensures payload { result.payload ≡ payload_len R.form.width (take result.count (map (λ e. e.records) (drop from pass.old.entries))) }
     ensures some { from < length pass.old.entries → 0 < result.count }
     ensures filled { AllByRecursion (λ growth. 0 < length growth) (map (λ e. e.records) (drop from pass.old.entries)) }
-    ensures bounds { (length pass.old.entries ≤ growth_limit) × (total pass.old.entries ≤ pass.old.of.limit) }
+    ensures bounds { (length pass.old.entries ≤ place_limit) × (total pass.old.entries ≤ pass.old.of.limit) }
 {
     let known = pass.known();
     let mut group = NextGroup {

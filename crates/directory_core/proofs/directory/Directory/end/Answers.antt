@@ -11,15 +11,15 @@ use Rattle.directory_core.proofs.directory.Directory.end.Given.{Over}
 use Rattle.directory_core.proofs.directory.Directory.end.Goals.{After-spot-at, After-bucket_note-bucket_note, After-self, In-Some-get_as}
 use Rattle.directory_core.proofs.directory.Directory.end.Goals as goal
 
-in17 : (g : Over) (c : After-spot-at g) → c.spot-at.result.0 < 17
-in17 g c = c.spot-at.ensures.in_directory
+in_row : (g : Over) (c : After-spot-at g) → c.spot-at.result.0 < 26
+in_row g c = c.spot-at.ensures.in_directory
     (in_directory c.args.pass.now c.knows_all.result c.knows_all.ensures c.if-knows_all.false c.take_ends.new.self c.known.result c.take_ends.ensures c.known.ensures.count c.known.ensures.in_room)
 
 pub bucket_note-bucket_note-requires-after_bounds : goal.bucket_note-bucket_note-requires-after_bounds
-bucket_note-bucket_note-requires-after_bounds g c κs held = in17 g (goal.at.bucket_note-bucket_note-requires-after_bounds g c).After-spot-at
+bucket_note-bucket_note-requires-after_bounds g c κs held = in_row g (goal.at.bucket_note-bucket_note-requires-after_bounds g c).After-spot-at
 
 -- a note of the bucket's cell is one of that cell of the directory
-is_of : (g : Over) (c : After-self g) → c.spot-at.result.0 < 17 → (cell : ℕ) (b : OnceBox (Bucket g.row.R.Denot))
+is_of : (g : Over) (c : After-self g) → c.spot-at.result.0 < 26 → (cell : ℕ) (b : OnceBox (Bucket g.row.R.Denot))
     → cell ≡ c.bucket_note-bucket_note.result.cell → b ≡ get_or c.self.inside.buckets.items c.spot-at.result.0 b → cell ≡ cell_name b
 is_of g c lt cell b same is =
     let names = ap (λ (p : Known _). p.of.name.buckets) c.take_ends.ensures ∙ ap (λ (d : Identity). d.name.buckets) (c.requires.of ∙ sym c.self.view_is) in
@@ -28,12 +28,12 @@ is_of g c lt cell b same is =
 
 pub set_as-unused-requires : goal.set_as-unused-requires
 set_as-unused-requires g c =
-    is_of g (goal.at.set_as-unused-requires g c).After-self (in17 g (goal.at.set_as-unused-requires g c).After-spot-at)
+    is_of g (goal.at.set_as-unused-requires g c).After-self (in_row g (goal.at.set_as-unused-requires g c).After-spot-at)
     c.bucket_note-bucket_note.result.cell c.index.result.now refl c.index.ensures
 
 pub get_as-requires : goal.get_as-requires
 get_as-requires g c =
-    is_of g (goal.at.get_as-requires g c).After-self (in17 g (goal.at.get_as-requires g c).After-spot-at)
+    is_of g (goal.at.get_as-requires g c).After-self (in_row g (goal.at.get_as-requires g c).After-spot-at)
     c.set_as-unused.new.note.cell c.index-2.result.now c.set_as-unused.ensures.cell c.index-2.ensures
 
 cell_is : (g : Over) (c : In-Some-get_as g) → c.get_as.new.note.cell ≡ get_or c.bucket_note-bucket_note.new.self.of.name.buckets c.spot-at.result.0 0
@@ -54,7 +54,7 @@ spot_is g c =
 
 pub end_at-requires-clause-bucket : goal.end_at-requires-clause-bucket
 end_at-requires-clause-bucket g c κs held =
-    (in17 g (goal.at.end_at-requires-clause-bucket g c).After-spot-at, cell_is g (goal.at.end_at-requires-clause-bucket g c).In-Some-get_as)
+    (in_row g (goal.at.end_at-requires-clause-bucket g c).After-spot-at, cell_is g (goal.at.end_at-requires-clause-bucket g c).In-Some-get_as)
 
 pub end_at-requires-clause-keeps : goal.end_at-requires-clause-keeps
 end_at-requires-clause-keeps g c κs held = keeps g (goal.at.end_at-requires-clause-keeps g c).In-Some-get_as
@@ -74,7 +74,7 @@ end_at-requires-in-Ok-default-clause-ends g c κs held =
 
 pub end_at-requires-in-Ok-default-clause-bucket : goal.end_at-requires-in-Ok-default-clause-bucket
 end_at-requires-in-Ok-default-clause-bucket g c κs held =
-    (in17 g (goal.at.end_at-requires-in-Ok-default-clause-bucket g c).After-spot-at, cell_is g (goal.at.end_at-requires-in-Ok-default-clause-bucket g c).In-Some-get_as)
+    (in_row g (goal.at.end_at-requires-in-Ok-default-clause-bucket g c).After-spot-at, cell_is g (goal.at.end_at-requires-in-Ok-default-clause-bucket g c).In-Some-get_as)
 
 pub end_at-requires-in-Ok-default-clause-keeps : goal.end_at-requires-in-Ok-default-clause-keeps
 end_at-requires-in-Ok-default-clause-keeps g c κs held = keeps g (goal.at.end_at-requires-in-Ok-default-clause-keeps g c).In-Some-get_as

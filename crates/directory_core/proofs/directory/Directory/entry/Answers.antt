@@ -10,17 +10,17 @@ use Rattle.directory_core.proofs.directory.Directory.entry.Given.{Over}
 use Rattle.directory_core.proofs.directory.Directory.entry.Goals.{After-spot-at, After-bucket_note-bucket_note}
 use Rattle.directory_core.proofs.directory.Directory.entry.Goals as goal
 
-in17 : (g : Over) (c : After-spot-at g) → c.spot-at.result.0 < 17
-in17 g c = c.spot-at.ensures.in_directory (omega (arith, c.if-number-known.false, c.known.ensures.in_room))
+in_row : (g : Over) (c : After-spot-at g) → c.spot-at.result.0 < 26
+in_row g c = c.spot-at.ensures.in_directory (omega (arith, c.if-number-known.false, c.known.ensures.in_room))
 
 pub bucket_note-bucket_note-requires-after_bounds : goal.bucket_note-bucket_note-requires-after_bounds
-bucket_note-bucket_note-requires-after_bounds g c κs held = in17 g (goal.at.bucket_note-bucket_note-requires-after_bounds g c).After-spot-at
+bucket_note-bucket_note-requires-after_bounds g c κs held = in_row g (goal.at.bucket_note-bucket_note-requires-after_bounds g c).After-spot-at
 
 pub get_as-requires : goal.get_as-requires
 get_as-requires g c =
     let names = ap (λ (d : Identity). d.name.buckets) (c.requires.of ∙ sym c.self.view_is) in
     let cell = c.bucket_note-bucket_note.ensures.cell ∙ ap (λ (p : Known _). get_or p.of.name.buckets c.spot-at.result.0 0) c.note-note.ensures.same in
-    let lt = in17 g (goal.at.get_as-requires g c).After-spot-at in
+    let lt = in_row g (goal.at.get_as-requires g c).After-spot-at in
     let all = c.self.invariant.0 in
     bucket_cell cell_name c.self.inside.buckets.items c.args.pass.now.of.name.buckets c.spot-at.result.0
     c.bucket_note-bucket_note.result.cell c.index.result.now cell names (omega arith) c.index.ensures

@@ -38,17 +38,17 @@ returns-in_default-cell g c =
 
 -- the bucket, and what the pass knows of it
 
-in17 : (g : Over) (c : After-spot-at g) → c.spot-at.result.0 < 17
-in17 g c = c.spot-at.ensures.in_directory
+in_row : (g : Over) (c : After-spot-at g) → c.spot-at.result.0 < 26
+in_row g c = c.spot-at.ensures.in_directory
     (in_directory c.args.pass.now c.knows_all.result c.knows_all.ensures c.if-knows_all.false c.args.pass.now c.known-number.result refl c.known-number.ensures.count c.known-number.ensures.in_room)
 
 pub bucket_note-bucket_note-requires-after_bounds : goal.bucket_note-bucket_note-requires-after_bounds
-bucket_note-bucket_note-requires-after_bounds g c κs held = in17 g (goal.at.bucket_note-bucket_note-requires-after_bounds g c).After-spot-at
+bucket_note-bucket_note-requires-after_bounds g c κs held = in_row g (goal.at.bucket_note-bucket_note-requires-after_bounds g c).After-spot-at
 
 pub get_as-requires : goal.get_as-requires
 get_as-requires g c =
     let names = ap (λ (d : Identity). d.name.buckets) (c.requires.of ∙ sym c.self.view_is) in
-    let lt = in17 g (goal.at.get_as-requires g c).After-spot-at in
+    let lt = in_row g (goal.at.get_as-requires g c).After-spot-at in
     let all = c.self.invariant.0 in
     bucket_cell cell_name c.self.inside.buckets.items c.args.pass.now.of.name.buckets c.spot-at.result.0
     c.bucket_note-bucket_note.result.cell c.index.result.now c.bucket_note-bucket_note.ensures.cell names (omega arith) c.index.ensures
@@ -68,7 +68,7 @@ spot_is g c = subst (λ k. IsSpot k c.spot-at.result.0 c.spot-at.result.1)
 
 pub end_at-requires-clause-bucket : goal.end_at-requires-clause-bucket
 end_at-requires-clause-bucket g c κs held =
-    (in17 g (goal.at.end_at-requires-clause-bucket g c).After-spot-at, cell_is g (goal.at.end_at-requires-clause-bucket g c).In-Some)
+    (in_row g (goal.at.end_at-requires-clause-bucket g c).After-spot-at, cell_is g (goal.at.end_at-requires-clause-bucket g c).In-Some)
 
 pub end_at-requires-clause-keeps : goal.end_at-requires-clause-keeps
 end_at-requires-clause-keeps g c κs held = keeps g (goal.at.end_at-requires-clause-keeps g c).In-Some
@@ -89,7 +89,7 @@ judge-requires-clause-room g c κs held =
 
 pub judge-requires-clause-bucket : goal.judge-requires-clause-bucket
 judge-requires-clause-bucket g c κs held =
-    (in17 g (goal.at.judge-requires-clause-bucket g c).After-spot-at, cell_is g (goal.at.judge-requires-clause-bucket g c).In-Some)
+    (in_row g (goal.at.judge-requires-clause-bucket g c).After-spot-at, cell_is g (goal.at.judge-requires-clause-bucket g c).In-Some)
 
 pub judge-requires-clause-keeps : goal.judge-requires-clause-keeps
 judge-requires-clause-keeps g c κs held = keeps g (goal.at.judge-requires-clause-keeps g c).In-Some

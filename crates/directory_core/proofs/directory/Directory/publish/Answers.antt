@@ -22,22 +22,22 @@ keeps_limit g c =
     let many = ap length c.records.ensures.value ∙ ap (λ (e : Growth _). length e.records) c.deref.ensures in
     omega (arith, c.if-len-self.false, c.size.ensures.sum, c.size.ensures.in_limit)
 
-in17 : (g : Over) (c : After-spot-at g) → c.spot-at.result.0 < 17
-in17 g c = c.spot-at.ensures.in_directory (omega (arith, c.if-number-self.false, c.self.invariant.1))
+in_row : (g : Over) (c : After-spot-at g) → c.spot-at.result.0 < 26
+in_row g c = c.spot-at.ensures.in_directory (omega (arith, c.if-number-self.false, c.self.invariant.1))
 
 pub bucket_note-bucket_note-requires-after_bounds : goal.bucket_note-bucket_note-requires-after_bounds
-bucket_note-bucket_note-requires-after_bounds g c κs held = in17 g (goal.at.bucket_note-bucket_note-requires-after_bounds g c).After-spot-at
+bucket_note-bucket_note-requires-after_bounds g c κs held = in_row g (goal.at.bucket_note-bucket_note-requires-after_bounds g c).After-spot-at
 
 pub get_or_try_init_as-made-requires-clause-cell : goal.get_or_try_init_as-made-requires-clause-cell
 get_or_try_init_as-made-requires-clause-cell g c =
     let names = ap (λ (d : Identity). d.name.buckets) (c.requires.of ∙ sym c.self.view_is) in
-    let lt = in17 g (goal.at.get_or_try_init_as-made-requires-clause-cell g c).After-spot-at in
+    let lt = in_row g (goal.at.get_or_try_init_as-made-requires-clause-cell g c).After-spot-at in
     let all = c.self.invariant.0 in
     bucket_cell cell_name c.self.inside.buckets.items c.args.pass.now.of.name.buckets c.spot-at.result.0
     c.bucket_note-bucket_note.result.cell c.index.result.now c.bucket_note-bucket_note.ensures.cell names (omega arith) c.index.ensures
 
 pub get_or_try_init_as-made-requires-clause-callable : goal.get_or_try_init_as-made-requires-clause-callable
-get_or_try_init_as-made-requires-clause-callable g c = (in17 g (goal.at.get_or_try_init_as-made-requires-clause-callable g c).After-spot-at, (c.type_bounds.send-R, c.type_bounds.sync-R))
+get_or_try_init_as-made-requires-clause-callable g c = (in_row g (goal.at.get_or_try_init_as-made-requires-clause-callable g c).After-spot-at, (c.type_bounds.send-R, c.type_bounds.sync-R))
 
 -- the pass takes the growth in
 
@@ -48,7 +48,7 @@ add-requires-clause-room g c κs held =
 
 pub add-requires-clause-bucket : goal.add-requires-clause-bucket
 add-requires-clause-bucket g c κs held = (
-  in17 g (goal.at.add-requires-clause-bucket g c).After-spot-at,
+  in_row g (goal.at.add-requires-clause-bucket g c).After-spot-at,
   c.get_or_try_init_as-made.ensures.cell ∙ (c.bucket_note-bucket_note.ensures.cell
       ∙ ap (λ (p : Known _). get_or p.of.name.buckets c.spot-at.result.0 0) (sym c.bucket_note-bucket_note.ensures.same)),
 )

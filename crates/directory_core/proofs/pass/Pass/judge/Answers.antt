@@ -60,4 +60,4 @@ returns-then-number-clause-judged g c =
 pub end_at-requires-clause-ends : goal.end_at-requires-clause-ends
 end_at-requires-clause-ends g c κs held =
     ends_in c.args.bucket_note.known c.args.place c.args.note c.requires.stands.1
-    (subst (λ o. MatchOption o ⊥ IsEnd) (sym c.requires.found) (sym c.number.ensures ∙ c.if-number-eq-GROWTH_LIMIT.true))
+    (subst (λ o. MatchOption o ⊥ IsEnd) (sym c.requires.found) (sym c.number.ensures ∙ c.if-number-eq-PLACE_LIMIT.true))
