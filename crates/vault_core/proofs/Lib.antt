@@ -9,6 +9,7 @@ pub mod Commands
 pub mod Changes
 pub mod Lent
 pub mod Grows
+mod Shares
 pub mod Shrinks
 pub mod Trims
 pub mod Carried

@@ -1,5 +1,5 @@
 -- What the definitions of refusals rule out, on the smallest examples.
-use Rattle.std.proofs.Common.{◌≡◌, ◌≢◌, ℕ, zero, suc, ◌+◌, ◌*◌, ◌^◌, ◌<◌, ◌≤◌, ◌⊎◌, inl, inr, true, false, List, [], ◌∷◌, length, max, Err, refl, sym, ap, arith}
+use Rattle.std.proofs.Common.{◌≡◌, ◌≢◌, ℕ, zero, suc, ◌+◌, ◌*◌, ◌^◌, ◌<◌, ◌≤◌, ◌⊎◌, inl, inr, true, false, List, [], ◌∷◌, length, max, None, Err, refl, sym, ap, arith}
 use Rattle.std.specs.Prelude.{replicate}
 use Rattle.record_core.specs.Bytes.{Encoding}
 use Rattle.disk_core.specs.State.{State, IsImage, settled}
@@ -12,6 +12,7 @@ use Rattle.pen_core.specs.declared.fault.OpenFault.TheVariants.{Disk}
 use Rattle.pen_core.specs.declared.fault.PenFault.TheVariants as faults
 use Rattle.pen_core.specs.Births.{IsExisting, WritesNothing}
 use Rattle.pen_core.specs.PenOf.{PenOf}
+use Rattle.pen_core.specs.Refusals.{first_refusal, ready_lines}
 use Rattle.book_core.specs.Lists.{Phase, Seated}
 use Rattle.flush_core.specs.Flusher.{FlusherOf}
 use Rattle.vault_core.specs.declared.fault.VaultFault.TheVariants.{Pen, Unsettled, WrongPhase}
@@ -19,7 +20,9 @@ use Rattle.vault_core.specs.declared.upgrading.UpgradeFault.TheVariants.{Old, No
 use Rattle.vault_core.specs.Making.{IsMade}
 use Rattle.vault_core.specs.Settles.{IsSettleFault}
 use Rattle.vault_core.specs.Gathering.{AreAll, AreDistinct, IsGatherFault}
+use Rattle.vault_core.specs.Sharing.{IsShareFault, IsWideShareFault, MayShare, MayShareWide}
 use Rattle.vault_core.specs.Upgrading.{IsCopied, IsUpgradeFault}
+use Rattle.vault_core.specs.Vault.{VaultOf}
 
 -- ---- a file that exists
 
@@ -158,3 +161,35 @@ module _ {R D : Type 0} (live : Phase R) (first second : Seated R) (f : FlusherO
 
   refused_with_one : f.pen.broken ≡ false → IsGatherFault live (first ∷ []) f WrongPhase
   refused_with_one whole = (whole, one_missing)
+
+-- ---- the begin of a phase
+
+module _ {R D : Type 0} (v : VaultOf R D) (ready : first_refusal (ready_lines v.pen) ≡ None) where
+  -- room for one growth more than others have only a wide phase may have
+  too_much_for_others : IsShareFault v 1048569 1 (Pen faults.TooLarge) × (MayShare v 1048569 1 → ⊥)
+  too_much_for_others = (inr (ready, inl (refl, inr (inl (omega arith)))), λ may. let within = may.bounds.room_in.1 in absurd (omega arith))
+
+  wide_may : MayShareWide v 1048569 1
+  wide_may = record { ready = ready; bounds = record { room_in = (omega arith, omega arith); seats_in = (omega arith, omega arith) } }
+
+  not_too_much : IsWideShareFault v 536870904 64 (Pen faults.TooLarge) → ⊥
+  not_too_much why = elim why [
+    | inl first ↦ absurd cc
+    | inr other ↦ elim other.1 [
+      | inl large ↦ elim large.1 [
+        | inl none ↦ absurd (omega arith)
+        | inr more ↦ elim more [ inl room ↦ absurd (omega arith) | inr seats ↦ elim seats [ inl none ↦ absurd (omega arith) | inr many ↦ absurd (omega arith) ] ]
+      ]
+      | inr memory ↦ absurd (let is = memory.0 in cc)
+    ]
+  ]
+
+  -- and none has room for more than a directory
+  too_much_for_any : IsWideShareFault v 536870905 1 (Pen faults.TooLarge) × (IsWideShareFault v 536870905 1 (Pen faults.Memory) → ⊥)
+  too_much_for_any = (
+    inr (ready, inl (refl, inr (inl (omega arith)))),
+    λ why. elim why [
+      | inl first ↦ absurd cc
+      | inr other ↦ elim other.1 [ inl large ↦ absurd (let is = large.0 in cc) | inr memory ↦ (let within = memory.1.room_in.1 in absurd (omega arith)) ]
+    ],
+  )
