@@ -24,7 +24,7 @@ use Rattle.serve_core.specs.declared.client.Pipes.{Pipes}
 use Rattle.serve_core.specs.declared.fault.ServeFault.{ServeFault}
 use Rattle.serve_core.specs.declared.fault.ServeFault.TheVariants.{Open, Share, Thread, Flush}
 use Rattle.serve_core.specs.Serving.{IsServed, IsAllServed, OpensBehind, IsLeft, ComesBack, IsPhaseLeft}
-use Rattle.serve_core.specs.Clients.{HasTakenIn, IsServedTo, LeavesClients, RaisesStand, TakesClientsIn}
+use Rattle.serve_core.specs.Clients.{HasTakenIn, IsServedTo, IsServerRoom, LeavesClients, RaisesStand, TakesClientsIn}
 use Rattle.serve_core.proofs.Clients.{in_order}
 
 module _ {R D : Type 0} (form : Encoding R) (keeps : D → Type 0) (states : D → List State) (disk : D) (vault : VaultOf R D)
@@ -154,14 +154,15 @@ module _ {R D : Type 0} (form : Encoding R) (keeps : D → Type 0) (states : D �
           }
 
       -- and the growths are theirs
-      pub served_to : {I W : Type 0} (remaining : I → Option (List ℕ)) (contents : W → Option (List ℕ)) (pipes : List (Pipes I W)) → HasTakenIn form keeps states live remaining contents pipes served
-          → IsServedTo form states remaining contents pipes disk left settled
+      pub served_to : {I W : Type 0} → IsServerRoom live.directory.room → (remaining : I → Option (List ℕ)) (contents : W → Option (List ℕ)) (pipes : List (Pipes I W))
+          → HasTakenIn form keeps states live remaining contents pipes served → IsServedTo form states remaining contents pipes disk left settled
       unfolding was_served
-      served_to remaining contents pipes taken =
+      served_to room remaining contents pipes taken =
           let order = in_order form live remaining contents pipes taken.seats taken.clients in
           record {
             served = was_served;
             live = live;
+            room = room;
             opening = ap joined_pieces blocks;
             seats = taken.seats;
             clients = taken.clients;
@@ -198,21 +199,21 @@ module _ {R D : Type 0} (form : Encoding R) (keeps : D → Type 0) (states : D �
           (Serves-learns comes.flushed.served comes.learns) left settled ended.disk_is ended.settled_is ended.known ended.images kept
 
   -- and it is of the clients that were served
-  pub phase_clients : {X I W : Type 0} (faults : D → ℕ) (room seats : ℕ) (live : Phase R) (begun : FlusherOf R D) → Shares (keeps vault.pen.disk) vault room seats live begun
+  pub phase_clients : {X I W : Type 0} (faults : D → ℕ) (room seats : ℕ) (live : Phase R) (begun : FlusherOf R D) → Shares (keeps vault.pen.disk) vault room seats live begun → IsServerRoom live.directory.room
       → (remaining : I → Option (List ℕ)) (contents : W → Option (List ℕ)) (pipes : List (Pipes I W))
       → (left : D) (settled : ℕ) (result : Result X ServeFault) (ended : IsPhaseLeft form keeps states faults live begun left settled result)
       → TakesClientsIn form keeps states live remaining contents pipes ended.flusher result → keeps left → LeavesClients form states remaining contents pipes disk left settled result
   unfolding was_served served_to
-  phase_clients {X} faults room seats live begun shares remaining contents pipes left settled result ended taken kept = by_result result ended.comes taken
+  phase_clients {X} faults room seats live begun shares wide remaining contents pipes left settled result ended taken kept = by_result result ended.comes taken
     where
       by_result : (result : Result X ServeFault) → ComesBack form keeps states faults live begun ended.flusher result → TakesClientsIn form keeps states live remaining contents pipes ended.flusher result
           → LeavesClients form states remaining contents pipes disk left settled result
       by_result (Ok x) comes takes =
-          let to = served_to live begun ended.flusher shares.blocks shares.pen comes.of comes.served left settled ended.disk_is ended.settled_is ended.known ended.images kept remaining contents pipes takes.0 in
+          let to = served_to live begun ended.flusher shares.blocks shares.pen comes.of comes.served left settled ended.disk_is ended.settled_is ended.known ended.images kept wide remaining contents pipes takes.0 in
           (to, ended.settled_is ∙ comes.ended.all, to.just_theirs takes.1)
       by_result (Err (Open fault)) comes takes = tt
       by_result (Err (Share fault)) comes takes = tt
       by_result (Err Thread) comes takes = tt
       by_result (Err (Flush fault)) comes takes =
           served_to live begun ended.flusher shares.blocks shares.pen (IsFlusherOf-learns keeps live comes.stopped ended.flusher comes.flushed.of comes.learns)
-          (Serves-learns comes.flushed.served comes.learns) left settled ended.disk_is ended.settled_is ended.known ended.images kept remaining contents pipes takes
+          (Serves-learns comes.flushed.served comes.learns) left settled ended.disk_is ended.settled_is ended.known ended.images kept wide remaining contents pipes takes

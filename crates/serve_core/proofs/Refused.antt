@@ -9,7 +9,7 @@ use Rattle.pen_core.specs.PenOf.{PenOf, JobOf}
 use Rattle.pen_core.specs.Opening.{IsAtRest}
 use Rattle.pen_core.specs.Refusals.{first_refusal, ready_lines}
 use Rattle.directory_core.specs.Limits.{growth_limit}
-use Rattle.book_core.specs.Beginning.{MayBegin, seat_limit}
+use Rattle.book_core.specs.Beginning.{seat_limit}
 use Rattle.book_core.specs.Lists.{Phase}
 use Rattle.flush_core.specs.declared.fault.FlushFault.{FlushFault}
 use Rattle.flush_core.specs.declared.fault.FlushFault.TheVariants as flushes
@@ -66,8 +66,8 @@ stopped width old new (flushes.Pen (pens.Disk cause)) whole is = is
 stopped width old new (flushes.Strayed number) whole is = (is.1, is.0)
 
 -- as many seats as clients, so their number is in bounds
-pub in_bounds : (clients seats : ℕ) {room : ℕ} → seats ≡ min clients 65535 → MayBegin room seats → (0 < clients) × (clients ≤ seat_limit)
-in_bounds clients seats is may = (omega (arith, is, may.seats_in.0), omega (arith, is, may.seats_in.1))
+pub in_bounds : (clients seats : ℕ) → seats ≡ min clients 65535 → (0 < seats) × (seats ≤ seat_limit) → (0 < clients) × (clients ≤ seat_limit)
+in_bounds clients seats is may = (omega (arith, is, may.0), omega (arith, is, may.1))
 
 -- a flusher of a phase, and what came of it
 module _ {R D : Type 0} (form : Encoding R) (keeps : D → Type 0) (states : D → List State) (faults : D → ℕ) (live : Phase R) (old new : FlusherOf R D) where

@@ -22,7 +22,7 @@ use Rattle.serve_core.specs.declared.talking.TalkEnd.{TalkEnd}
 use Rattle.serve_core.specs.Talks.{Exchange, HasTalked}
 use Rattle.serve_core.specs.Serving.{IsServed}
 use Rattle.serve_core.proofs.Clients.{client_is}
-use Rattle.serve_core.specs.Clients.{AreClients, AreToldByRaises, HasRaiseTo, IsClient, IsServedTo, LeavesClients, RaisesStand, TellsSettled}
+use Rattle.serve_core.specs.Clients.{AreClients, AreToldByRaises, HasRaiseTo, IsClient, IsServedTo, IsServerRoom, LeavesClients, RaisesStand, TellsSettled}
 
 -- ---- what is told as settled
 
@@ -173,12 +173,25 @@ module _ {R I W : Type 0} (form : Encoding R) (live : Phase R) (remaining : I �
 
   -- ---- a server
 
+  -- it takes no fewer growths than any phase, and no more than a directory
+  rooms : IsServerRoom 1048568 × IsServerRoom 536870904
+  rooms = (inr refl, inl refl)
+
+  no_other_room : (IsServerRoom 8 → ⊥) × (IsServerRoom 1048567 → ⊥) × (IsServerRoom 536870905 → ⊥)
+  no_other_room = (
+    λ room. elim room [ inl is ↦ absurd (omega arith) | inr is ↦ absurd (omega arith) ],
+    λ room. elim room [ inl is ↦ absurd (omega arith) | inr is ↦ absurd (omega arith) ],
+    λ room. elim room [ inl is ↦ absurd (omega arith) | inr is ↦ absurd (omega arith) ],
+  )
+
   module _ {D : Type 0} (states : D → List State) (disk left : D) (settled_to : ℕ) where
     -- without clients nothing grows
-    nothing_grown : (served : IsServed form states disk left settled_to) → served.growths ≡ [] → opening_of live ≡ served.before → IsServedTo form states remaining contents [] disk left settled_to
-    nothing_grown served none opening = record {
+    nothing_grown : (served : IsServed form states disk left settled_to) → served.growths ≡ [] → opening_of live ≡ served.before → IsServerRoom live.directory.room
+        → IsServedTo form states remaining contents [] disk left settled_to
+    nothing_grown served none opening room = record {
       served = served;
       live = live;
+      room = room;
       opening = opening;
       seats = [];
       clients = none_for_none;

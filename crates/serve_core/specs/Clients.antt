@@ -1,5 +1,5 @@
 -- The clients of a server, and what stands of what they grew.
-use Rattle.std.specs.Prelude.{◌≡◌, ℕ, ◌+◌, ◌<◌, List, [], length, slice_get, All, Option, None, Some}
+use Rattle.std.specs.Prelude.{◌≡◌, ◌⊎◌, ℕ, ◌+◌, ◌<◌, List, [], length, slice_get, All, Option, None, Some}
 use Rattle.std.specs.declared.result.Result.{Result}
 use Rattle.std.specs.declared.result.Result.TheVariants.{Ok, Err}
 use Rattle.record_core.specs.Bytes.{Encoding}
@@ -7,6 +7,7 @@ use Rattle.disk_core.specs.State.{State}
 use Rattle.disk_core.specs.Moments.{LeftSince}
 use Rattle.block_core.specs.Growth.{Growth}
 use Rattle.directory_core.specs.Chain.{IsChained, IsPrefix}
+use Rattle.directory_core.specs.Limits.{place_limit, growth_limit}
 use Rattle.book_core.specs.declared.mark.Raise.{Raise}
 use Rattle.book_core.specs.Marks.{IsRaiseOf}
 use Rattle.book_core.specs.Lists.{Phase, Seated, IsSeatOf, StandInList, opening_of}
@@ -68,6 +69,11 @@ pub record AreClients {R I W : Type 0} (form : Encoding R) (live : Phase R) (rem
 
 -- ---- a server
 
+-- How many growths it takes: as many as a directory has places, or, where the system has no addresses for those, as many as
+-- any phase.
+abbrev pub IsServerRoom : ℕ → Type 0
+IsServerRoom room = (room ≡ place_limit) ⊎ (room ≡ growth_limit)
+
 -- What was served is what these clients grew. The growths that stand behind the file's list are numbered as they stand; what
 -- each client's seat made is among them, in its order, each once, and where the seats made as many as that these are all of
 -- them: those that bear a client's id are just what it grew. What each client was told as settled stands.
@@ -75,6 +81,7 @@ pub record IsServedTo {R D I W : Type 0} (form : Encoding R) (states : D → Lis
     (disk left : D) (settled : ℕ) : Type 0 where
   pub served : IsServed form states disk left settled
   pub live : Phase R
+  pub room : IsServerRoom live.directory.room
   pub opening : opening_of live ≡ served.before
   pub seats : List (Seated R)
   pub clients : AreClients form live remaining contents pipes seats

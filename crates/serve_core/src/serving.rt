@@ -1,15 +1,17 @@
 //! The server: a thread for each client, and the caller's, which commits what they grow.
 
-ghost use Rattle.std.specs.Prelude.{◌≡◌, ℕ, ◌≤◌, List, length, vec_len, vec_capacity, IfErr, OnOk};
+ghost use Rattle.std.specs.Prelude.{◌≡◌, ℕ, ◌<◌, ◌≤◌, List, length, vec_len, vec_capacity, IfOk, IfErr, OnOk};
 ghost use Rattle.disk_core.specs.Fault.{CountsFailures};
 ghost use Rattle.disk_core.specs.State.{IsImage, now};
 ghost use Rattle.pen_core.specs.Opening.{IsAtRest};
 ghost use Rattle.directory_core.specs.Known.{KnowsAll};
-ghost use Rattle.book_core.specs.Beginning.{AreNewSeats};
+ghost use Rattle.directory_core.specs.Limits.{growth_limit};
+ghost use Rattle.book_core.specs.Beginning.{AreNewSeats, seat_limit};
 ghost use Rattle.flush_core.specs.Flusher.{IsFlusherOf, OpensToJob};
 ghost use Rattle.vault_core.specs.Vault.{list_of};
+ghost use Rattle.vault_core.specs.Sharing.{Shares, IsShareFault};
 ghost use Rattle.serve_core.specs.Serving.{IsLeft, IsServeRefusal, IsOpenedFrom, HasFlushed, ComesBack, IsPhaseLeft, outcome_of, serve_failures};
-ghost use Rattle.serve_core.specs.Clients.{AreBegun, LeavesClients, TakesClientsIn};
+ghost use Rattle.serve_core.specs.Clients.{AreBegun, IsServerRoom, LeavesClients, TakesClientsIn};
 
 use crate::away::Away;
 use crate::client::{Pipes, Start};
@@ -17,7 +19,7 @@ use crate::fault::ServeFault;
 use crate::homing::{come_home, take_clients_in};
 use crate::starting::start_all;
 use book_core::{Live, Seat};
-use directory_core::GROWTH_LIMIT;
+use directory_core::{GROWTH_LIMIT, PLACE_LIMIT};
 use disk_core::Disk;
 use flush_core::{FlushFault, Flusher};
 use pen_core::PenFault;
@@ -229,6 +231,28 @@ fn serve_phase<
     }
 }
 
+/// Begins a phase with as much room as a directory has, or, where the system has no addresses for the passes of that, with
+/// as much as any phase.
+fn share_widest<R: Record, D: Disk>(
+    vault: Vault<R, D>,
+    seats: u16,
+) -> Result<(Live<R>, Flusher<R, D>, Vec<Seat<R>>), (Vault<R, D>, VaultFault)>
+    ensures shares { IfOk result (λ r. Shares (D.keeps vault.pen.disk) vault r.0.directory.room seats r.0 r.1) }
+    ensures room { IfOk result (λ r. IsServerRoom r.0.directory.room) }
+    ensures new { IfOk result (λ r. (length r.2.items ≡ seats) × AreNewSeats r.0.directory r.0.mark r.2.items) }
+    ensures may { OnOk result ((0 < seats) × (seats ≤ seat_limit)) }
+    ensures refused { IfErr result (λ r. (r.0 ≡ vault) × IsShareFault vault growth_limit seats r.1) }
+{
+    let (vault, fault) = match vault.share_wide(PLACE_LIMIT, seats) {
+        Ok(begun) => return Ok(begun),
+        Err(refused) => refused,
+    };
+    match fault {
+        VaultFault::Pen(PenFault::Memory) => vault.share(GROWTH_LIMIT, seats),
+        fault => Err((vault, fault)),
+    }
+}
+
 /// Begins a phase over a vault that was just opened, and serves a client at each pair of pipes in it. Gives the disk back.
 fn serve_vault<
     R: Record,
@@ -250,7 +274,7 @@ fn serve_vault<
     ensures model { D.keeps result.0 → D.keeps vault.pen.disk }
 {
     let count = pipes.len().min(u16::MAX as usize) as u16;
-    match vault.share(GROWTH_LIMIT, count) {
+    match share_widest(vault, count) {
         Ok(begun) => serve_phase(rt, alloc, begun, pipes),
         Err((vault, fault)) => (
             vault.into_disk(),

@@ -1,5 +1,4 @@
 use Rattle.std.proofs.Common.{◌≡◌, min, vec_len, length, arith}
-use Rattle.directory_core.specs.Limits.{growth_limit}
 use Rattle.vault_core.specs.Vault.{list_of}
 use Rattle.serve_core.proofs.Left.{handed_back, phase_clients, phase_left}
 use Rattle.serve_core.proofs.Refused.{in_bounds, none_served, phase_refused, phase_counts, phase_keeps}
@@ -21,14 +20,15 @@ pub returns-in-Ok-clause-left : goal.returns-in-Ok-clause-left
 returns-in-Ok-clause-left g c = λ disk from kept.
     let phase = c.serve_phase.result in
     phase_left g.R.Record.form g.D.Disk.keeps g.D.Disk.states disk c.args.vault from.opened from.only_syncs
-    g.D.Disk.faults growth_limit c.min-count.result c.in-Ok.begun.0 c.in-Ok.begun.1 c.in-Ok.ensures.shares phase.0 phase.1.growths phase.2 c.serve_phase.ensures.0 kept
+    g.D.Disk.faults c.in-Ok.begun.0.directory.room c.min-count.result c.in-Ok.begun.0 c.in-Ok.begun.1 c.in-Ok.ensures.shares phase.0 phase.1.growths phase.2
+    c.serve_phase.ensures.0 kept
 
 pub returns-in-Ok-clause-clients : goal.returns-in-Ok-clause-clients
 returns-in-Ok-clause-clients g c = λ disk from kept.
     let phase = c.serve_phase.result in
     phase_clients g.R.Record.form g.D.Disk.keeps g.D.Disk.states disk c.args.vault from.opened from.only_syncs
-    g.D.Disk.faults growth_limit c.min-count.result c.in-Ok.begun.0 c.in-Ok.begun.1 c.in-Ok.ensures.shares g.I.Read.remaining g.W.Write.contents c.args.pipes.items
-    phase.0 phase.1.growths phase.2 c.serve_phase.ensures.0 c.serve_phase.ensures.1 kept
+    g.D.Disk.faults c.in-Ok.begun.0.directory.room c.min-count.result c.in-Ok.begun.0 c.in-Ok.begun.1 c.in-Ok.ensures.shares c.in-Ok.ensures.room g.I.Read.remaining
+    g.W.Write.contents c.args.pipes.items phase.0 phase.1.growths phase.2 c.serve_phase.ensures.0 c.serve_phase.ensures.1 kept
 
 pub returns-in-Ok-clause-refused : goal.returns-in-Ok-clause-refused
 returns-in-Ok-clause-refused g c =
@@ -36,7 +36,7 @@ returns-in-Ok-clause-refused g c =
     let least = c.min-count.ensures in
     let is : c.min-count.result ≡ min (vec_len c.args.pipes) 65535 = omega (arith, len, least) in
     phase_refused g.R.Record.form g.D.Disk.keeps g.D.Disk.states g.D.Disk.faults c.args.vault c.in-Ok.ensures.shares.pen c.serve_phase.ensures.0
-    (vec_len c.args.pipes) (in_bounds (vec_len c.args.pipes) c.min-count.result is c.in-Ok.ensures.may.bounds) c.requires.whole
+    (vec_len c.args.pipes) (in_bounds (vec_len c.args.pipes) c.min-count.result is c.in-Ok.ensures.may) c.requires.whole
 
 pub returns-in-Ok-clause-faults : goal.returns-in-Ok-clause-faults
 returns-in-Ok-clause-faults g c =
