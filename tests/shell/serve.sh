@@ -69,6 +69,39 @@ a_client_that_reads_no_answer_holds_no_server() (
     head -c 24 /dev/zero | cmp - "$work/answered"
 )
 
+# Serves one client that asks for 1,100,000 growths at once. What it is answered goes to a file, and the server is run behind
+# what sets its bounds.
+serves_many() {
+    run create u64 "$work/t.cv"
+    mkfifo "$work/answers"
+    cat "$work/answers" >"$work/answered" &
+    reader=$!
+    status=0
+    "$top/tests/serve_many.py" ask 1100000 |
+        ("$@" && exec "$program" serve u64 "$work/t.cv" --seats=1 3<&0 4>"$work/answers") >"$out" 2>"$err" || status=$?
+    wait $reader
+}
+
+# They are more than other phases take.
+a_server_takes_more_growths_than_other_phases() (
+    has python3 'a server of many growths' || exit $is_skipped
+    serves_many true
+    did 'served 1100000 growths\n'
+    "$top/tests/serve_many.py" check 1100000 1100000 <"$work/answered"
+    run list u64 "$work/t.cv"
+    seq 0 1099999 | cmp - "$out"
+)
+
+# The seat's row of them wants 2 GiB of addresses. Where the system refuses these, the server takes as many as other phases.
+a_server_of_few_addresses_takes_as_many_as_other_phases() (
+    has python3 'a server of many growths' || exit $is_skipped
+    serves_many ulimit -v 1500000
+    did 'served 1048568 growths\n'
+    "$top/tests/serve_many.py" check 1100000 1048568 <"$work/answered"
+    run list u64 "$work/t.cv"
+    seq 0 1048567 | cmp - "$out"
+)
+
 # Its header may stand beside that of the library.
 the_client_in_c_is_one_for_cpp() (
     has c++ 'the client in C++' || exit $is_skipped
