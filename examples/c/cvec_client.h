@@ -36,7 +36,7 @@ enum cvec_refusal {
     CVEC_REFUSED_NO_MEMORY = 6,
     CVEC_REFUSED_GROWTH_MEMORY = 7,
     CVEC_REFUSED_CLOSED = 8,
-    CVEC_REFUSED_FULL = 9,      /* the server has taken 1,048,568 growths */
+    CVEC_REFUSED_FULL = 9,      /* the server has taken all growths that it has room for */
     CVEC_REFUSED_TOO_LONG = 10, /* the vector would have more than 2^32 records */
     CVEC_REFUSED_STRAYED = 11,
     CVEC_REFUSED_ENDED = 12, /* it isn't settled, and won't be */
