@@ -30,7 +30,7 @@ pub use book_core::{
     SettleFault, Snapshot, Writer,
 };
 pub use crew_core::{CrewFault, Crewed, Gate, Lists, OpenGate, Source, crew};
-pub use directory_core::{DirFault, GROWTH_LIMIT, Pass};
+pub use directory_core::{DirFault, GROWTH_LIMIT, PLACE_LIMIT, Pass};
 pub use disk_core::{
     Blow, Choice, Disk, DiskFault, FileDisk, FuseDisk, ImageLength, PendingBytes, RamDisk,
 };
