@@ -6,7 +6,7 @@ use crate::barrier::{Barrier, Span};
 use crate::clock::{now, since};
 use crate::fault::SpeedFault;
 use crate::figure::Figure;
-use crate::grower::{ThreadSeat, put_blocks};
+use crate::grower::{Over, ThreadSeat, put_blocks};
 use crate::mix::mixed;
 use crate::reading::Total;
 use crate::role::{ThreadRole, ThreadTask};
@@ -56,12 +56,17 @@ pub struct Course<'a> {
     done: Mutex<Done>,
 }
 
-/// Sums all that there is, and compares it. Answers how many records it summed.
-fn sum_once<G: ThreadSeat>(own: &mut G, block: &[u64]) -> Result<u64, SpeedFault> {
-    own.look()?;
-    let total = own.total();
-    total.check(Total::of_copies(block, own.piece_count()))?;
-    Ok(total.count)
+/// The work since that moment.
+#[derive(Clone, Copy)]
+struct Since<'a, 'b> {
+    course: &'b Course<'a>,
+    start: Instant,
+}
+
+impl Over for Since<'_, '_> {
+    fn is_over<E: Clock>(&self, rt: &E) -> Result<bool, SpeedFault> {
+        self.course.has_ended(rt, self.start)
+    }
 }
 
 impl<'a> Course<'a> {
@@ -127,13 +132,8 @@ impl<'a> Course<'a> {
         own: &mut G,
         start: Instant,
     ) -> Result<(), SpeedFault> {
-        let mut records: u64 = 0;
-        for _ in rt.forever() {
-            if self.has_ended(rt, start)? {
-                break;
-            }
-            records = records.wrapping_add(sum_once(own, self.block)?);
-        }
+        let course = self;
+        let records = own.sum_until(rt, &Since { course, start }, self.block)?;
         let mut done = self.done.lock(rt);
         done.summed = done.summed.wrapping_add(records);
         Ok(())

@@ -38,11 +38,17 @@ pub trait ThreadSeat {
     /// How many records it knows.
     fn size(&self) -> u64;
 
-    /// In how many pieces the records stand that it knows.
-    fn piece_count(&self) -> u64;
-
     /// All that it knows, read piece by piece.
     fn total(&mut self) -> Total;
+
+    /// Sums all that there is, again and again, until it is over, and compares each sum with that of as many copies of the
+    /// block. How many records it summed.
+    fn sum_until<E: Wait + Clock, O: Over>(
+        &mut self,
+        rt: &E,
+        over: &O,
+        block: &[u64],
+    ) -> Result<u64, SpeedFault>;
 
     /// Appends so many records by blocks of so many, once all threads are there.
     fn append_all<E: Wait + Clock>(
@@ -52,6 +58,11 @@ pub trait ThreadSeat {
         records: AppendSizes,
         barrier: &Barrier,
     ) -> Result<Span, SpeedFault>;
+}
+
+/// What tells whether a work is over.
+pub trait Over {
+    fn is_over<E: Clock>(&self, rt: &E) -> Result<bool, SpeedFault>;
 }
 
 /// A phase whose threads are watched.

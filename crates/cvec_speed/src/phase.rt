@@ -1,13 +1,14 @@
 //! A growth phase that is measured, and its seats.
 
-ghost use Rattle.std.specs.Prelude.{IfOk};
+ghost use Rattle.std.specs.Prelude.{IfOk, OnOk};
 ghost use Rattle.book_core.specs.Lists.{IsSeatOf};
+ghost use Rattle.book_core.specs.Snapshots.{ShowsSeat};
 ghost use Rattle.book_core.specs.Beginning.{AreNewSeats};
 
 use crate::append::{AppendSizes, append_all};
 use crate::barrier::{Barrier, Span};
 use crate::fault::SpeedFault;
-use crate::grower::{ThreadSeat, WatchedPhase};
+use crate::grower::{Over, ThreadSeat, WatchedPhase};
 use crate::reading::Total;
 use block_core::Fresh;
 use book_core::{Begun, GrowFault, Live, Receipt, Seat, Snapshot};
@@ -87,12 +88,51 @@ impl<'a> Seated<'a> {
     }
 
     /// All that it knows, to be read at random.
-    pub fn snapshot(&mut self) -> Result<Snapshot<'a, u64>, SpeedFault> {
+    pub fn snapshot(&mut self) -> Result<Snapshot<'a, u64>, SpeedFault>
+        ensures { IfOk result (ShowsSeat self.new.live.now self.new.seat) }
+    {
         match self.live.snapshot(&mut self.seat) {
             Ok(snapshot) => Ok(snapshot),
             Err(fault) => Err(SpeedFault::Grow(fault)),
         }
     }
+
+    /// Learns what all seats have grown, and adds it to what the snapshot shows.
+    fn show_more(&mut self, shown: &mut Snapshot<'a, u64>) -> Result<(), SpeedFault>
+        requires { ShowsSeat self.old.live.now self.old.seat shown.old }
+        ensures { OnOk result (ShowsSeat self.new.live.now self.new.seat shown.new) }
+    {
+        if let Err(fault) = self.live.look(&mut self.seat) {
+            return Err(SpeedFault::Grow(fault));
+        }
+        match shown.update(&mut self.seat) {
+            Ok(()) => Ok(()),
+            Err(fault) => Err(SpeedFault::Grow(fault)),
+        }
+    }
+}
+
+/// Sums all that there is, again and again, until it is over: by a snapshot, to which is added what is new. A growth's own
+/// entry is then looked up once, and not in each sum.
+fn sum_shown<E: Wait + Clock, O: Over>(
+    rt: &E,
+    own: &mut Seated,
+    over: &O,
+    block: &[u64],
+) -> Result<u64, SpeedFault> {
+    let mut records: u64 = 0;
+    let mut shown = own.snapshot()?;
+    for _ in rt.forever() {
+        if over.is_over(rt)? {
+            break;
+        }
+        own.show_more(&mut shown)?;
+        let pieces = shown.pieces();
+        let total = Total::of_pieces(pieces);
+        total.check(Total::of_copies(block, pieces.len() as u64))?;
+        records = records.wrapping_add(total.count);
+    }
+    Ok(records)
 }
 
 impl ThreadSeat for Seated<'_> {
@@ -154,10 +194,6 @@ impl ThreadSeat for Seated<'_> {
         self.live.size(&self.seat)
     }
 
-    fn piece_count(&self) -> u64 {
-        self.live.piece_count(&self.seat)
-    }
-
     fn total(&mut self) -> Total {
         let mut total = Total::NOTHING;
         for number in 0..self.live.piece_count(&self.seat) {
@@ -167,6 +203,15 @@ impl ThreadSeat for Seated<'_> {
             total = total.with(piece);
         }
         total
+    }
+
+    fn sum_until<E: Wait + Clock, O: Over>(
+        &mut self,
+        rt: &E,
+        over: &O,
+        block: &[u64],
+    ) -> Result<u64, SpeedFault> {
+        sum_shown(rt, self, over, block)
     }
 
     fn append_all<E: Wait + Clock>(

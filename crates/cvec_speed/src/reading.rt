@@ -22,6 +22,15 @@ impl Total {
         }
     }
 
+    /// What these pieces come to.
+    pub fn of_pieces(pieces: &[&[u64]]) -> Total {
+        let mut total = Total::NOTHING;
+        for piece in pieces {
+            total = total.with(piece);
+        }
+        total
+    }
+
     /// What so many growths by copies of the block come to.
     pub fn of_copies(block: &[u64], growths: u64) -> Total {
         Total {
