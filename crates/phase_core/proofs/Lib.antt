@@ -2,4 +2,6 @@ mod LogLeft
 mod GoesOnLemmas
 mod WrittenLemmas
 mod PieceLemmas
+mod GrowerSame
+mod PutNext
 mod Worked

@@ -1,10 +1,10 @@
 -- What a piece of a list is to the whole, and where a record doesn't stand.
-use Rattle.std.proofs.Common.{◌≡◌, ℕ, ◌+◌, ◌-◌, ◌≤◌, ◌<◌, ◌++◌, Bool, cond, List, length, Some, take, drop, get_or, ap, sym, ◌∙◌, arith, inl, inr}
+use Rattle.std.proofs.Common.{◌≡◌, ℕ, ◌+◌, ◌-◌, ◌≤◌, ◌<◌, ◌++◌, Bool, true, false, cond, List, length, Some, take, drop, ap, sym, ◌∙◌, arith, inl, inr}
 use Rattle.std.specs.Prelude.{slice_get}
 use Rattle.std.specs.List.{count_by}
 use Rattle.std.proofs.Math.Seq.{take-add}
 use Rattle.std.proofs.lemmas.Bool.{cases_lt}
-use Rattle.std.proofs.lemmas.Option.{get_or_from_slice_get}
+use Rattle.std.proofs.lemmas.Option.{same_Some}
 use Rattle.std.proofs.lemmas.List.{length-take, length-drop}
 use Rattle.std.proofs.lemmas.List.Sums.{sum_by-append}
 use Rattle.segment_core.proofs.Replaced.{slice_get-drop, slice_get-take}
@@ -12,14 +12,17 @@ use Rattle.directory_core.specs.Finding.{IsPieceAt}
 use Rattle.phase_core.specs.HostVault.{IsFoundFrom}
 
 -- one more that isn't it
-pub none_more : (x : ℕ) (xs : List ℕ) (k : ℕ) → ((i : ℕ) → i < k → slice_get xs i ≡ Some x → ⊥) → (get_or xs k 0 ≡ x → ⊥)
-    → (i : ℕ) → i < k + 1 → slice_get xs i ≡ Some x → ⊥
-none_more x xs k none other i lt is = elim (cases_lt i k) [
+pub none_more : {R : Type 0} (eq : R → R → Bool) (x r : R) (xs : List R) (k : ℕ) → eq x x ≡ true → slice_get xs k ≡ Some r → eq r x ≡ false
+    → ((i : ℕ) → i < k → slice_get xs i ≡ Some x → ⊥) → (i : ℕ) → i < k + 1 → slice_get xs i ≡ Some x → ⊥
+none_more eq x r xs k same at other none i lt is = elim (cases_lt i k) [
   | inl below ↦ none i below is
-  | inr le ↦ let same : i ≡ k = omega (arith, lt, le) in other (ap (λ n. get_or xs n 0) (sym same) ∙ get_or_from_slice_get xs i x 0 is)
+  | inr le ↦
+      let here : k ≡ i = omega (arith, lt, le) in
+      let it : r ≡ x = same_Some r x (sym at ∙ ap (slice_get xs) here ∙ is) in
+      let both : true ≡ false = sym same ∙ ap (λ y. eq y x) (sym it) ∙ other in cc
 ]
 
-module _ (xs : List ℕ) (i : ℕ) (piece : List ℕ) (at : IsPieceAt xs i piece) where
+module _ {R : Type 0} (xs : List R) (i : ℕ) (piece : List R) (at : IsPieceAt xs i piece) where
   pub length-piece : i + length piece ≤ length xs
   length-piece =
       let some = at.some in
@@ -27,14 +30,14 @@ module _ (xs : List ℕ) (i : ℕ) (piece : List ℕ) (at : IsPieceAt xs i piece
 
   pub slice_get-piece : (k : ℕ) → k < length piece → slice_get xs (i + k) ≡ slice_get piece k
   slice_get-piece k lt =
-      sym (slice_get-drop i xs k) ∙ sym (slice_get-take (length piece) (drop i xs) k lt) ∙ ap (λ (rs : List ℕ). slice_get rs k) (sym at.is)
+      sym (slice_get-drop i xs k) ∙ sym (slice_get-take (length piece) (drop i xs) k lt) ∙ ap (λ (rs : List R). slice_get rs k) (sym at.is)
 
-  pub count_by-piece : (p : ℕ → Bool) → count_by p (take (i + length piece) xs) ≡ count_by p (take i xs) + count_by p piece
+  pub count_by-piece : (p : R → Bool) → count_by p (take (i + length piece) xs) ≡ count_by p (take i xs) + count_by p piece
   count_by-piece p =
-      ap (count_by p) (take-add i (length piece) xs ∙ ap (λ (rs : List ℕ). take i xs ++ rs) (sym at.is)) ∙ sum_by-append (λ x. cond (p x) 1 0) (take i xs) piece
+      ap (count_by p) (take-add i (length piece) xs ∙ ap (λ (rs : List R). take i xs ++ rs) (sym at.is)) ∙ sum_by-append (λ x. cond (p x) 1 0) (take i xs) piece
 
   -- where none before the piece is it, none before its first place in the piece is
-  pub none_in_piece : (x from place : ℕ) → ((k : ℕ) → from ≤ k → k < i → slice_get xs k ≡ Some x → ⊥) → IsFoundFrom piece x 0 place
+  pub none_in_piece : (x : R) (from place : ℕ) → ((k : ℕ) → from ≤ k → k < i → slice_get xs k ≡ Some x → ⊥) → IsFoundFrom piece x 0 place
       → (k : ℕ) → from ≤ k → k < i + place → slice_get xs k ≡ Some x → ⊥
   none_in_piece x from place none found k behind before is = elim (cases_lt k i) [
     | inl lt ↦ none k behind lt is

@@ -1,5 +1,5 @@
 -- What written records make of a list, and what stands behind a command that made it.
-use Rattle.std.proofs.Common.{◌≡◌, ℕ, ◌+◌, ◌-◌, Bool, true, false, ◌||◌, List, [], ◌∷◌, length, get_or, Some, Ok, Err, MatchResult, inl, inr, refl, sym, ap, ◌∙◌, arith}
+use Rattle.std.proofs.Common.{◌≡◌, ℕ, zero, suc, ◌+◌, ◌<◌, ◌-◌, Bool, true, false, ◌||◌, List, [], ◌∷◌, length, get_or, slice_get, Some, Ok, Err, MatchResult, inl, inr, refl, sym, ap, ◌∙◌, arith}
 use Rattle.std.specs.declared.result.Result.{Result}
 use Rattle.std.specs.Option.{option_map}
 use Rattle.std.proofs.lemmas.Option.{slice_get-get_or}
@@ -17,19 +17,26 @@ or_false : (b : Bool) → (b || false) ≡ b
 or_false true = refl
 or_false false = refl
 
+-- a record stands at each position of a list
+stands_at : {R : Type 0} (xs : List R) (k : ℕ) → k < length xs → (x : R) × (slice_get xs k ≡ Some x)
+stands_at [] k lt = absurd (omega (arith, lt))
+stands_at (x ∷ xs) zero lt = (x, refl)
+stands_at (x ∷ xs) (suc k) lt = stands_at xs k (omega (arith, lt))
+
 -- records that are written stand there
-pub are_written : (start : ℕ) (records old new : List ℕ) → IsTouched (λ i r. get_or records (i - start) r) (one_run start (length records)) old new → AreWritten start records old new
-are_written start records old new touched =
+pub are_written : {R : Type 0} (start : ℕ) (records old new : List R) → IsTouched (λ i r. get_or records (i - start) r) (one_run start (length records)) old new → AreWritten start records old new
+are_written {R} start records old new touched =
     let run : Run = record { start = start; count = length records } in
     record {
       same_length = touched.same_length;
       inside = λ k lt within.
           let i = start + k in
-          let x = get_or old i 0 in
+          let stood : (x : R) × (slice_get old i ≡ Some x) = stands_at old i within in
+          let x = stood.0 in
           let covered : cover (run ∷ []) i ≡ true = or_false (has i run) ∙ has_at i run (omega arith) (omega arith) in
           let place : i - start ≡ k = omega arith in
           touched.inside i covered
-          ∙ ap (option_map (λ r. get_or records (i - start) r)) (slice_get-get_or old i 0 within)
+          ∙ ap (option_map (λ r. get_or records (i - start) r)) stood.1
           ∙ ap (λ (j : ℕ). Some (get_or records j x)) place
           ∙ sym (slice_get-get_or records k x lt);
       outside = λ i where_.

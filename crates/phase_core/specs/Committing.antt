@@ -1,12 +1,12 @@
 -- What committing makes of a flusher.
-use Rattle.std.specs.Prelude.{◌≡◌, ◌⊎◌, ℕ}
+use Rattle.std.specs.Prelude.{◌≡◌, ◌⊎◌}
 use Rattle.pen_core.specs.declared.fault.PenFault.TheVariants as faults
 use Rattle.flush_core.specs.declared.fault.FlushFault.{FlushFault}
 use Rattle.flush_core.specs.declared.fault.FlushFault.TheVariants.{Pen, Strayed}
 use Rattle.flush_core.specs.Flusher.{FlusherOf, FlusherGoesOn}
 
 -- Nobody is told anything. It is of the same phase, and knows, has taken and has settled no less.
-pub record GoesOn {D : Type 0} (keeps : D → Type 0) (old new : FlusherOf ℕ D) : Type 0 where
+pub record GoesOn {R D : Type 0} (keeps : D → Type 0) (old new : FlusherOf R D) : Type 0 where
   pub told : new.mark ≡ old.mark
   pub model : keeps new.pen.disk → keeps old.pen.disk
   pub goes_on : FlusherGoesOn (keeps new.pen.disk) old new
@@ -19,5 +19,5 @@ IsCallFault (Pen other) = ⊥
 IsCallFault (Strayed number) = ⊥
 
 -- Why no calls were planned: then nothing more was taken, but where a call has failed.
-abbrev pub IsUnplanned : {D : Type 0} → FlushFault → FlusherOf ℕ D → FlusherOf ℕ D → Type 0
+abbrev pub IsUnplanned : {R D : Type 0} → FlushFault → FlusherOf R D → FlusherOf R D → Type 0
 IsUnplanned fault old new = (new.taken ≡ old.taken) ⊎ IsCallFault fault

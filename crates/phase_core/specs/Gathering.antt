@@ -1,10 +1,10 @@
 -- How a phase ends whose ends but one are closed.
 use Rattle.std.specs.Prelude.{◌≡◌, ℕ, ◌<◌, List, ◌++◌, length, true, false}
 use Rattle.disk_core.specs.State.{now, IsImage}
+use Rattle.std.specs.declared.cmp.PartialEq as PartialEq
+use Rattle.record_core.specs.declared.record.Record as Record
 use Rattle.disk_core.specs.declared.disk.Disk.{Ghosts}
 use Rattle.pen_core.specs.Typed.{OpensTo}
-use Rattle.record_core.specs.Bytes.{unsigned}
-use Rattle.std.specs.Int.{w64}
 use Rattle.directory_core.specs.Chain.{grown_records}
 use Rattle.directory_core.specs.Known.{KnowsAll}
 use Rattle.book_core.specs.Lists.{opening_of}
@@ -18,33 +18,33 @@ use Rattle.phase_core.specs.Committer.{phase_of}
 use Rattle.phase_core.specs.HostVault.{list_of, disk_of}
 
 -- It knows all growths of its phase, and all are settled.
-pub record HasEnded {D : Type 0} (f : FlusherOf ℕ D) : Type 0 where
+pub record HasEnded {R D : Type 0} (f : FlusherOf R D) : Type 0 where
   pub known : KnowsAll f.pass
   pub settled : f.settled ≡ length f.pass.entries
   pub whole : f.pen.broken ≡ false
 
 -- why a phase isn't ended, in the order in which it is tested
-abbrev pub IsGatherFault : {D : Type 0} → GatherFault → FlusherOf ℕ D → FlusherOf ℕ D → Type 0
+abbrev pub IsGatherFault : {R D : Type 0} → GatherFault → FlusherOf R D → FlusherOf R D → Type 0
 IsGatherFault Shared old new = Unit {0}
 IsGatherFault Broken old new = old.pen.broken ≡ true
 IsGatherFault Strayed old new = new.pass.strayed ≡ true
 IsGatherFault (Unsettled number) old new = (number ≡ new.settled) × (number < length new.pass.entries)
 IsGatherFault Memory old new = HasEnded new
 
-module _ {D : Type 0} {disk : Ghosts D} where
+module _ {R D : Type 0} {record_of : Record.Ghosts R} {eq_of : PartialEq.Ghosts R} {disk : Ghosts D} where
   -- The phase has ended, and all that it had is in the vault: its list is that from before the phase, and behind it all growths.
   -- Whatever a crash leaves of the file as it is to be opens to that list.
-  pub record Gathers (old : Committer D disk) (new : HostVault D disk) : Type 0 where
-    pub flusher : FlusherOf ℕ (RelayDisk D disk)
+  pub record Gathers (old : Committer R D record_of eq_of disk) (new : HostVault R D disk) : Type 0 where
+    pub flusher : FlusherOf R (RelayDisk D disk)
     pub learns : FlusherLearns old.flusher flusher
     pub ended : HasEnded flusher
     pub list : list_of new ≡ opening_of (phase_of old) ++ grown_records flusher.pass.entries
     pub pen : new.vault.pen ≡ old.flusher.pen
     pub made : new.made ≡ old.made
-    pub told : disk.keeps (disk_of new).inner → (image : List ℕ) → IsImage (now (disk.states (disk_of new).inner)) image → OpensTo (unsigned w64) image (list_of new)
+    pub told : disk.keeps (disk_of new).inner → (image : List ℕ) → IsImage (now (disk.states (disk_of new).inner)) image → OpensTo record_of.form image (list_of new)
 
   -- why it hasn't: it is as it was, but that it may have learned what was grown
-  pub record RefusesGather (fault : GatherFault) (old new : Committer D disk) : Type 0 where
+  pub record RefusesGather (fault : GatherFault) (old new : Committer R D record_of eq_of disk) : Type 0 where
     pub phase : phase_of new ≡ phase_of old
     pub made : new.made ≡ old.made
     pub learns : FlusherLearns old.flusher new.flusher

@@ -2,9 +2,7 @@
 
 ghost use Rattle.std.specs.Prelude.{◌≡◌, ◌+◌, None, IsNone, IfOk, IfErr, IfSome, OnOk, MatchResult};
 ghost use Rattle.std.specs.Arc.{arc_value};
-ghost use Rattle.std.specs.Int.{w64};
 ghost use Rattle.disk_core.specs.Moments.{clock};
-ghost use Rattle.record_core.specs.Bytes.{unsigned};
 ghost use Rattle.flush_core.specs.Flusher.{IsFlusherOf, ToldIsLeft};
 ghost use Rattle.relay_core.specs.Listed.{LeadTo};
 ghost use Rattle.phase_core.specs.Committing.{GoesOn, IsCallFault, IsUnplanned};
@@ -13,6 +11,7 @@ use crate::listing::list_from;
 use book_core::Live;
 use disk_core::Disk;
 use flush_core::{FlushFault, Flusher, Lane, Tick};
+use record_core::Record;
 use relay_core::{Call, RelayDisk};
 use std::alloc::Global;
 use std::sync::Arc;
@@ -20,16 +19,16 @@ use std::sync::Arc;
 /// Who commits for all threads of a phase. It makes no call of the file: it lists them, a host makes them, and then it tells
 /// the growers what is durable. One thread at a time uses it.
 #[derive(Drop)]
-pub struct Committer<D: Disk> {
-    pub(crate) live: Arc<Live<u64>, Global>,
-    pub(crate) flusher: Flusher<u64, RelayDisk<D>>,
+pub struct Committer<R: Record, D: Disk> {
+    pub(crate) live: Arc<Live<R>, Global>,
+    pub(crate) flusher: Flusher<R, RelayDisk<D>>,
     /// The moment of the disk up to which the host has made its calls.
     pub(crate) made: u64,
     ghost of: { IsFlusherOf (D.keeps flusher.pen.disk.inner) (arc_value live) flusher },
 }
 
 /// Makes the calls of the job in hand.
-fn settle_job<D: Disk>(flusher: &mut Flusher<u64, RelayDisk<D>>) -> Result<(), FlushFault>
+fn settle_job<R: Record, D: Disk>(flusher: &mut Flusher<R, RelayDisk<D>>) -> Result<(), FlushFault>
     ensures goes_on { GoesOn (λ disk. D.keeps disk.inner) flusher.old flusher.new }
     ensures taken { flusher.new.taken ≡ flusher.old.taken }
     ensures idle { OnOk result (flusher.new.pen.job ≡ None) }
@@ -40,9 +39,9 @@ fn settle_job<D: Disk>(flusher: &mut Flusher<u64, RelayDisk<D>>) -> Result<(), F
 }
 
 /// Begins to commit the next growths that it knows, and answers how many.
-fn take<D: Disk>(
-    flusher: &mut Flusher<u64, RelayDisk<D>>,
-    live: &Live<u64>,
+fn take<R: Record, D: Disk>(
+    flusher: &mut Flusher<R, RelayDisk<D>>,
+    live: &Live<R>,
 ) -> Result<u64, FlushFault>
     requires { IsFlusherOf (D.keeps flusher.old.pen.disk.inner) live.now flusher.old }
     ensures goes_on { GoesOn (λ disk. D.keeps disk.inner) flusher.old flusher.new }
@@ -54,9 +53,9 @@ fn take<D: Disk>(
 }
 
 /// Learns what was grown.
-fn learn<D: Disk>(
-    flusher: &mut Flusher<u64, RelayDisk<D>>,
-    live: &Live<u64>,
+fn learn<R: Record, D: Disk>(
+    flusher: &mut Flusher<R, RelayDisk<D>>,
+    live: &Live<R>,
 ) -> Result<(), FlushFault>
     requires { IsFlusherOf (D.keeps flusher.old.pen.disk.inner) live.now flusher.old }
     ensures goes_on { GoesOn (λ disk. D.keeps disk.inner) flusher.old flusher.new }
@@ -68,9 +67,9 @@ fn learn<D: Disk>(
 }
 
 /// Learns what was grown, and commits the next growths.
-fn commit<D: Disk>(
-    flusher: &mut Flusher<u64, RelayDisk<D>>,
-    live: &Live<u64>,
+fn commit<R: Record, D: Disk>(
+    flusher: &mut Flusher<R, RelayDisk<D>>,
+    live: &Live<R>,
 ) -> Result<u64, FlushFault>
     requires { IsFlusherOf (D.keeps flusher.old.pen.disk.inner) live.now flusher.old }
     ensures goes_on { GoesOn (λ disk. D.keeps disk.inner) flusher.old flusher.new }
@@ -84,15 +83,15 @@ fn commit<D: Disk>(
     Ok(count)
 }
 
-impl<D: Disk> Committer<D> {
+impl<R: Record, D: Disk> Committer<R, D> {
     ghost use Rattle.phase_core.specs.Committer.{phase_of, disk_of, calls_of};
 
     /// Who commits for a phase over a file of which the host has made the calls up to that moment.
     pub(crate) fn new(
-        live: Arc<Live<u64>, Global>,
-        flusher: Flusher<u64, RelayDisk<D>>,
+        live: Arc<Live<R>, Global>,
+        flusher: Flusher<R, RelayDisk<D>>,
         made: u64,
-    ) -> Committer<D>
+    ) -> Committer<R, D>
         requires { IsFlusherOf (D.keeps flusher.pen.disk.inner) (arc_value live) flusher }
         ensures parts { (phase_of result ≡ arc_value live) × (result.flusher ≡ flusher) }
         ensures made { result.made ≡ made }
@@ -135,7 +134,7 @@ impl<D: Disk> Committer<D> {
         ensures made { IfSome result (λ _. self.new.made ≡ clock (D.states (disk_of self.new).inner)) }
         ensures told { IfSome result (λ count. (count ≡ self.old.flusher.settled) × (self.new.flusher.mark.told.count ≡ count)) }
         ensures left { D.keeps (disk_of self.new).inner
-            → ToldIsLeft (unsigned w64) (D.states (disk_of self.new).inner) self.new.flusher self.new.flusher.mark.raises }
+            → ToldIsLeft R.form (D.states (disk_of self.new).inner) self.new.flusher self.new.flusher.mark.raises }
         ensures lost { IsNone result → (self.new.flusher ≡ self.old.flusher) × (self.new.made ≡ self.old.made) }
     {
         let moment = self.flusher.disk().moment()?;

@@ -11,6 +11,7 @@ use book_core::Live;
 use disk_core::Disk;
 use flush_core::Flusher;
 use pen_core::PenFault;
+use record_core::Record;
 use relay_core::RelayDisk;
 use std::alloc::Global;
 use std::sync::Arc;
@@ -32,11 +33,11 @@ pub enum GatherFault {
 }
 
 /// Ends the directory behind all growths, where each of them is settled, and takes the memory that the end of the phase needs.
-fn end_phase<D: Disk>(
+fn end_phase<R: Record, D: Disk>(
     alloc: Global,
-    live: &Live<u64>,
-    flusher: &mut Flusher<u64, RelayDisk<D>>,
-) -> Result<Space<u64>, GatherFault>
+    live: &Live<R>,
+    flusher: &mut Flusher<R, RelayDisk<D>>,
+) -> Result<Space<R>, GatherFault>
     requires of { IsFlusherOf (D.keeps flusher.old.pen.disk.inner) live.now flusher.old }
     ensures of { IsFlusherOf (D.keeps flusher.new.pen.disk.inner) live.now flusher.new }
     ensures learns { FlusherLearns flusher.old flusher.new }
@@ -63,11 +64,11 @@ fn end_phase<D: Disk>(
     }
 }
 
-impl<D: Disk> Committer<D> {
+impl<R: Record, D: Disk> Committer<R, D> {
     /// Ends the phase whose other ends are closed: all growths are in the vault then. The calls that the host hasn't made it
     /// still has to make. Refused, in this order, with who commits as it was, but that it may have learned what was grown:
     /// `Shared`, while another end isn't closed; `Broken`; `Strayed`; `Unsettled`; `Memory`.
-    pub fn gather(self, alloc: Global) -> Result<HostVault<D>, (Committer<D>, GatherFault)>
+    pub fn gather(self, alloc: Global) -> Result<HostVault<R, D>, (Committer<R, D>, GatherFault)>
         ensures gathers { IfOk result (Gathers self) }
         ensures refused { IfErr result (λ r. RefusesGather r.1 self r.0) }
     {

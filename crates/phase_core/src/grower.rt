@@ -7,21 +7,22 @@ ghost use Rattle.book_core.specs.Growing.{GrowsBy, IsCopiesRefusal, IsLookFault,
 
 use block_core::Fresh;
 use book_core::{GrowFault, Live, MarkState, Receipt, Seat};
+use record_core::Record;
 use std::alloc::Global;
 use std::sync::Arc;
 
 /// A thread's own end of a phase. It lives as long as its phase, which it keeps: the last end that is dropped ends it.
 #[derive(Drop)]
-pub struct Grower {
-    live: Arc<Live<u64>, Global>,
-    seat: Seat<u64>,
+pub struct Grower<R: Record> {
+    live: Arc<Live<R>, Global>,
+    seat: Seat<R>,
     ghost of: { IsSeatOf (arc_value live) seat },
 }
 
-impl Grower {
+impl<R: Record> Grower<R> {
     ghost use Rattle.phase_core.specs.Grower.{phase_of, list_of, Copies};
 
-    pub(crate) fn new(live: Arc<Live<u64>, Global>, seat: Seat<u64>) -> Grower
+    pub(crate) fn new(live: Arc<Live<R>, Global>, seat: Seat<R>) -> Grower<R>
         requires { IsSeatOf (arc_value live) seat }
         ensures { (phase_of result ≡ arc_value live) × (result.seat ≡ seat) }
     {
@@ -30,10 +31,10 @@ impl Grower {
 
     /// Grows by copies of the records, as one block behind all that was grown before. `Strayed` where another growth came
     /// first: the seat knows that one then, and the call may be made again.
-    pub fn try_grow(&mut self, alloc: Global, records: &[u64]) -> Result<Receipt, GrowFault>
+    pub fn try_grow(&mut self, alloc: Global, records: &[R]) -> Result<Receipt, GrowFault>
         ensures phase { phase_of self.new ≡ phase_of self.old }
         ensures grown { GrowsBy (phase_of self.old) self.old.seat self.new.seat records.now result }
-        ensures refused { IfErr result (IsCopiesRefusal 8 (phase_of self.old) self.new.seat (length records.now)) }
+        ensures refused { IfErr result (IsCopiesRefusal R.form.width (phase_of self.old) self.new.seat (length records.now)) }
     {
         let fresh = Fresh::from_slice(alloc, records)?;
         match self.live.try_grow(&mut self.seat, fresh) {
@@ -64,7 +65,7 @@ impl Grower {
 
     /// Copies records from position `from` on to the front of `out`, and answers how many: as many as stand in one piece
     /// there, at least one where it knows one there and `out` has room.
-    pub fn read(&mut self, from: u64, out: &mut [u64]) -> usize
+    pub fn read(&mut self, from: u64, out: &mut [R]) -> usize
         ensures same { self.new ≡ self.old }
         ensures copies { Copies (list_of self.old) from out.old out.new result }
         ensures some { (result ≡ 0) → (length (list_of self.old) ≤ from) ⊎ (length out.old ≡ 0) }

@@ -2,8 +2,6 @@
 
 ghost use Rattle.std.specs.Prelude.{◌≡◌, ◌⊎◌, length, drop, IfOk, IfErr, IfSome, IsNone};
 ghost use Rattle.std.specs.List.{count_by};
-ghost use Rattle.std.specs.Int.{w64};
-ghost use Rattle.record_core.specs.Bytes.{unsigned};
 ghost use Rattle.disk_core.specs.Moments.{clock};
 ghost use Rattle.relay_core.specs.Listed.{LeadTo};
 ghost use Rattle.phase_core.specs.Grower.{Copies};
@@ -14,18 +12,19 @@ use crate::listing::list_from;
 use crate::searching::{count_equal, find_equal, read_from};
 use crate::writing::Written;
 use disk_core::Disk;
+use record_core::Record;
 use relay_core::{Call, RelayDisk};
 use vault_core::{Vault, VaultFault};
 
 /// Who has a vector alone, while no phase is begun. It makes no call of the file: it lists them, and a host makes them.
 #[derive(Drop)]
-pub struct HostVault<D: Disk> {
-    pub(crate) vault: Vault<u64, RelayDisk<D>>,
+pub struct HostVault<R: Record, D: Disk> {
+    pub(crate) vault: Vault<R, RelayDisk<D>>,
     /// The moment of the disk up to which the host has made its calls.
     pub(crate) made: u64,
 }
 
-impl<D: Disk> HostVault<D> {
+impl<R: Record, D: Disk> HostVault<R, D> {
     ghost use Rattle.phase_core.specs.HostVault.{list_of, disk_of, calls_of, IsFoundFrom, equals};
     ghost use Rattle.phase_core.specs.HostCommands.{IsChange, IsResize, IsClear};
 
@@ -37,7 +36,7 @@ impl<D: Disk> HostVault<D> {
     }
 
     /// Copies records from position `from` on to the front of `out`, and answers how many: as far as both reach.
-    pub fn read(&self, from: u64, out: &mut [u64]) -> usize
+    pub fn read(&self, from: u64, out: &mut [R]) -> usize
         ensures copies { Copies (list_of self.now) from out.old out.new result }
         ensures all { (result ≡ length out.old) ⊎ (result ≡ length (drop from (list_of self.now))) }
     {
@@ -45,14 +44,14 @@ impl<D: Disk> HostVault<D> {
     }
 
     /// How many of its records equal this one.
-    pub fn count(&self, sought: u64) -> u64
-        ensures { result ≡ count_by (equals sought) (list_of self.now) }
+    pub fn count(&self, sought: R) -> u64
+        ensures { result ≡ count_by (equals R.Eq.eq sought) (list_of self.now) }
     {
         count_equal(&self.vault, sought)
     }
 
     /// The first position from `from` on whose record equals this one. How many records it has, where none does.
-    pub fn find(&self, sought: u64, from: u64) -> u64
+    pub fn find(&self, sought: R, from: u64) -> u64
         ensures { IsFoundFrom (list_of self.now) sought from result }
     {
         find_equal(&self.vault, sought, from)
@@ -60,8 +59,8 @@ impl<D: Disk> HostVault<D> {
 
     /// Writes the records over those from position `start` on, by one frame. With none nothing is written. Refused as
     /// `Vault::change_alone` is.
-    pub fn change(&mut self, start: u64, records: &[u64]) -> Result<(), VaultFault>
-        ensures { IsChange self.old self.new result start records.now }
+    pub fn change(&mut self, start: u64, records: &[R]) -> Result<(), VaultFault>
+        ensures { IsChange R.form self.old self.new result start records.now }
     {
         let count = records.len() as u64;
         let touch = Written { start, records };
@@ -69,15 +68,15 @@ impl<D: Disk> HostVault<D> {
     }
 
     /// Makes its length `size`: takes the records behind away, or appends copies of this one. Refused as `Vault::resize` is.
-    pub fn resize(&mut self, size: u64, filler: u64) -> Result<(), VaultFault>
-        ensures { IsResize self.old self.new result size filler }
+    pub fn resize(&mut self, size: u64, filler: R) -> Result<(), VaultFault>
+        ensures { IsResize R.form self.old self.new result size filler }
     {
         self.vault.resize(size, filler)
     }
 
     /// Takes all records away. Refused as `Vault::clear` is.
     pub fn clear(&mut self) -> Result<(), VaultFault>
-        ensures { IsClear self.old self.new result }
+        ensures { IsClear R.form self.old self.new result }
     {
         self.vault.clear()
     }
@@ -86,8 +85,8 @@ impl<D: Disk> HostVault<D> {
     /// `Vault::begin_fold` is, or `Disk`, where a call of the file failed.
     pub fn fold(&mut self) -> Result<bool, VaultFault>
         ensures made { self.new.made ≡ self.old.made }
-        ensures folds { IfOk result (λ folded. Folds (unsigned w64) (λ disk. D.keeps disk.inner) (λ disk. D.states disk.inner) folded self.old.vault self.new.vault) }
-        ensures refused { IfErr result (λ fault. RefusesFold (unsigned w64) (λ disk. D.keeps disk.inner) (λ disk. D.states disk.inner) fault self.old.vault self.new.vault) }
+        ensures folds { IfOk result (λ folded. Folds R.form (λ disk. D.keeps disk.inner) (λ disk. D.states disk.inner) folded self.old.vault self.new.vault) }
+        ensures refused { IfErr result (λ fault. RefusesFold R.form (λ disk. D.keeps disk.inner) (λ disk. D.states disk.inner) fault self.old.vault self.new.vault) }
     {
         fold_whole(&mut self.vault)
     }

@@ -16,19 +16,20 @@ use directory_core::GROWTH_LIMIT;
 use disk_core::Disk;
 use flush_core::Flusher;
 use pen_core::PenFault;
+use record_core::Record;
 use relay_core::RelayDisk;
 use std::alloc::Global;
 use std::sync::Arc;
 use vault_core::{Vault, VaultFault};
 
 /// One phase for all its ends. `None` where there is no memory for it: then nothing is left of it.
-fn shared<D: Disk + Drop>(
+fn shared<R: Record, D: Disk + Drop>(
     alloc: Global,
-    live: Live<u64>,
-    flusher: Flusher<u64, RelayDisk<D>>,
-    seats: Vec<Seat<u64>>,
+    live: Live<R>,
+    flusher: Flusher<R, RelayDisk<D>>,
+    seats: Vec<Seat<R>>,
     made: u64,
-) -> Option<(Phase, Committer<D>)>
+) -> Option<(Phase<R>, Committer<R, D>)>
     requires of { IsFlusherOf (D.keeps flusher.pen.disk.inner) live flusher }
     requires seated { AreNewSeats live.directory live.mark seats.items }
     ensures phase { IfSome result (λ r. (arc_value r.0.live ≡ live) × (arc_value r.1.live ≡ live)) }
@@ -46,12 +47,12 @@ fn shared<D: Disk + Drop>(
 
 /// Lends the vault to so many growers and to who commits. Refused with the vault handed back, or with none, where there was
 /// no memory for what they share.
-fn lend<D: Disk + Drop>(
+fn lend<R: Record, D: Disk + Drop>(
     alloc: Global,
-    vault: Vault<u64, RelayDisk<D>>,
+    vault: Vault<R, RelayDisk<D>>,
     made: u64,
     seats: u16,
-) -> Result<(Phase, Committer<D>), (Option<Vault<u64, RelayDisk<D>>>, PenFault)>
+) -> Result<(Phase<R>, Committer<R, D>), (Option<Vault<R, RelayDisk<D>>>, PenFault)>
     ensures shares { IfOk result (λ r. Lends vault made seats r.0 r.1) }
     ensures may { OnOk result (MayBegin growth_limit seats) }
     ensures refused { IfErr result (λ r. RefusesLending vault seats r.0 r.1) }
@@ -69,11 +70,11 @@ fn lend<D: Disk + Drop>(
 }
 
 /// Lends a vault whose calls the host hasn't made.
-pub(crate) fn lend_new(
+pub(crate) fn lend_new<R: Record>(
     alloc: Global,
-    vault: Vault<u64, RelayDisk<HostDisk>>,
+    vault: Vault<R, RelayDisk<HostDisk>>,
     seats: u16,
-) -> Result<(Phase, Committer<HostDisk>), BeginFault>
+) -> Result<(Phase<R>, Committer<R, HostDisk>), BeginFault>
     ensures shares { IfOk result (λ r. Lends vault 1 seats r.0 r.1) }
     ensures may { OnOk result (MayBegin growth_limit seats) }
 {
@@ -83,14 +84,14 @@ pub(crate) fn lend_new(
     }
 }
 
-impl<D: Disk + Drop> HostVault<D> {
+impl<R: Record, D: Disk + Drop> HostVault<R, D> {
     /// Begins a phase with so many seats, from 1 to 64: what the vault has stands in it from before. Refused with the vault
     /// handed back: `Broken`; `TooLarge`, of the seats; `Memory`. Where there was no memory for what the ends share, none is.
     pub fn share(
         self,
         alloc: Global,
         seats: u16,
-    ) -> Result<(Phase, Committer<D>), (Option<HostVault<D>>, PenFault)>
+    ) -> Result<(Phase<R>, Committer<R, D>), (Option<HostVault<R, D>>, PenFault)>
         ensures shares { IfOk result (λ r. Lends self.vault self.made seats r.0 r.1) }
         ensures may { OnOk result (MayBegin growth_limit seats) }
         ensures refused { IfErr result (λ r. RefusesShare self seats r.0 r.1) }

@@ -2,8 +2,6 @@
 
 ghost use Rattle.std.specs.Prelude.{◌≡◌, [], length, IfOk, IfSome, OnOk};
 ghost use Rattle.std.specs.Arc.{arc_value};
-ghost use Rattle.std.specs.Int.{w64};
-ghost use Rattle.record_core.specs.Bytes.{unsigned};
 ghost use Rattle.disk_core.specs.FileDisk.{KeepsSoFar};
 ghost use Rattle.directory_core.specs.Limits.{growth_limit};
 ghost use Rattle.pen_core.specs.Births.{IsExisting};
@@ -17,6 +15,7 @@ use crate::host::{HostDisk, host_disk};
 use crate::lending::lend_new;
 use book_core::{Live, Seat};
 use pen_core::{OpenFault, PenFault};
+use record_core::Record;
 use segment_core::Format;
 use std::alloc::Global;
 use std::sync::Arc;
@@ -24,9 +23,9 @@ use vault_core::Vault;
 
 /// A phase, and the seats that nobody has.
 #[derive(Drop)]
-pub struct Phase {
-    pub(crate) live: Arc<Live<u64>, Global>,
-    pub(crate) seats: Vec<Seat<u64>>,
+pub struct Phase<R: Record> {
+    pub(crate) live: Arc<Live<R>, Global>,
+    pub(crate) seats: Vec<Seat<R>>,
     ghost seated: { AreNewSeats (arc_value live).directory (arc_value live).mark seats.items },
 }
 
@@ -39,7 +38,7 @@ pub enum BeginFault {
     Open(OpenFault),
 }
 
-impl Phase {
+impl<R: Record> Phase<R> {
     /// A phase over a new file of that version, with so many seats: from 1 to 64. The file holds these bytes, none or what a
     /// creation left that was stopped: `Exists` where they are more. Who commits lists the calls of its making first.
     pub fn create(
@@ -47,7 +46,7 @@ impl Phase {
         bytes: Vec<u8>,
         format: Format,
         seats: u16,
-    ) -> Result<(Phase, Committer<HostDisk>), BeginFault>
+    ) -> Result<(Phase<R>, Committer<R, HostDisk>), BeginFault>
         ensures empty { IfOk result (λ r. (arc_value r.0.live).blocks ≡ []) }
         ensures none_existed { IfOk result (λ r. KeepsSoFar r.1.flusher.pen.disk.inner → IsExisting bytes.items → ⊥) }
         ensures one { IfOk result (λ r. arc_value r.1.live ≡ arc_value r.0.live) }
@@ -66,9 +65,9 @@ impl Phase {
         alloc: Global,
         bytes: Vec<u8>,
         seats: u16,
-    ) -> Result<(Phase, Committer<HostDisk>), BeginFault>
+    ) -> Result<(Phase<R>, Committer<R, HostDisk>), BeginFault>
         ensures opened { IfOk result (λ r. KeepsSoFar r.1.flusher.pen.disk.inner
-            → IsOpened (unsigned w64) bytes.items r.1.flusher.pen (opening_of (arc_value r.0.live))) }
+            → IsOpened R.form bytes.items r.1.flusher.pen (opening_of (arc_value r.0.live))) }
         ensures one { IfOk result (λ r. arc_value r.1.live ≡ arc_value r.0.live) }
         ensures begins { IfOk result (λ r. (r.1.flusher.settled ≡ 0) × (r.1.flusher.pass.entries ≡ [])) }
         ensures may { OnOk result (MayBegin growth_limit seats) }
@@ -80,7 +79,7 @@ impl Phase {
     }
 
     /// One more thread's end. `None` where each seat is taken, or there is no memory.
-    pub fn grower(&mut self) -> Option<Grower>
+    pub fn grower(&mut self) -> Option<Grower<R>>
         ensures phase { arc_value self.new.live ≡ arc_value self.old.live }
         ensures seat { IfSome result (λ grower. (arc_value grower.live ≡ arc_value self.old.live)
             × IsNewSeat (arc_value self.old.live).directory (arc_value self.old.live).mark (length self.new.seats.items) grower.seat) }

@@ -7,11 +7,12 @@ ghost use Rattle.phase_core.specs.Grower.{Copies};
 ghost use Rattle.phase_core.specs.HostVault.{IsFoundFrom, equals};
 
 use disk_core::Disk;
+use record_core::Record;
 use relay_core::RelayDisk;
 use vault_core::Vault;
 
 /// The record at a position that it has.
-fn at<D: Disk>(vault: &Vault<u64, RelayDisk<D>>, i: u64) -> u64
+fn at<R: Record, D: Disk>(vault: &Vault<R, RelayDisk<D>>, i: u64) -> R
     requires { i < length (list_of vault.now) }
     ensures { slice_get (list_of vault.now) i ≡ Some result }
 {
@@ -22,10 +23,10 @@ fn at<D: Disk>(vault: &Vault<u64, RelayDisk<D>>, i: u64) -> u64
 }
 
 /// Copies records from position `from` on to the front of `out`, and answers how many: as far as both reach.
-pub(crate) fn read_from<D: Disk>(
-    vault: &Vault<u64, RelayDisk<D>>,
+pub(crate) fn read_from<R: Record, D: Disk>(
+    vault: &Vault<R, RelayDisk<D>>,
     from: u64,
-    out: &mut [u64],
+    out: &mut [R],
 ) -> usize
     ensures copies { Copies (list_of vault.now) from out.old out.new result }
     ensures all { (result ≡ length out.old) ⊎ (result ≡ length (drop from (list_of vault.now))) }
@@ -39,9 +40,9 @@ pub(crate) fn read_from<D: Disk>(
 }
 
 /// How many of these records equal this one.
-fn count_in(records: &[u64], sought: u64) -> u64
+fn count_in<R: Record>(records: &[R], sought: R) -> u64
     requires few { length records.now ≤ 2 ^ 32 }
-    ensures { result ≡ count_by (equals sought) records.now }
+    ensures { result ≡ count_by (equals R.Eq.eq sought) records.now }
 {
     let mut count: u64 = 0;
     for record in records {
@@ -53,7 +54,7 @@ fn count_in(records: &[u64], sought: u64) -> u64
 }
 
 /// The first place among these records that has this one. How many they are, where none has.
-fn place_in(records: &[u64], sought: u64) -> u64
+fn place_in<R: Record>(records: &[R], sought: R) -> u64
     requires few { length records.now ≤ 2 ^ 32 }
     ensures { IsFoundFrom records.now sought 0 result }
 {
@@ -66,8 +67,8 @@ fn place_in(records: &[u64], sought: u64) -> u64
 }
 
 /// How many of its records equal this one.
-pub(crate) fn count_equal<D: Disk>(vault: &Vault<u64, RelayDisk<D>>, sought: u64) -> u64
-    ensures { result ≡ count_by (equals sought) (list_of vault.now) }
+pub(crate) fn count_equal<R: Record, D: Disk>(vault: &Vault<R, RelayDisk<D>>, sought: R) -> u64
+    ensures { result ≡ count_by (equals R.Eq.eq sought) (list_of vault.now) }
 {
     let _len = vault.len();
     let mut count: u64 = 0;
@@ -80,7 +81,11 @@ pub(crate) fn count_equal<D: Disk>(vault: &Vault<u64, RelayDisk<D>>, sought: u64
 }
 
 /// The first position from `from` on whose record equals this one. How many records there are, where none does.
-pub(crate) fn find_equal<D: Disk>(vault: &Vault<u64, RelayDisk<D>>, sought: u64, from: u64) -> u64
+pub(crate) fn find_equal<R: Record, D: Disk>(
+    vault: &Vault<R, RelayDisk<D>>,
+    sought: R,
+    from: u64,
+) -> u64
     ensures { IsFoundFrom (list_of vault.now) sought from result }
 {
     let len = vault.len();

@@ -10,6 +10,6 @@ loop-piece-preserved g c =
     let piece = c.in-Some.piece.now in
     let counted = c.loop-piece.invariant.counted in
     record {
-      counted = omega (arith, counted, c.count_in-count.ensures, count_by-piece list c.loop-piece.at piece c.in-Some.ensures (equals c.args.sought));
+      counted = omega (arith, counted, c.count_in-count.ensures, count_by-piece list c.loop-piece.at piece c.in-Some.ensures (equals g.R.PartialEq.eq c.args.sought));
       within = length-piece list c.loop-piece.at piece c.in-Some.ensures;
     }

@@ -7,7 +7,7 @@ use Rattle.phase_core.proofs.searching.count_equal.Given as goal
 -- those before are counted
 abbrev pub invariant-loop-piece : goal.invariant-loop-piece
 invariant-loop-piece g l = record {
-  counted : l.count ≡ count_by (equals l.sought) (take l.at (list_of l.vault));
+  counted : l.count ≡ count_by (equals g.R.PartialEq.eq l.sought) (take l.at (list_of l.vault));
   within : l.at ≤ length (list_of l.vault);
 }
 

@@ -4,4 +4,4 @@ use Rattle.phase_core.specs.HostVault.{equals}
 use Rattle.phase_core.proofs.searching.count_in.Given as goal
 
 abbrev pub invariant-loop-record : goal.invariant-loop-record
-invariant-loop-record l = l.count ≡ count_by (equals l.sought) (take l.record-index l.records)
+invariant-loop-record g l = l.count ≡ count_by (equals g.R.PartialEq.eq l.sought) (take l.record-index l.records)

@@ -4,4 +4,4 @@ use Rattle.phase_core.proofs.searching.place_in.Given as goal
 
 -- none of those before is it
 abbrev pub invariant-loop-k : goal.invariant-loop-k
-invariant-loop-k l = (i : ℕ) → i < l.k → slice_get l.records i ≡ Some l.sought → ⊥
+invariant-loop-k g l = (i : ℕ) → i < l.k → slice_get l.records i ≡ Some l.sought → ⊥
