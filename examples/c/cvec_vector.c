@@ -23,6 +23,7 @@ struct cvec_vector {
     pthread_cond_t returned; /* each that it woke has come again */
     pthread_cond_t flushing; /* a loop of a flusher is to end, or has */
     cvec_handle phase, committer;
+    cvec_type type;   /* of the records */
     uint64_t durable; /* so many growths are */
     uint64_t begun;   /* so many growths there are of seats that are closed */
     cvec_vector_seat *first; /* of the seats that aren't closed */
@@ -47,8 +48,8 @@ struct cvec_vector_seat {
 };
 
 /* What is lent in place of no records. */
-static const uint64_t no_records[1];
-static uint64_t no_room[1];
+static const cvec_pair no_records[1];
+static cvec_pair no_room[1];
 
 /* The seats of one vector, and how far apart in memory lies what no two processors take from one another. */
 enum { MOST_SEATS = 64, APART = 128 };
@@ -68,6 +69,93 @@ enum { LOCK_TURNS = 500, LOCK_WAIT = 20000000 };
 
 /* No deadline is further away, in milliseconds: 31 years. */
 static const uint64_t LONGEST_WAIT = 1000000000000;
+
+/* ---- the record types. Records of i64 have the bytes of those of u64, and equal one another as these do. */
+
+/* The bytes of a record in a file, and in memory. */
+static uint16_t width_of(cvec_type type) {
+    switch (type) {
+    case CVEC_U32: return 4;
+    case CVEC_PAIR: return 16;
+    case CVEC_FLAGGED: return 9;
+    default: return 8;
+    }
+}
+
+static size_t size_of(cvec_type type) {
+    switch (type) {
+    case CVEC_U32: return sizeof(uint32_t);
+    case CVEC_PAIR: return sizeof(cvec_pair);
+    case CVEC_FLAGGED: return sizeof(cvec_flagged);
+    default: return sizeof(uint64_t);
+    }
+}
+
+/* Whether these are records of the type: a flag is the byte 0 or 1, and what else memory may have there is none. */
+static bool are_records(cvec_type type, const void *records, size_t count) {
+    if (type != CVEC_FLAGGED || count == 0) return true;
+    const uint8_t *flag = (const uint8_t *)records + offsetof(cvec_flagged, flag);
+    for (size_t k = 0; k < count; k++, flag += sizeof(cvec_flagged))
+        if (*flag > 1) return false;
+    return true;
+}
+
+static uint32_t phase_grow(cvec_type type, cvec_handle *grower, const void *records, size_t count, cvec_receipt *receipt) {
+    switch (type) {
+    case CVEC_U32: return cvec_phase_grow_u32(grower, records, count, receipt);
+    case CVEC_PAIR: return cvec_phase_grow_pair(grower, records, count, receipt);
+    case CVEC_FLAGGED: return cvec_phase_grow_flagged(grower, records, count, receipt);
+    default: return cvec_phase_grow_u64(grower, records, count, receipt);
+    }
+}
+
+static uint32_t phase_read(cvec_type type, cvec_handle *grower, uint64_t from, void *out, size_t room, uint64_t *count) {
+    switch (type) {
+    case CVEC_U32: return cvec_phase_read_u32(grower, from, out, room, count);
+    case CVEC_PAIR: return cvec_phase_read_pair(grower, from, out, room, count);
+    case CVEC_FLAGGED: return cvec_phase_read_flagged(grower, from, out, room, count);
+    default: return cvec_phase_read_u64(grower, from, out, room, count);
+    }
+}
+
+static uint32_t vault_change(cvec_type type, cvec_handle *vault, uint64_t start, const void *records, size_t count) {
+    switch (type) {
+    case CVEC_U32: return cvec_vault_change_u32(vault, start, records, count);
+    case CVEC_PAIR: return cvec_vault_change_pair(vault, start, records, count);
+    case CVEC_FLAGGED: return cvec_vault_change_flagged(vault, start, records, count);
+    default: return cvec_vault_change_u64(vault, start, records, count);
+    }
+}
+
+static uint32_t vault_resize(cvec_type type, cvec_handle *vault, uint64_t size, const void *record) {
+    switch (type) {
+    case CVEC_U32: return cvec_vault_resize_u32(vault, size, *(const uint32_t *)record);
+    case CVEC_PAIR: return cvec_vault_resize_pair(vault, size, record);
+    case CVEC_FLAGGED: return cvec_vault_resize_flagged(vault, size, record);
+    default: return cvec_vault_resize_u64(vault, size, *(const uint64_t *)record);
+    }
+}
+
+static uint32_t vault_count(cvec_type type, cvec_handle *vault, const void *record, uint64_t *count) {
+    switch (type) {
+    case CVEC_U32: return cvec_vault_count_u32(vault, *(const uint32_t *)record, count);
+    case CVEC_PAIR: return cvec_vault_count_pair(vault, record, count);
+    case CVEC_FLAGGED: return cvec_vault_count_flagged(vault, record, count);
+    default: return cvec_vault_count_u64(vault, *(const uint64_t *)record, count);
+    }
+}
+
+static uint32_t vault_find(cvec_type type, cvec_handle *vault, const void *record, uint64_t from, uint64_t *place) {
+    switch (type) {
+    case CVEC_U32: return cvec_vault_find_u32(vault, *(const uint32_t *)record, from, place);
+    case CVEC_PAIR: return cvec_vault_find_pair(vault, record, from, place);
+    case CVEC_FLAGGED: return cvec_vault_find_flagged(vault, record, from, place);
+    default: return cvec_vault_find_u64(vault, *(const uint64_t *)record, from, place);
+    }
+}
+
+/* Whether what names records of u64 is for this vector. */
+static bool has_words(const cvec_vector *vector) { return width_of(vector->type) == sizeof(uint64_t); }
 
 /* ---- which process this is */
 
@@ -379,16 +467,27 @@ static uint32_t settle_alone(cvec_vector *vector, uint32_t answer) {
     return leave_alone(vector, answer);
 }
 
-uint32_t cvec_vector_change(cvec_vector *vector, uint64_t start, const uint64_t *records, size_t count) {
+uint32_t cvec_vector_change_records(cvec_vector *vector, uint64_t start, const void *records, size_t count) {
+    if (!are_records(vector->type, records, count)) return CVEC_NO_RECORD;
     uint32_t answer = enter_alone(vector);
-    if (answer == CVEC_DONE) answer = cvec_vault_change(&vector->committer, start, count > 0 ? records : no_records, count);
+    if (answer == CVEC_DONE)
+        answer = vault_change(vector->type, &vector->committer, start, count > 0 ? records : no_records, count);
+    return settle_alone(vector, answer);
+}
+
+uint32_t cvec_vector_change(cvec_vector *vector, uint64_t start, const uint64_t *records, size_t count) {
+    return has_words(vector) ? cvec_vector_change_records(vector, start, records, count) : CVEC_WIDTH;
+}
+
+uint32_t cvec_vector_resize_by(cvec_vector *vector, uint64_t size, const void *record) {
+    if (!are_records(vector->type, record, 1)) return CVEC_NO_RECORD;
+    uint32_t answer = enter_alone(vector);
+    if (answer == CVEC_DONE) answer = vault_resize(vector->type, &vector->committer, size, record);
     return settle_alone(vector, answer);
 }
 
 uint32_t cvec_vector_resize(cvec_vector *vector, uint64_t size, uint64_t record) {
-    uint32_t answer = enter_alone(vector);
-    if (answer == CVEC_DONE) answer = cvec_vault_resize(&vector->committer, size, record);
-    return settle_alone(vector, answer);
+    return has_words(vector) ? cvec_vector_resize_by(vector, size, &record) : CVEC_WIDTH;
 }
 
 uint32_t cvec_vector_clear(cvec_vector *vector) {
@@ -403,16 +502,26 @@ uint32_t cvec_vector_fold(cvec_vector *vector) {
     return settle_alone(vector, answer);
 }
 
-uint32_t cvec_vector_count(cvec_vector *vector, uint64_t record, uint64_t *count) {
+uint32_t cvec_vector_count_record(cvec_vector *vector, const void *record, uint64_t *count) {
+    if (!are_records(vector->type, record, 1)) return CVEC_NO_RECORD;
     uint32_t answer = enter_alone(vector);
-    if (answer == CVEC_DONE) answer = cvec_vault_count(&vector->committer, record, count);
+    if (answer == CVEC_DONE) answer = vault_count(vector->type, &vector->committer, record, count);
+    return leave_alone(vector, answer);
+}
+
+uint32_t cvec_vector_count(cvec_vector *vector, uint64_t record, uint64_t *count) {
+    return has_words(vector) ? cvec_vector_count_record(vector, &record, count) : CVEC_WIDTH;
+}
+
+uint32_t cvec_vector_find_record(cvec_vector *vector, const void *record, uint64_t from, uint64_t *place) {
+    if (!are_records(vector->type, record, 1)) return CVEC_NO_RECORD;
+    uint32_t answer = enter_alone(vector);
+    if (answer == CVEC_DONE) answer = vault_find(vector->type, &vector->committer, record, from, place);
     return leave_alone(vector, answer);
 }
 
 uint32_t cvec_vector_find(cvec_vector *vector, uint64_t record, uint64_t from, uint64_t *place) {
-    uint32_t answer = enter_alone(vector);
-    if (answer == CVEC_DONE) answer = cvec_vault_find(&vector->committer, record, from, place);
-    return leave_alone(vector, answer);
+    return has_words(vector) ? cvec_vector_find_record(vector, &record, from, place) : CVEC_WIDTH;
 }
 
 /* ---- the vector */
@@ -464,8 +573,8 @@ static uint32_t open_alone(cvec_vector *vector, const char *path, int flags) {
 
 /* Whether so few bytes are what a stopped creation leaves: each is 0, or the one that the empty file gets. Others are
  * somebody's, and a creation would write over them. */
-static bool is_vacant(const uint8_t *there, size_t len, uint8_t version) {
-    const uint8_t empty[CVEC_EMPTY_LEN] = {1, 'C', 'V', 'E', 'C', 'S', 'E', 'G', version, sizeof(uint64_t), 0, 0};
+static bool is_vacant(const uint8_t *there, size_t len, uint16_t width, uint8_t version) {
+    const uint8_t empty[CVEC_EMPTY_LEN] = {1, 'C', 'V', 'E', 'C', 'S', 'E', 'G', version, (uint8_t)width, 0, 0};
     for (size_t at = 0; at < len; at++)
         if (there[at] != 0 && there[at] != empty[at]) return false;
     return true;
@@ -473,9 +582,10 @@ static bool is_vacant(const uint8_t *there, size_t len, uint8_t version) {
 
 /* Begins the vector over these bytes; a version of 0 opens it. */
 static uint32_t begin_over(cvec_vector *vector, const uint8_t *bytes, size_t len, uint8_t version, uint16_t seats) {
-    if (version == 0) return cvec_phase_open(bytes, len, seats, &vector->phase, &vector->committer);
-    if (!is_vacant(bytes, len, version)) return CVEC_EXISTS;
-    return cvec_phase_create(bytes, len, version, seats, &vector->phase, &vector->committer);
+    const uint16_t width = width_of(vector->type);
+    if (version == 0) return cvec_phase_open(bytes, len, width, seats, &vector->phase, &vector->committer);
+    if (!is_vacant(bytes, len, width, version)) return CVEC_EXISTS;
+    return cvec_phase_create(bytes, len, width, version, seats, &vector->phase, &vector->committer);
 }
 
 /* So over what the file holds. */
@@ -492,12 +602,14 @@ static uint32_t begin(cvec_vector *vector, uint8_t version, uint16_t seats) {
     return answer;
 }
 
-static uint32_t begin_at(cvec_vector **begun, const char *path, int flags, uint8_t version, uint16_t seats) {
+static uint32_t begin_at(cvec_vector **begun, const char *path, cvec_type type, int flags, uint8_t version, uint16_t seats) {
     uint64_t growths = 0;
     *begun = NULL;
+    if ((uint32_t)type > CVEC_FLAGGED) return CVEC_NOT_SO;
     if (seats == 0 || seats > MOST_SEATS) return CVEC_TOO_LARGE; /* before a file is made */
     cvec_vector *vector = vector_of();
     if (vector == NULL) return CVEC_MEMORY;
+    vector->type = type;
     vector->most_seats = seats;
     uint32_t answer = open_alone(vector, path, flags);
     if (answer == CVEC_DONE) answer = begin(vector, version, seats);
@@ -509,14 +621,22 @@ static uint32_t begin_at(cvec_vector **begun, const char *path, int flags, uint8
     return answer;
 }
 
-uint32_t cvec_vector_create(cvec_vector **vector, const char *path, uint8_t version, uint16_t seats) {
+uint32_t cvec_vector_create_as(cvec_vector **vector, const char *path, cvec_type type, uint8_t version, uint16_t seats) {
     *vector = NULL;
     if (version != 1 && version != 2) return CVEC_NOT_SO;
-    return begin_at(vector, path, O_CREAT, version, seats);
+    return begin_at(vector, path, type, O_CREAT, version, seats);
+}
+
+uint32_t cvec_vector_create(cvec_vector **vector, const char *path, uint8_t version, uint16_t seats) {
+    return cvec_vector_create_as(vector, path, CVEC_U64, version, seats);
+}
+
+uint32_t cvec_vector_open_as(cvec_vector **vector, const char *path, cvec_type type, uint16_t seats) {
+    return begin_at(vector, path, type, 0, 0, seats);
 }
 
 uint32_t cvec_vector_open(cvec_vector **vector, const char *path, uint16_t seats) {
-    return begin_at(vector, path, 0, 0, seats);
+    return cvec_vector_open_as(vector, path, CVEC_U64, seats);
 }
 
 /* Commits until there is nothing to commit. */
@@ -654,8 +774,9 @@ static void touch(uint8_t *room) {
  * by a call of the system in which all threads wait for one another. So much is asked for at once, and given back: it stays
  * with that part of the heap, where it is less than 128 KiB. */
 static void make_room(cvec_vector_seat *seat, size_t count) {
-    if (count > LARGE_GROWTH / sizeof(uint64_t)) return;
-    const size_t len = count * sizeof(uint64_t) + BESIDE_RECORDS;
+    const size_t each = size_of(seat->vector->type);
+    if (count > LARGE_GROWTH / each) return;
+    const size_t len = count * each + BESIDE_RECORDS;
     if (seat->room < len) {
         uint8_t *volatile room = malloc(ROOM); /* volatile: else a compiler leaves out both calls */
         if (room != NULL && len <= SMALL_GROWTH + BESIDE_RECORDS) touch(room);
@@ -672,11 +793,11 @@ static void give_way(long *nap) {
     if (*nap < LONGEST_NAP) *nap *= 2;
 }
 
-static uint32_t grow_in_turn(cvec_vector_seat *seat, const uint64_t *records, size_t count, cvec_receipt *receipt) {
+static uint32_t grow_in_turn(cvec_vector_seat *seat, const void *records, size_t count, cvec_receipt *receipt) {
     uint64_t size;
     long nap = FIRST_NAP;
     for (int tries = 1;; tries++) {
-        uint32_t answer = cvec_phase_grow(&seat->grower, records, count, receipt);
+        uint32_t answer = phase_grow(seat->vector->type, &seat->grower, records, count, receipt);
         if (answer != CVEC_AGAIN) return answer;
         /* Were the growth that came first none of this vector's, no turn would come. */
         answer = cvec_phase_size(&seat->grower, &size);
@@ -685,8 +806,9 @@ static uint32_t grow_in_turn(cvec_vector_seat *seat, const uint64_t *records, si
     }
 }
 
-uint32_t cvec_vector_grow(cvec_vector_seat *seat, const uint64_t *records, size_t count, cvec_receipt *receipt) {
+uint32_t cvec_vector_grow_records(cvec_vector_seat *seat, const void *records, size_t count, cvec_receipt *receipt) {
     cvec_receipt unasked;
+    if (!are_records(seat->vector->type, records, count)) return CVEC_NO_RECORD;
     uint32_t answer = enter(seat);
     if (answer != CVEC_DONE) return answer;
     answer = begin_growth(seat);
@@ -697,6 +819,10 @@ uint32_t cvec_vector_grow(cvec_vector_seat *seat, const uint64_t *records, size_
     }
     leave_seat(seat);
     return answer;
+}
+
+uint32_t cvec_vector_grow(cvec_vector_seat *seat, const uint64_t *records, size_t count, cvec_receipt *receipt) {
+    return has_words(seat->vector) ? cvec_vector_grow_records(seat, records, count, receipt) : CVEC_WIDTH;
 }
 
 /* ---- waiting, and who commits for nobody */
@@ -833,23 +959,29 @@ uint32_t cvec_vector_size(cvec_vector_seat *seat, uint64_t *size) {
 }
 
 /* Piece by piece, as the records stand. */
-static uint32_t read_pieces(cvec_handle *grower, uint64_t from, uint64_t *out, size_t room, uint64_t *count) {
+static uint32_t read_pieces(cvec_vector_seat *seat, uint64_t from, uint8_t *out, size_t room, uint64_t *count) {
+    const cvec_type type = seat->vector->type;
     uint64_t size, copied = 0, part = 1;
-    uint32_t answer = cvec_phase_size(grower, &size);
+    uint32_t answer = cvec_phase_size(&seat->grower, &size);
     while (answer == CVEC_DONE && copied < room && part > 0) {
-        answer = cvec_phase_read(grower, from + copied, out + copied, room - (size_t)copied, &part);
+        void *behind = out + copied * size_of(type);
+        answer = phase_read(type, &seat->grower, from + copied, behind, room - (size_t)copied, &part);
         if (answer == CVEC_DONE) copied += part;
     }
     if (answer == CVEC_DONE) *count = copied;
     return answer;
 }
 
-uint32_t cvec_vector_read(cvec_vector_seat *seat, uint64_t from, uint64_t *out, size_t room, uint64_t *count) {
+uint32_t cvec_vector_read_records(cvec_vector_seat *seat, uint64_t from, void *out, size_t room, uint64_t *count) {
     uint32_t answer = enter(seat);
     if (answer != CVEC_DONE) return answer;
-    answer = read_pieces(&seat->grower, from, room > 0 ? out : no_room, room, count);
+    answer = read_pieces(seat, from, room > 0 ? out : (void *)no_room, room, count);
     leave_seat(seat);
     return answer;
+}
+
+uint32_t cvec_vector_read(cvec_vector_seat *seat, uint64_t from, uint64_t *out, size_t room, uint64_t *count) {
+    return has_words(seat->vector) ? cvec_vector_read_records(seat, from, out, room, count) : CVEC_WIDTH;
 }
 
 /* ---- words */
@@ -860,13 +992,14 @@ const char *cvec_vector_status_text(uint32_t status) {
     case CVEC_UNBORN: return "no vector was begun in the file";
     case CVEC_NOT_SEGMENT: return "it is no segment file";
     case CVEC_VERSION: return "the file's version isn't known";
-    case CVEC_WIDTH: return "the file's records don't have 8 bytes";
+    case CVEC_WIDTH: return "the records have another width";
     case CVEC_DAMAGED: return "a frame of the file is damaged";
     case CVEC_MEMORY: return "memory was refused";
     case CVEC_EMPTY: return "a growth has at least one record";
     case CVEC_OUT_OF_RANGE: return "there is no such growth or position, or the vector would pass 2^32 records";
-    case CVEC_TOO_LARGE: return "more than 131,071 records in a growth, or not 1 to 64 seats";
+    case CVEC_TOO_LARGE: return "more than 1,048,568 bytes of records in a growth, or not 1 to 64 seats";
     case CVEC_FILE_FULL: return "the file would pass 2^48 bytes";
+    case CVEC_NO_RECORD: return "a flag is neither 0 nor 1";
     case CVEC_EXISTS: return "something is there already";
     case CVEC_IN_USE: return "the file is in use";
     case CVEC_BROKEN: return "a write or a sync has failed before: open the file again";
@@ -877,7 +1010,7 @@ const char *cvec_vector_status_text(uint32_t status) {
     case CVEC_DISK_SYNC: return "the file can't be synced: restart the system before it is opened again";
     case CVEC_FORKED: return "a forked process can only close it";
     case CVEC_NOT_FILE: return "a folder, a pipe or a device has this name";
-    case CVEC_NOT_SO: return "every seat is taken, or there is no such version";
+    case CVEC_NOT_SO: return "every seat is taken, or there is no such version or type";
     case CVEC_AGAIN: return "another growth came first";
     case CVEC_FULL: return "it was grown 1,048,568 times: close each seat, and take new ones";
     case CVEC_BUSY: return "another thread is inside a call, or a seat isn't closed";

@@ -1,4 +1,5 @@
-/* A durable vector of uint64_t that threads of one process grow, from C (C99) and C++, over POSIX threads.
+/* A durable vector that threads of one process grow, from C (C99) and C++, over POSIX threads. Its records are of one type of
+ * enum cvec_type (cvec.h), which is passed where it is made or opened.
  *
  * The first part is what cvec_vector.c offers: opaque pointers, one vector for a file, and a seat for each thread. It makes
  * the calls of the system, and is not proved. The second part is libcvec_threads.a, which is proved: what each call makes
@@ -15,7 +16,7 @@ extern "C" {
 #endif
 
 enum cvec_vector_status {
-    CVEC_NOT_SO = 64, /* every seat is taken, or there is no such version; of the library: a handle of another end, or none */
+    CVEC_NOT_SO = 64, /* every seat is taken, or there is no such version or type; of the library: a handle of another end, or none */
     CVEC_AGAIN = 65,  /* of the library alone: another growth came first */
     CVEC_FULL = 66,   /* it was grown 1,048,568 times: close each seat, and the next one goes on */
     CVEC_BUSY = 67,   /* another thread is inside a call by this seat; of a vector's call: a seat isn't closed */
@@ -40,7 +41,15 @@ typedef struct cvec_receipt {
 
 /* Makes a file of version 1 or 2, or opens one that is there, for so many seats: 1 to 64. The file is locked (flock) until
  * the vector is closed; a lock that readers share is waited for, 10 seconds. Any other number than CVEC_DONE leaves *vector
- * NULL. CVEC_EXISTS: what is there stays; a file is made over nothing but what a stopped creation of that version leaves. */
+ * NULL. CVEC_EXISTS: what is there stays; a file is made over nothing but what a stopped creation of that version and type
+ * leaves. CVEC_WIDTH: its records have another width. A file has no name for their type: one of u64 is opened as i64 too.
+ *
+ * Records that are passed to the functions below by a pointer, and those that they write, are of this type: uint32_t, uint64_t,
+ * int64_t, cvec_pair or cvec_flagged. A flag that is neither 0 nor 1 is CVEC_NO_RECORD, and nothing is done then. */
+uint32_t cvec_vector_create_as(cvec_vector **vector, const char *path, cvec_type type, uint8_t version, uint16_t seats);
+uint32_t cvec_vector_open_as(cvec_vector **vector, const char *path, cvec_type type, uint16_t seats);
+
+/* The same of u64. */
 uint32_t cvec_vector_create(cvec_vector **vector, const char *path, uint8_t version, uint16_t seats);
 uint32_t cvec_vector_open(cvec_vector **vector, const char *path, uint16_t seats);
 
@@ -62,7 +71,7 @@ uint32_t cvec_vector_close_seat(cvec_vector_seat *seat);
 
 /* Grows by copies of these records, as one block behind all that was grown before: all of them are in the vector, in a row,
  * or none. Others read them from then on; durable they are once they are awaited. receipt may be NULL. */
-uint32_t cvec_vector_grow(cvec_vector_seat *seat, const uint64_t *records, size_t count, cvec_receipt *receipt);
+uint32_t cvec_vector_grow_records(cvec_vector_seat *seat, const void *records, size_t count, cvec_receipt *receipt);
 
 /* Waits until the growth of that number, and each before it, is durable. Who finds that nobody commits commits for all. */
 uint32_t cvec_vector_await(cvec_vector_seat *seat, uint64_t number);
@@ -87,16 +96,16 @@ uint32_t cvec_vector_settled(cvec_vector_seat *seat, uint64_t *count);
 uint32_t cvec_vector_size(cvec_vector_seat *seat, uint64_t *size);
 
 /* Copies the records from position `from` on, as far as `out` and the vector reach, durable or not; *count says how many. */
-uint32_t cvec_vector_read(cvec_vector_seat *seat, uint64_t from, uint64_t *out, size_t room, uint64_t *count);
+uint32_t cvec_vector_read_records(cvec_vector_seat *seat, uint64_t from, void *out, size_t room, uint64_t *count);
 
 /* Of the whole vector, while no seat is taken, else CVEC_BUSY. What they do is durable when they return. Growths behind them
  * are counted from 0. CVEC_MEMORY and CVEC_FILE_FULL: the same call may be made again.
  *
  * Writes the records over those from position `start` on, as one frame. */
-uint32_t cvec_vector_change(cvec_vector *vector, uint64_t start, const uint64_t *records, size_t count);
+uint32_t cvec_vector_change_records(cvec_vector *vector, uint64_t start, const void *records, size_t count);
 
 /* Takes the records behind the first `size` away, or appends copies of this one. */
-uint32_t cvec_vector_resize(cvec_vector *vector, uint64_t size, uint64_t record);
+uint32_t cvec_vector_resize_by(cvec_vector *vector, uint64_t size, const void *record);
 
 /* Takes all records away. */
 uint32_t cvec_vector_clear(cvec_vector *vector);
@@ -105,9 +114,17 @@ uint32_t cvec_vector_clear(cvec_vector *vector);
 uint32_t cvec_vector_fold(cvec_vector *vector);
 
 /* How many records equal this one. */
-uint32_t cvec_vector_count(cvec_vector *vector, uint64_t record, uint64_t *count);
+uint32_t cvec_vector_count_record(cvec_vector *vector, const void *record, uint64_t *count);
 
 /* The first position from `from` on that has this record; where none has, how many records there are. */
+uint32_t cvec_vector_find_record(cvec_vector *vector, const void *record, uint64_t from, uint64_t *place);
+
+/* The same six of records of u64, or of the bits of some of i64. CVEC_WIDTH: the vector has others. */
+uint32_t cvec_vector_grow(cvec_vector_seat *seat, const uint64_t *records, size_t count, cvec_receipt *receipt);
+uint32_t cvec_vector_read(cvec_vector_seat *seat, uint64_t from, uint64_t *out, size_t room, uint64_t *count);
+uint32_t cvec_vector_change(cvec_vector *vector, uint64_t start, const uint64_t *records, size_t count);
+uint32_t cvec_vector_resize(cvec_vector *vector, uint64_t size, uint64_t record);
+uint32_t cvec_vector_count(cvec_vector *vector, uint64_t record, uint64_t *count);
 uint32_t cvec_vector_find(cvec_vector *vector, uint64_t record, uint64_t from, uint64_t *place);
 
 /* A status in words: one sentence for each number that the functions above answer, for any caller to show. */
@@ -131,18 +148,30 @@ typedef struct cvec_call {
     uint32_t kind;        /* 0 a write, 1 a sync (fdatasync) */
 } cvec_call;
 
-/* Begins a vector over a file that holds these bytes, and fills two handles: the phase, which gives seats, and who commits. */
-uint32_t cvec_phase_create(const uint8_t *bytes, size_t len, uint8_t version, uint16_t seats, cvec_handle *phase,
-                           cvec_handle *committer);
-uint32_t cvec_phase_open(const uint8_t *bytes, size_t len, uint16_t seats, cvec_handle *phase, cvec_handle *committer);
+/* Begins a vector over a file that holds these bytes, and fills two handles: the phase, which gives seats, and who commits.
+ * width: the bytes of a record, 4 of u32, 8 of u64 and i64, 16 of pair, 9 of flagged; else CVEC_WIDTH. */
+uint32_t cvec_phase_create(const uint8_t *bytes, size_t len, uint16_t width, uint8_t version, uint16_t seats,
+                           cvec_handle *phase, cvec_handle *committer);
+uint32_t cvec_phase_open(const uint8_t *bytes, size_t len, uint16_t width, uint16_t seats, cvec_handle *phase,
+                         cvec_handle *committer);
 uint32_t cvec_phase_seat(cvec_handle *phase, cvec_handle *grower);
 uint32_t cvec_phase_close(cvec_handle *handle);
 
-/* By a seat's handle. CVEC_AGAIN: another growth came first; call it again. state: 0, growths may yet be settled. */
-uint32_t cvec_phase_grow(cvec_handle *grower, const uint64_t *records, size_t count, cvec_receipt *receipt);
+/* By a seat's handle. state: 0, growths may yet be settled. */
 uint32_t cvec_phase_settled(cvec_handle *grower, uint64_t *count, uint32_t *state);
 uint32_t cvec_phase_size(cvec_handle *grower, uint64_t *size);
-uint32_t cvec_phase_read(cvec_handle *grower, uint64_t from, uint64_t *out, size_t room, uint64_t *count);
+
+/* What names records stands here once for each width; records of i64 are passed as those of u64, bit by bit. CVEC_WIDTH: the
+ * handle's vector has records of another one. A flag has to be 0 or 1.
+ *
+ * cvec_phase_grow_TYPE: CVEC_AGAIN: another growth came first; call it again. */
+#define CVEC_PHASE_CALLS(TYPE, RECORD) \
+    uint32_t cvec_phase_grow_##TYPE(cvec_handle *grower, const RECORD *records, size_t count, cvec_receipt *receipt); \
+    uint32_t cvec_phase_read_##TYPE(cvec_handle *grower, uint64_t from, RECORD *out, size_t room, uint64_t *count);
+CVEC_PHASE_CALLS(u32, uint32_t)
+CVEC_PHASE_CALLS(u64, uint64_t)
+CVEC_PHASE_CALLS(pair, cvec_pair)
+CVEC_PHASE_CALLS(flagged, cvec_flagged)
 
 /* Who commits has the vector alone, where each other handle of it is closed (else CVEC_BUSY): its handle has a vault then, for
  * which cvec_phase_calls, _call and _settle are too. share: threads have it again, with so many seats. */
@@ -150,12 +179,17 @@ uint32_t cvec_phase_gather(cvec_handle *committer);
 uint32_t cvec_phase_share(cvec_handle *vault, uint16_t seats, cvec_handle *phase);
 
 /* By the handle of a vault. What writes lists its calls: make them in order, and only if each has succeeded, settle. */
+#define CVEC_VAULT_CALLS(TYPE, RECORD, ONE) \
+    uint32_t cvec_vault_read_##TYPE(cvec_handle *vault, uint64_t from, RECORD *out, size_t room, uint64_t *count); \
+    uint32_t cvec_vault_count_##TYPE(cvec_handle *vault, ONE record, uint64_t *count); \
+    uint32_t cvec_vault_find_##TYPE(cvec_handle *vault, ONE record, uint64_t from, uint64_t *place); \
+    uint32_t cvec_vault_change_##TYPE(cvec_handle *vault, uint64_t start, const RECORD *records, size_t count); \
+    uint32_t cvec_vault_resize_##TYPE(cvec_handle *vault, uint64_t size, ONE record);
+CVEC_VAULT_CALLS(u32, uint32_t, uint32_t)
+CVEC_VAULT_CALLS(u64, uint64_t, uint64_t)
+CVEC_VAULT_CALLS(pair, cvec_pair, const cvec_pair *)
+CVEC_VAULT_CALLS(flagged, cvec_flagged, const cvec_flagged *)
 uint32_t cvec_vault_size(cvec_handle *vault, uint64_t *size);
-uint32_t cvec_vault_read(cvec_handle *vault, uint64_t from, uint64_t *out, size_t room, uint64_t *count);
-uint32_t cvec_vault_count(cvec_handle *vault, uint64_t record, uint64_t *count);
-uint32_t cvec_vault_find(cvec_handle *vault, uint64_t record, uint64_t from, uint64_t *place);
-uint32_t cvec_vault_change(cvec_handle *vault, uint64_t start, const uint64_t *records, size_t count);
-uint32_t cvec_vault_resize(cvec_handle *vault, uint64_t size, uint64_t record);
 uint32_t cvec_vault_clear(cvec_handle *vault);
 uint32_t cvec_vault_fold(cvec_handle *vault);
 

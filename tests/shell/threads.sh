@@ -61,6 +61,46 @@ threads_of_c_go_on_with_a_file_of_the_program() (
     [ "$(tail -n +4 "$out" | paste -d ' ' - - - | sort -n | awk '$1 + $2 == $3' | wc -l)" -eq 20 ]
 )
 
+# Files of each type that the program made, of either version, are grown by threads of C; one of another width is refused.
+threads_of_c_grow_files_of_each_type() (
+    make_threads
+    goes_on() {
+        for version in 1 2; do
+            rm -f "$work/t.cv"
+            run create "$1" "$work/t.cv" --format=$version
+            given "$2"
+            run load "$1" "$work/t.cv"
+            [ "$status" -eq 0 ]
+            timeout 60 "$built/behaviours" "goes_on_$1" "$work/t.cv"
+            run check "$1" "$work/t.cv"
+            [ "$status" -eq 0 ]
+            run list "$1" "$work/t.cv"
+            did "$2$3"
+        done
+    }
+    goes_on u32 '1\n2\n' '4294967295\n4294967294\n'
+    if "$built/behaviours" goes_on_u64 "$work/t.cv" >"$out"; then exit 1; fi
+    goes_on u64 '1\n2\n' '18446744073709551615\n18446744073709551614\n'
+    if "$built/behaviours" goes_on_u32 "$work/t.cv" >"$out"; then exit 1; fi
+    goes_on i64 '1\n-2\n' '-1\n-2\n'
+    goes_on pair '1:2\n' '18446744073709551615:-9223372036854775808\n18446744073709551615:1\n'
+    if "$built/behaviours" goes_on_flagged "$work/t.cv" >"$out"; then exit 1; fi
+    goes_on flagged '1:0\n' '18446744073709551615:1\n18446744073709551615:0\n'
+    if "$built/behaviours" goes_on_pair "$work/t.cv" >"$out"; then exit 1; fi
+)
+
+a_vector_in_c_has_records_of_each_type() (
+    a_behaviour_of_a_vector_in_c typed
+)
+
+a_flag_that_is_none_gets_into_no_vector_in_c() (
+    a_behaviour_of_a_vector_in_c flags
+)
+
+a_handle_in_c_has_one_width() (
+    a_behaviour_of_a_vector_in_c widths
+)
+
 # What was told to be durable stands, at whatever moment the process is killed.
 threads_of_c_that_are_killed_lose_nothing_settled() (
     has python3 'what compares a file with blocks' || exit $is_skipped

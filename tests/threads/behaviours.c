@@ -1057,6 +1057,212 @@ static void alone_flushes(const char *path) {
     HOLDS(cvec_vector_close(vector) == CVEC_DONE);
 }
 
+/* ---- records of each type */
+
+/* Any record, by its type. */
+union record {
+    uint32_t u32;
+    uint64_t u64;
+    int64_t i64;
+    cvec_pair pair;
+    cvec_flagged flagged;
+};
+
+/* Record k of a type, and whether this is it. No two are equal, and each has bits that a narrower one hasn't. */
+static union record record_of(cvec_type type, uint64_t k) {
+    union record record;
+    memset(&record, 0, sizeof record);
+    switch (type) {
+    case CVEC_U32: record.u32 = UINT32_MAX - (uint32_t)k; break;
+    case CVEC_I64: record.i64 = -(int64_t)k - 1; break;
+    case CVEC_PAIR: record.pair = (cvec_pair){UINT64_MAX - k / 2, k % 2 == 0 ? INT64_MIN : (int64_t)k}; break;
+    case CVEC_FLAGGED: record.flagged = (cvec_flagged){UINT64_MAX - k / 2, k % 2 == 0}; break;
+    default: record.u64 = UINT64_MAX - k;
+    }
+    return record;
+}
+
+static int is_record(cvec_type type, const void *there, uint64_t k) {
+    const union record wanted = record_of(type, k);
+    if (type == CVEC_FLAGGED) {
+        const cvec_flagged *seen = there;
+        return seen->key == wanted.flagged.key && seen->flag == wanted.flagged.flag;
+    }
+    return memcmp(there, &wanted, size_of(type)) == 0;
+}
+
+/* Records of these numbers, one behind the other. */
+static void put_records(cvec_type type, const uint64_t *numbers, size_t count, uint8_t *out) {
+    for (size_t k = 0; k < count; k++) {
+        const union record record = record_of(type, numbers[k]);
+        memcpy(out + k * size_of(type), &record, size_of(type));
+    }
+}
+
+static uint32_t grow_typed(cvec_type type, const uint64_t *numbers, size_t count, cvec_receipt *receipt) {
+    union record records[16];
+    put_records(type, numbers, count, (uint8_t *)records);
+    return cvec_vector_grow_records(seat, records, count, receipt);
+}
+
+/* The vector has just the records of these numbers, as a seat reads them; and what follows them in memory stays. */
+static void reads_typed(cvec_type type, const uint64_t *numbers, uint64_t len) {
+    uint8_t seen[17 * sizeof(union record)];
+    uint64_t size = 0, count = 0;
+    memset(seen, 0xa5, sizeof seen);
+    HOLDS(cvec_vector_take_seat(vector, &seat) == CVEC_DONE);
+    HOLDS(cvec_vector_size(seat, &size) == CVEC_DONE && size == len);
+    HOLDS(cvec_vector_read_records(seat, 0, seen, 16, &count) == CVEC_DONE && count == len);
+    for (uint64_t k = 0; k < len && k < count; k++) HOLDS(is_record(type, seen + k * size_of(type), numbers[k]));
+    HOLDS(seen[len * size_of(type)] == 0xa5);
+    HOLDS(len < 2 || (cvec_vector_read_records(seat, len - 1, seen, 2, &count) == CVEC_DONE && count == 1 && is_record(type, seen, numbers[len - 1])));
+    HOLDS(cvec_vector_close_seat(seat) == CVEC_DONE);
+}
+
+/* So also once it is closed and opened again; and no file of records of another width is opened so. */
+static void has_typed(const char *path, cvec_type type, const uint64_t *numbers, uint64_t len) {
+    reads_typed(type, numbers, len);
+    HOLDS(cvec_vector_close(vector) == CVEC_DONE);
+    for (cvec_type other = CVEC_U32; other <= CVEC_FLAGGED; other++)
+        if (width_of(other) != width_of(type)) HOLDS(cvec_vector_open_as(&vector, path, other, 2) == CVEC_WIDTH && vector == NULL);
+    HOLDS(cvec_vector_open_as(&vector, path, type, 2) == CVEC_DONE);
+    if (wrong) exit(1);
+    reads_typed(type, numbers, len);
+}
+
+/* As many bytes of records as one growth may have, and a record more. */
+static void grows_most(cvec_type type) {
+    const size_t most = ((1u << 20) - 8) / width_of(type);
+    uint8_t *records = calloc(most + 1, size_of(type));
+    cvec_receipt receipt = {9, 9, 9, 9, 9};
+    HOLDS(cvec_vector_take_seat(vector, &seat) == CVEC_DONE);
+    HOLDS(cvec_vector_grow_records(seat, records, most + 1, &receipt) == CVEC_TOO_LARGE && receipt.len == 9);
+    HOLDS(cvec_vector_grow_records(seat, records, most, &receipt) == CVEC_DONE && receipt.len == most);
+    HOLDS(cvec_vector_close_seat(seat) == CVEC_DONE);
+    free(records);
+}
+
+static void searches(cvec_type type, uint64_t number, uint64_t from, uint64_t count, uint64_t place) {
+    const union record sought = record_of(type, number);
+    uint64_t found_count = 9, found_place = 9;
+    HOLDS(cvec_vector_count_record(vector, &sought, &found_count) == CVEC_DONE && found_count == count);
+    HOLDS(cvec_vector_find_record(vector, &sought, from, &found_place) == CVEC_DONE && found_place == place);
+}
+
+/* What names one record of u64 is for these alone. */
+static void is_for_words(cvec_type type) {
+    const uint32_t answer = width_of(type) == 8 ? CVEC_DONE : CVEC_WIDTH;
+    uint64_t out = 9, record = 9;
+    HOLDS(cvec_vector_count(vector, UINT64_MAX - 100, &out) == answer && out == (answer == CVEC_DONE ? 0 : 9));
+    HOLDS(cvec_vector_find(vector, UINT64_MAX - 100, 0, &out) == answer);
+    HOLDS(cvec_vector_resize(vector, 6, 0) == answer);
+    HOLDS(cvec_vector_change(vector, 6, &out, 0) == answer);
+    HOLDS(cvec_vector_take_seat(vector, &seat) == CVEC_DONE);
+    HOLDS(cvec_vector_grow(seat, &out, 0, NULL) == (answer == CVEC_DONE ? CVEC_EMPTY : CVEC_WIDTH));
+    HOLDS(cvec_vector_read(seat, 6, &record, 1, &out) == answer);
+    HOLDS(cvec_vector_close_seat(seat) == CVEC_DONE);
+}
+
+static void typed_of(const char *path, cvec_type type, uint8_t version) {
+    const uint64_t first[] = {0, 1, 2, 3}, more[] = {4, 1}, over[] = {7, 8}, all[] = {0, 1, 2, 3, 4, 1},
+                   changed[] = {0, 7, 8, 3, 4, 1}, longer[] = {0, 7, 8, 3, 4, 1, 9, 9, 9};
+    const union record filler = record_of(type, 9);
+    union record written[2];
+    cvec_receipt receipt;
+    remove(path);
+    HOLDS(cvec_vector_create_as(&vector, path, type, version, 2) == CVEC_DONE);
+    if (wrong) exit(1);
+    HOLDS(cvec_vector_take_seat(vector, &seat) == CVEC_DONE);
+    HOLDS(grow_typed(type, first, 0, &receipt) == CVEC_EMPTY);
+    HOLDS(grow_typed(type, first, 4, &receipt) == CVEC_DONE && receipt.start == 0 && receipt.len == 4);
+    HOLDS(grow_typed(type, more, 2, &receipt) == CVEC_DONE && receipt.start == 4 && receipt.len == 2);
+    HOLDS(cvec_vector_await(seat, receipt.number) == CVEC_DONE);
+    HOLDS(cvec_vector_close_seat(seat) == CVEC_DONE);
+    has_typed(path, type, all, 6);
+    searches(type, 1, 2, 2, 5);
+    searches(type, 7, 0, 0, 6);
+    put_records(type, over, 2, (uint8_t *)written);
+    HOLDS(cvec_vector_change_records(vector, 1, written, 2) == CVEC_DONE);
+    searches(type, 7, 0, 1, 1);
+    is_for_words(type);
+    has_typed(path, type, changed, 6);
+    HOLDS(cvec_vector_resize_by(vector, 9, &filler) == CVEC_DONE);
+    has_typed(path, type, longer, 9);
+    HOLDS(cvec_vector_fold(vector) == CVEC_DONE);
+    HOLDS(cvec_vector_resize_by(vector, 6, &filler) == CVEC_DONE);
+    has_typed(path, type, changed, 6);
+    grows_most(type);
+    HOLDS(cvec_vector_fold(vector) == CVEC_DONE && cvec_vector_clear(vector) == CVEC_DONE);
+    has_typed(path, type, all, 0);
+    HOLDS(cvec_vector_close(vector) == CVEC_DONE);
+}
+
+static void typed(const char *path) {
+    for (cvec_type type = CVEC_U32; type <= CVEC_FLAGGED; type++)
+        for (uint8_t version = 1; version <= 2; version++) typed_of(path, type, version);
+    remove(path);
+    HOLDS(cvec_vector_create_as(&vector, path, (cvec_type)5, 1, 1) == CVEC_NOT_SO && vector == NULL && access(path, F_OK) != 0);
+}
+
+/* A flag is 0 or 1: no call takes another byte for one, and nothing is grown or changed then. */
+static void flags(const char *path) {
+    const uint64_t first[] = {0, 1};
+    cvec_flagged records[2] = {{5, true}, {6, true}};
+    uint64_t out = 9;
+    cvec_receipt receipt = {9, 9, 9, 9, 9};
+    HOLDS(cvec_vector_create_as(&vector, path, CVEC_FLAGGED, 1, 1) == CVEC_DONE);
+    if (wrong) exit(1);
+    HOLDS(cvec_vector_take_seat(vector, &seat) == CVEC_DONE);
+    HOLDS(grow_typed(CVEC_FLAGGED, first, 2, NULL) == CVEC_DONE);
+    ((uint8_t *)&records[1])[8] = 2;
+    HOLDS(cvec_vector_grow_records(seat, records, 2, &receipt) == CVEC_NO_RECORD && receipt.number == 9);
+    HOLDS(cvec_vector_close_seat(seat) == CVEC_DONE);
+    HOLDS(cvec_vector_change_records(vector, 0, records, 2) == CVEC_NO_RECORD);
+    HOLDS(cvec_vector_resize_by(vector, 3, &records[1]) == CVEC_NO_RECORD);
+    HOLDS(cvec_vector_count_record(vector, &records[1], &out) == CVEC_NO_RECORD);
+    HOLDS(cvec_vector_find_record(vector, &records[1], 0, &out) == CVEC_NO_RECORD && out == 9);
+    has_typed(path, CVEC_FLAGGED, first, 2);
+    HOLDS(cvec_vector_close(vector) == CVEC_DONE);
+}
+
+/* A handle of the library has one width: a call of another changes nothing. */
+static void widths(const char *path) {
+    const uint32_t small = 5;
+    uint64_t out = 9, count = 9;
+    cvec_receipt receipt = {9, 9, 9, 9, 9};
+    make(path, 1);
+    HOLDS(cvec_phase_grow_u32(&seat->grower, &small, 1, &receipt) == CVEC_WIDTH && receipt.number == 9);
+    HOLDS(cvec_phase_read_pair(&seat->grower, 0, (cvec_pair[1]){{1, 2}}, 1, &count) == CVEC_WIDTH && count == 9);
+    HOLDS(cvec_vault_count_u32(&seat->grower, 5, &count) == CVEC_WIDTH && count == 9);
+    HOLDS(cvec_vault_count_u64(&seat->grower, 5, &count) == CVEC_NOT_SO && count == 9);
+    HOLDS(grow(5, &out) == CVEC_DONE && out == 0);
+    HOLDS(cvec_phase_create(NULL, 0, 5, 1, 1, &vector->phase, &vector->committer) == CVEC_WIDTH);
+    HOLDS(cvec_vector_close_seat(seat) == CVEC_DONE);
+    HOLDS(cvec_vector_clear(vector) == CVEC_DONE);
+    HOLDS(cvec_vault_change_flagged(&vector->committer, 0, (cvec_flagged[1]){{1, true}}, 1) == CVEC_WIDTH);
+    HOLDS(cvec_vault_resize_u32(&vector->committer, 3, 5) == CVEC_WIDTH);
+    HOLDS(cvec_vector_close(vector) == CVEC_DONE);
+}
+
+/* Goes on with a file that is there, by records 0 and 1 of its type. */
+static void goes_on(const char *path, cvec_type type) {
+    const uint64_t numbers[] = {0, 1};
+    cvec_receipt receipt;
+    HOLDS(cvec_vector_open_as(&vector, path, type, 1) == CVEC_DONE);
+    if (wrong) exit(1);
+    HOLDS(cvec_vector_take_seat(vector, &seat) == CVEC_DONE);
+    HOLDS(grow_typed(type, numbers, 2, &receipt) == CVEC_DONE);
+    HOLDS(cvec_vector_await(seat, receipt.number) == CVEC_DONE);
+    HOLDS(cvec_vector_close_seat(seat) == CVEC_DONE);
+    HOLDS(cvec_vector_close(vector) == CVEC_DONE);
+}
+
+static void goes_on_u32(const char *path) { goes_on(path, CVEC_U32); }
+static void goes_on_u64(const char *path) { goes_on(path, CVEC_U64); }
+static void goes_on_i64(const char *path) { goes_on(path, CVEC_I64); }
+static void goes_on_pair(const char *path) { goes_on(path, CVEC_PAIR); }
+static void goes_on_flagged(const char *path) { goes_on(path, CVEC_FLAGGED); }
+
 int main(int argc, char **argv) {
     static const struct {
         const char *name;
@@ -1087,7 +1293,15 @@ int main(int argc, char **argv) {
                       {"alone_waits", alone_waits},
                       {"seat_waits", seat_waits},
                       {"alone_late", alone_beside_a_late_flusher},
-                      {"alone_flushes", alone_flushes}};
+                      {"alone_flushes", alone_flushes},
+                      {"typed", typed},
+                      {"flags", flags},
+                      {"widths", widths},
+                      {"goes_on_u32", goes_on_u32},
+                      {"goes_on_u64", goes_on_u64},
+                      {"goes_on_i64", goes_on_i64},
+                      {"goes_on_pair", goes_on_pair},
+                      {"goes_on_flagged", goes_on_flagged}};
     if (argc != 3) return 2;
     for (size_t k = 0; k < sizeof behaviours / sizeof *behaviours; k++)
         if (strcmp(argv[1], behaviours[k].name) == 0) {

@@ -2,7 +2,8 @@
 
 ghost use Rattle.std.specs.Prelude.{◌≡◌, ◌≢◌};
 ghost use Rattle.handle_core.specs.Roles.{Plans, Settles, RefusesPlan, RefusesSettle};
-ghost use Rattle.handle_core.specs.Handles.{role_of, Becomes, Refused};
+ghost use Rattle.handle_core.specs.Handles.{end_of, Becomes, Refused};
+ghost use Rattle.handle_core.specs.Ends.{AtAny};
 ghost use Rattle.cvec_threads.specs.Calls.{CountsCalls, TellsCall};
 
 use crate::file_call::{CvecCall, call_at, count_of};
@@ -12,8 +13,8 @@ use std::alloc::Global;
 /// Lists the calls of the file that commit what was grown. `growths`: how many growths they commit.
 #[unsafe(no_mangle)]
 pub extern "C" fn cvec_phase_plan(alloc: Global, committer: &mut Handle, growths: &mut u64) -> u32
-    ensures plans { result ≡ 0 → Becomes (Plans growths.new) (role_of committer.old) (role_of committer.new) }
-    ensures refused { result ≢ 0 → Refused RefusesPlan result (role_of committer.old) (role_of committer.new) × (growths.new ≡ growths.old) }
+    ensures plans { result ≡ 0 → Becomes (AtAny (λ _ _ _. Plans growths.new)) (end_of committer.old) (end_of committer.new) }
+    ensures refused { result ≢ 0 → Refused (λ refusal. AtAny (λ _ _ _. RefusesPlan refusal)) result (end_of committer.old) (end_of committer.new) × (growths.new ≡ growths.old) }
 {
     let Some(mut session) = committer.take(alloc) else {
         return Refusal::NotSo.code();
@@ -32,8 +33,8 @@ pub extern "C" fn cvec_phase_plan(alloc: Global, committer: &mut Handle, growths
 /// How many calls are listed.
 #[unsafe(no_mangle)]
 pub extern "C" fn cvec_phase_calls(alloc: Global, committer: &mut Handle, count: &mut u64) -> u32
-    ensures listed { result ≡ 0 → Becomes (CountsCalls count.new) (role_of committer.old) (role_of committer.new) }
-    ensures refused { result ≢ 0 → (role_of committer.new ≡ role_of committer.old) × (count.new ≡ count.old) }
+    ensures listed { result ≡ 0 → Becomes (CountsCalls count.new) (end_of committer.old) (end_of committer.new) }
+    ensures refused { result ≢ 0 → (end_of committer.new ≡ end_of committer.old) × (count.new ≡ count.old) }
 {
     let Some(session) = committer.take(alloc) else {
         return Refusal::NotSo.code();
@@ -57,8 +58,8 @@ pub extern "C" fn cvec_phase_call(
     number: u64,
     call: &mut CvecCall,
 ) -> u32
-    ensures told { result ≡ 0 → Becomes (TellsCall number call.new) (role_of committer.old) (role_of committer.new) }
-    ensures refused { result ≢ 0 → (role_of committer.new ≡ role_of committer.old) × (call.new ≡ call.old) }
+    ensures told { result ≡ 0 → Becomes (TellsCall number call.new) (end_of committer.old) (end_of committer.new) }
+    ensures refused { result ≢ 0 → (end_of committer.new ≡ end_of committer.old) × (call.new ≡ call.old) }
 {
     let Some(session) = committer.take(alloc) else {
         return Refusal::NotSo.code();
@@ -77,8 +78,8 @@ pub extern "C" fn cvec_phase_call(
 /// The host has made the calls, and each has succeeded: the growers are told what is durable. `count`: how many growths are.
 #[unsafe(no_mangle)]
 pub extern "C" fn cvec_phase_settle(alloc: Global, committer: &mut Handle, count: &mut u64) -> u32
-    ensures settled { result ≡ 0 → Becomes (Settles count.new) (role_of committer.old) (role_of committer.new) }
-    ensures refused { result ≢ 0 → Refused RefusesSettle result (role_of committer.old) (role_of committer.new) × (count.new ≡ count.old) }
+    ensures settled { result ≡ 0 → Becomes (AtAny (λ _ _ _. Settles count.new)) (end_of committer.old) (end_of committer.new) }
+    ensures refused { result ≢ 0 → Refused (λ refusal. AtAny (λ _ _ _. RefusesSettle refusal)) result (end_of committer.old) (end_of committer.new) × (count.new ≡ count.old) }
 {
     let Some(mut session) = committer.take(alloc) else {
         return Refusal::NotSo.code();

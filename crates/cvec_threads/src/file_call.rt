@@ -44,7 +44,7 @@ impl CvecCall {
 
 /// How many calls are listed.
 pub(crate) fn count_of(session: &Session) -> Result<u64, Refusal>
-    ensures { IfOk result (λ count. CountsCalls count session.now.role session.now.role) }
+    ensures { IfOk result (λ count. CountsCalls count session.now.end session.now.end) }
 {
     let calls = session.calls()?;
     Ok(calls.len() as u64)
@@ -52,7 +52,7 @@ pub(crate) fn count_of(session: &Session) -> Result<u64, Refusal>
 
 /// The call of that number.
 pub(crate) fn call_at(session: &Session, number: u64) -> Result<CvecCall, Refusal>
-    ensures { IfOk result (λ call. TellsCall number call session.now.role session.now.role) }
+    ensures { IfOk result (λ call. TellsCall number call session.now.end session.now.end) }
 {
     match session.calls()?.get(number as usize) {
         Some(call) => Ok(CvecCall::of(call)),

@@ -1,8 +1,9 @@
 //! What a thread calls by its own handle.
 
 ghost use Rattle.std.specs.Prelude.{◌≡◌, ◌≢◌};
-ghost use Rattle.handle_core.specs.Roles.{Grows, Sizes, Tells, Reads, RefusesGrowth, RefusesLook, IsNoGrower};
-ghost use Rattle.handle_core.specs.Handles.{role_of, Becomes, Refused};
+ghost use Rattle.handle_core.specs.Roles.{Sizes, Tells, RefusesLook, IsNoGrower};
+ghost use Rattle.handle_core.specs.Handles.{end_of, Becomes, Refused};
+ghost use Rattle.handle_core.specs.Ends.{AtAny};
 ghost use Rattle.cvec_threads.specs.Answers.{receipt_of, state_of};
 
 use book_core::{MarkState, Receipt};
@@ -26,7 +27,7 @@ pub struct CvecReceipt {
 }
 
 impl CvecReceipt {
-    fn of(receipt: Receipt) -> CvecReceipt
+    pub(crate) fn of(receipt: Receipt) -> CvecReceipt
         ensures { receipt_of result ≡ receipt }
     {
         CvecReceipt {
@@ -50,31 +51,6 @@ fn state_code(state: MarkState) -> u32
     }
 }
 
-/// Grows by copies of the records, as one block behind all that was grown before.
-#[unsafe(no_mangle)]
-pub extern "C" fn cvec_phase_grow(
-    alloc: Global,
-    grower: &mut Handle,
-    records: &[u64],
-    receipt: &mut CvecReceipt,
-) -> u32
-    ensures grown { result ≡ 0 → Becomes (Grows records.now (receipt_of receipt.new)) (role_of grower.old) (role_of grower.new) }
-    ensures refused { result ≢ 0 → Refused (RefusesGrowth records.now) result (role_of grower.old) (role_of grower.new) × (receipt.new ≡ receipt.old) }
-{
-    let Some(mut session) = grower.take(alloc) else {
-        return Refusal::NotSo.code();
-    };
-    let grown = session.grow(alloc, records);
-    grower.put(session);
-    match grown {
-        Ok(grown) => {
-            *receipt = CvecReceipt::of(grown);
-            0
-        }
-        Err(refusal) => refusal.code(),
-    }
-}
-
 /// How many growths are durable, and whether more may be: 0 yes, 1 no more, 2 no more, since the file refused.
 #[unsafe(no_mangle)]
 pub extern "C" fn cvec_phase_settled(
@@ -83,8 +59,8 @@ pub extern "C" fn cvec_phase_settled(
     count: &mut u64,
     state: &mut u32,
 ) -> u32
-    ensures told { result ≡ 0 → Becomes (Tells count.new (state_of state.new)) (role_of grower.old) (role_of grower.new) }
-    ensures refused { result ≢ 0 → Refused IsNoGrower result (role_of grower.old) (role_of grower.new) × (count.new ≡ count.old) × (state.new ≡ state.old) }
+    ensures told { result ≡ 0 → Becomes (AtAny (λ _ _ _. Tells count.new (state_of state.new))) (end_of grower.old) (end_of grower.new) }
+    ensures refused { result ≢ 0 → Refused (λ refusal. AtAny (λ _ _ _. IsNoGrower refusal)) result (end_of grower.old) (end_of grower.new) × (count.new ≡ count.old) × (state.new ≡ state.old) }
 {
     let Some(mut session) = grower.take(alloc) else {
         return Refusal::NotSo.code();
@@ -104,8 +80,8 @@ pub extern "C" fn cvec_phase_settled(
 /// Learns what others grew, and how many records there are.
 #[unsafe(no_mangle)]
 pub extern "C" fn cvec_phase_size(alloc: Global, grower: &mut Handle, size: &mut u64) -> u32
-    ensures size { result ≡ 0 → Becomes (Sizes size.new) (role_of grower.old) (role_of grower.new) }
-    ensures refused { result ≢ 0 → Refused RefusesLook result (role_of grower.old) (role_of grower.new) × (size.new ≡ size.old) }
+    ensures size { result ≡ 0 → Becomes (AtAny (λ _ _ _. Sizes size.new)) (end_of grower.old) (end_of grower.new) }
+    ensures refused { result ≢ 0 → Refused (λ refusal. AtAny (λ _ _ _. RefusesLook refusal)) result (end_of grower.old) (end_of grower.new) × (size.new ≡ size.old) }
 {
     let Some(mut session) = grower.take(alloc) else {
         return Refusal::NotSo.code();
@@ -115,32 +91,6 @@ pub extern "C" fn cvec_phase_size(alloc: Global, grower: &mut Handle, size: &mut
     match sized {
         Ok(found) => {
             *size = found;
-            0
-        }
-        Err(refusal) => refusal.code(),
-    }
-}
-
-/// Copies records from position `from` on to the front of `out`, as many as stand in one piece there.
-#[unsafe(no_mangle)]
-pub extern "C" fn cvec_phase_read(
-    alloc: Global,
-    grower: &mut Handle,
-    from: u64,
-    out: &mut [u64],
-    count: &mut u64,
-) -> u32
-    ensures read { result ≡ 0 → Becomes (Reads from out.old out.new count.new) (role_of grower.old) (role_of grower.new) }
-    ensures refused { result ≢ 0 → Refused IsNoGrower result (role_of grower.old) (role_of grower.new) × (out.new ≡ out.old) × (count.new ≡ count.old) }
-{
-    let Some(mut session) = grower.take(alloc) else {
-        return Refusal::NotSo.code();
-    };
-    let read = session.read(from, out);
-    grower.put(session);
-    match read {
-        Ok(copied) => {
-            *count = copied;
             0
         }
         Err(refusal) => refusal.code(),

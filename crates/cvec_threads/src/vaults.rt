@@ -1,8 +1,9 @@
 //! How who commits has a vector alone, what is asked of it then, and how threads have it again.
 
 ghost use Rattle.std.specs.Prelude.{◌≡◌, ◌≢◌};
-ghost use Rattle.handle_core.specs.Vaults.{GathersIn, RefusesGathering, RefusesSharing, Measures, ReadsAll, Counts, Finds, IsNoVault, Changes, RefusesChange, Resizes, RefusesResize, Clears, RefusesClear, RefusesFolding};
-ghost use Rattle.handle_core.specs.Handles.{role_of, Becomes, Refused};
+ghost use Rattle.handle_core.specs.Vaults.{GathersIn, RefusesGathering, RefusesSharing, Measures, IsNoVault, Clears, RefusesClear, RefusesFolding};
+ghost use Rattle.handle_core.specs.Handles.{end_of, Becomes, Refused};
+ghost use Rattle.handle_core.specs.Ends.{AtAny};
 ghost use Rattle.cvec_threads.specs.Vaults.{HasPhase, IsFolded};
 
 use handle_core::{Handle, Refusal};
@@ -12,8 +13,8 @@ use std::alloc::Global;
 /// all growths are settled.
 #[unsafe(no_mangle)]
 pub extern "C" fn cvec_phase_gather(alloc: Global, committer: &mut Handle) -> u32
-    ensures gathers { result ≡ 0 → Becomes GathersIn (role_of committer.old) (role_of committer.new) }
-    ensures refused { result ≢ 0 → Refused RefusesGathering result (role_of committer.old) (role_of committer.new) }
+    ensures gathers { result ≡ 0 → Becomes (AtAny (λ _ _ _. GathersIn)) (end_of committer.old) (end_of committer.new) }
+    ensures refused { result ≢ 0 → Refused (λ refusal. AtAny (λ _ _ _. RefusesGathering refusal)) result (end_of committer.old) (end_of committer.new) }
 {
     let Some(mut session) = committer.take(alloc) else {
         return Refusal::NotSo.code();
@@ -35,8 +36,8 @@ pub extern "C" fn cvec_phase_share(
     seats: u16,
     phase: &mut Handle,
 ) -> u32
-    ensures shared { result ≡ 0 → HasPhase seats (role_of vault.old) (role_of vault.new) (role_of phase.new) }
-    ensures refused { result ≢ 0 → Refused (RefusesSharing seats) result (role_of vault.old) (role_of vault.new) × (role_of phase.new ≡ role_of phase.old) }
+    ensures shared { result ≡ 0 → HasPhase seats (end_of vault.old) (end_of vault.new) (end_of phase.new) }
+    ensures refused { result ≢ 0 → Refused (λ refusal. AtAny (λ _ _ _. RefusesSharing seats refusal)) result (end_of vault.old) (end_of vault.new) × (end_of phase.new ≡ end_of phase.old) }
 {
     let Some(mut session) = vault.take(alloc) else {
         return Refusal::NotSo.code();
@@ -56,8 +57,8 @@ pub extern "C" fn cvec_phase_share(
 /// How many records the vault has.
 #[unsafe(no_mangle)]
 pub extern "C" fn cvec_vault_size(alloc: Global, vault: &mut Handle, size: &mut u64) -> u32
-    ensures size { result ≡ 0 → Becomes (Measures size.new) (role_of vault.old) (role_of vault.new) }
-    ensures refused { result ≢ 0 → Refused IsNoVault result (role_of vault.old) (role_of vault.new) × (size.new ≡ size.old) }
+    ensures size { result ≡ 0 → Becomes (AtAny (λ _ _ _. Measures size.new)) (end_of vault.old) (end_of vault.new) }
+    ensures refused { result ≢ 0 → Refused (λ refusal. AtAny (λ _ _ _. IsNoVault refusal)) result (end_of vault.old) (end_of vault.new) × (size.new ≡ size.old) }
 {
     let Some(session) = vault.take(alloc) else {
         return Refusal::NotSo.code();
@@ -73,132 +74,11 @@ pub extern "C" fn cvec_vault_size(alloc: Global, vault: &mut Handle, size: &mut 
     }
 }
 
-/// Copies records from position `from` on to the front of `out`, as far as both reach.
-#[unsafe(no_mangle)]
-pub extern "C" fn cvec_vault_read(
-    alloc: Global,
-    vault: &mut Handle,
-    from: u64,
-    out: &mut [u64],
-    count: &mut u64,
-) -> u32
-    ensures read { result ≡ 0 → Becomes (ReadsAll from out.old out.new count.new) (role_of vault.old) (role_of vault.new) }
-    ensures refused { result ≢ 0 → Refused IsNoVault result (role_of vault.old) (role_of vault.new) × (out.new ≡ out.old) × (count.new ≡ count.old) }
-{
-    let Some(session) = vault.take(alloc) else {
-        return Refusal::NotSo.code();
-    };
-    let read = session.read_all(from, out);
-    vault.put(session);
-    match read {
-        Ok(copied) => {
-            *count = copied;
-            0
-        }
-        Err(refusal) => refusal.code(),
-    }
-}
-
-/// How many of the vault's records equal this one.
-#[unsafe(no_mangle)]
-pub extern "C" fn cvec_vault_count(
-    alloc: Global,
-    vault: &mut Handle,
-    sought: u64,
-    count: &mut u64,
-) -> u32
-    ensures count { result ≡ 0 → Becomes (Counts sought count.new) (role_of vault.old) (role_of vault.new) }
-    ensures refused { result ≢ 0 → Refused IsNoVault result (role_of vault.old) (role_of vault.new) × (count.new ≡ count.old) }
-{
-    let Some(session) = vault.take(alloc) else {
-        return Refusal::NotSo.code();
-    };
-    let counted = session.count(sought);
-    vault.put(session);
-    match counted {
-        Ok(found) => {
-            *count = found;
-            0
-        }
-        Err(refusal) => refusal.code(),
-    }
-}
-
-/// The first position from `from` on whose record equals this one, or how many records there are.
-#[unsafe(no_mangle)]
-pub extern "C" fn cvec_vault_find(
-    alloc: Global,
-    vault: &mut Handle,
-    sought: u64,
-    from: u64,
-    place: &mut u64,
-) -> u32
-    ensures found { result ≡ 0 → Becomes (Finds sought from place.new) (role_of vault.old) (role_of vault.new) }
-    ensures refused { result ≢ 0 → Refused IsNoVault result (role_of vault.old) (role_of vault.new) × (place.new ≡ place.old) }
-{
-    let Some(session) = vault.take(alloc) else {
-        return Refusal::NotSo.code();
-    };
-    let found = session.find(sought, from);
-    vault.put(session);
-    match found {
-        Ok(first) => {
-            *place = first;
-            0
-        }
-        Err(refusal) => refusal.code(),
-    }
-}
-
-/// Writes the records over those from position `start` on, and lists the calls of the file that commit it.
-#[unsafe(no_mangle)]
-pub extern "C" fn cvec_vault_change(
-    alloc: Global,
-    vault: &mut Handle,
-    start: u64,
-    records: &[u64],
-) -> u32
-    ensures changes { result ≡ 0 → Becomes (Changes start records.now) (role_of vault.old) (role_of vault.new) }
-    ensures refused { result ≢ 0 → Refused (RefusesChange start records.now) result (role_of vault.old) (role_of vault.new) }
-{
-    let Some(mut session) = vault.take(alloc) else {
-        return Refusal::NotSo.code();
-    };
-    let changed = session.change(start, records);
-    vault.put(session);
-    match changed {
-        Ok(()) => 0,
-        Err(refusal) => refusal.code(),
-    }
-}
-
-/// Makes the vault's length `size`: takes records away, or appends copies of this one; and lists the calls that commit it.
-#[unsafe(no_mangle)]
-pub extern "C" fn cvec_vault_resize(
-    alloc: Global,
-    vault: &mut Handle,
-    size: u64,
-    filler: u64,
-) -> u32
-    ensures resizes { result ≡ 0 → Becomes (Resizes size filler) (role_of vault.old) (role_of vault.new) }
-    ensures refused { result ≢ 0 → Refused (RefusesResize size filler) result (role_of vault.old) (role_of vault.new) }
-{
-    let Some(mut session) = vault.take(alloc) else {
-        return Refusal::NotSo.code();
-    };
-    let resized = session.resize(size, filler);
-    vault.put(session);
-    match resized {
-        Ok(()) => 0,
-        Err(refusal) => refusal.code(),
-    }
-}
-
 /// Takes all records away, and lists the calls of the file that commit it.
 #[unsafe(no_mangle)]
 pub extern "C" fn cvec_vault_clear(alloc: Global, vault: &mut Handle) -> u32
-    ensures clears { result ≡ 0 → Becomes Clears (role_of vault.old) (role_of vault.new) }
-    ensures refused { result ≢ 0 → Refused RefusesClear result (role_of vault.old) (role_of vault.new) }
+    ensures clears { result ≡ 0 → Becomes (AtAny (λ _ _ _. Clears)) (end_of vault.old) (end_of vault.new) }
+    ensures refused { result ≢ 0 → Refused (λ refusal. AtAny (λ _ _ _. RefusesClear refusal)) result (end_of vault.old) (end_of vault.new) }
 {
     let Some(mut session) = vault.take(alloc) else {
         return Refusal::NotSo.code();
@@ -214,8 +94,8 @@ pub extern "C" fn cvec_vault_clear(alloc: Global, vault: &mut Handle) -> u32
 /// Lists the calls that write each changed record to its home in the file, and then the fold's frame.
 #[unsafe(no_mangle)]
 pub extern "C" fn cvec_vault_fold(alloc: Global, vault: &mut Handle) -> u32
-    ensures folds { result ≡ 0 → Becomes IsFolded (role_of vault.old) (role_of vault.new) }
-    ensures refused { result ≢ 0 → Refused RefusesFolding result (role_of vault.old) (role_of vault.new) }
+    ensures folds { result ≡ 0 → Becomes IsFolded (end_of vault.old) (end_of vault.new) }
+    ensures refused { result ≢ 0 → Refused (λ refusal. AtAny (λ _ _ _. RefusesFolding refusal)) result (end_of vault.old) (end_of vault.new) }
 {
     let Some(mut session) = vault.take(alloc) else {
         return Refusal::NotSo.code();

@@ -2,23 +2,23 @@
 use Rattle.std.proofs.Common.{◌≡◌, None, Some, refl}
 use Rattle.handle_core.specs.declared.refusal.Refusal.{Refusal}
 use Rattle.handle_core.specs.declared.refusal.Refusal.TheVariants.{Unborn, NotSegment, Version, Width, Damaged, Memory, Empty, OutOfRange, TooLarge, FileFull, NoRoom, Exists, Broken, NotSo, Again, Full, Busy, Unfolded, Unsettled}
-use Rattle.handle_core.specs.declared.session.Role.{Role}
+use Rattle.handle_core.specs.declared.session.End.{End}
 use Rattle.handle_core.specs.Refusal.{code_of}
 use Rattle.handle_core.specs.Handles.{Becomes, Refused}
 
 -- a handle that has what it had
-stays : (role : Role) → Becomes (λ old new. new ≡ old) (Some role) (Some role)
-stays role = refl
+stays : (end : End) → Becomes (λ old new. new ≡ old) (Some end) (Some end)
+stays end = refl
 
 -- one whose end is gone isn't so, whatever is asked of the ends
-gone : (P : Role → Role → Type 0) (role : Role) → Becomes P (Some role) None → ⊥
-gone P role becomes = becomes
+gone : (P : End → End → Type 0) (end : End) → Becomes P (Some end) None → ⊥
+gone P end becomes = becomes
 
 -- a handle with nothing is refused by 64 alone
-refused_empty : (P : Refusal → Role → Role → Type 0) → Refused P 64 None None
+refused_empty : (P : Refusal → End → End → Type 0) → Refused P 64 None None
 refused_empty P = refl
 
-refused_otherwise : (P : Refusal → Role → Role → Type 0) → Refused P 6 None None → ⊥
+refused_otherwise : (P : Refusal → End → End → Type 0) → Refused P 6 None None → ⊥
 refused_otherwise P refused = let same : 6 ≡ 64 = refused in cc
 
 -- no refusal is answered as done

@@ -4,25 +4,25 @@ use Rattle.handle_core.specs.declared.refusal.Refusal.{Refusal}
 use Rattle.handle_core.specs.declared.refusal.Refusal.TheVariants.{NotSo}
 use Rattle.handle_core.specs.Refusal.{code_of}
 use Rattle.handle_core.specs.declared.session.Session.{Session}
-use Rattle.handle_core.specs.declared.session.Role.{Role}
+use Rattle.handle_core.specs.declared.session.End.{End}
 use Rattle.handle_core.specs.declared.handle.Handle.{Handle}
 
-abbrev pub role_in : Option Session → Option Role
-role_in None = None
-role_in (Some session) = Some session.role
+abbrev pub end_in : Option Session → Option End
+end_in None = None
+end_in (Some session) = Some session.end
 
 -- the end that the handle has, if any
-abbrev pub role_of : Handle → Option Role
-role_of handle = if handle.full then (role_in handle.kept.session) else None
+abbrev pub end_of : Handle → Option End
+end_of handle = if handle.full then (end_in handle.kept.session) else None
 
 -- it had an end, and has one, and these are so related
-abbrev pub Becomes : (Role → Role → Type 0) → Option Role → Option Role → Type 0
+abbrev pub Becomes : (End → End → Type 0) → Option End → Option End → Type 0
 Becomes P (Some old) (Some new) = P old new
 Becomes P old new = ⊥
 
 -- Why the call is refused, by its number, and what stands: it had nothing and has nothing; or it had an end, and has one,
 -- and these are so related.
-abbrev pub Refused : (Refusal → Role → Role → Type 0) → ℕ → Option Role → Option Role → Type 0
+abbrev pub Refused : (Refusal → End → End → Type 0) → ℕ → Option End → Option End → Type 0
 Refused P code None None = code ≡ code_of NotSo
 Refused P code (Some old) (Some new) = (refusal : Refusal) × (code ≡ code_of refusal) × P refusal old new
 Refused P code old new = ⊥

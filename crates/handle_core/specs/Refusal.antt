@@ -54,7 +54,7 @@ of_flush (Pen pens.Memory) = Memory
 of_flush (Pen other) = Broken
 of_flush (Strayed number) = Broken
 
--- why a file's bytes have no vector of `u64`
+-- why a file's bytes have no vector of these records
 abbrev pub of_scan : ScanFault → Refusal
 of_scan scans.Unborn = Unborn
 of_scan scans.NotSegment = NotSegment

@@ -1,8 +1,8 @@
 -- What a call makes of an end of a phase.
 use Rattle.std.specs.Prelude.{◌≡◌, ◌⊎◌, ℕ, ◌+◌, List, length, None}
 use Rattle.std.specs.Arc.{arc_value}
-use Rattle.std.specs.Int.{w64}
-use Rattle.record_core.specs.Bytes.{unsigned}
+use Rattle.std.specs.declared.cmp.PartialEq as PartialEq
+use Rattle.record_core.specs.declared.record.Record as Record
 use Rattle.flush_core.specs.Flusher.{ToldIsLeft}
 use Rattle.disk_core.specs.Moments.{clock}
 use Rattle.disk_core.specs.FileDisk.{states_of, KeepsSoFar}
@@ -13,7 +13,6 @@ use Rattle.book_core.specs.Growing.{Grown, SeatLearns, SeatIsTold, IsCopiesRefus
 use Rattle.book_core.specs.Beginning.{IsNewSeat}
 use Rattle.relay_core.specs.declared.call.Call.{Call}
 use Rattle.relay_core.specs.Listed.{LeadTo}
-use Rattle.phase_core.specs.declared.grower.Grower.{Grower}
 use Rattle.phase_core.specs.Grower.{list_of, Copies}
 use Rattle.phase_core.specs.Grower as growers
 use Rattle.phase_core.specs.Committing.{GoesOn, IsUnplanned}
@@ -26,113 +25,114 @@ use Rattle.handle_core.specs.Refusal.{of_growth, of_flush}
 use Rattle.handle_core.specs.declared.session.Role.{Role}
 use Rattle.handle_core.specs.declared.session.Role.TheVariants as roles
 
--- ---- a grower
+module _ {R : Type 0} {record_of : Record.Ghosts R} {eq_of : PartialEq.Ghosts R} where
+  -- ---- a grower
 
--- it made one growth of these records, behind all that it knows of its phase; the receipt has the growth's place
-abbrev pub Grows : List ℕ → Receipt → Role → Role → Type 0
-Grows records receipt (roles.Grower old) (roles.Grower new) =
-    (growers.phase_of new ≡ growers.phase_of old) × Grown (growers.phase_of old) old.seat new.seat records receipt
-Grows records receipt old new = ⊥
+  -- it made one growth of these records, behind all that it knows of its phase; the receipt has the growth's place
+  abbrev pub Grows : List R → Receipt → Role R record_of eq_of → Role R record_of eq_of → Type 0
+  Grows records receipt (roles.Grower old) (roles.Grower new) =
+      (growers.phase_of new ≡ growers.phase_of old) × Grown (growers.phase_of old) old.seat new.seat records receipt
+  Grows records receipt old new = ⊥
 
--- Why a growth of these records is refused: there was no room or memory for it, or another came first, and the grower has
--- learned what others grew; or it is no grower, and is as it was.
-abbrev pub RefusesGrowth : List ℕ → Refusal → Role → Role → Type 0
-RefusesGrowth records refusal (roles.Grower old) (roles.Grower new) =
-    (growers.phase_of new ≡ growers.phase_of old) × SeatLearns old.seat new.seat
-    × ((fault : GrowFault) × (refusal ≡ of_growth fault) × IsCopiesRefusal 8 (growers.phase_of old) new.seat (length records) fault)
-RefusesGrowth records refusal (roles.Grower old) new = ⊥
-RefusesGrowth records refusal old new = (refusal ≡ NotSo) × (new ≡ old)
+  -- Why a growth of these records is refused: there was no room or memory for it, or another came first, and the grower has
+  -- learned what others grew; or it is no grower, and is as it was.
+  abbrev pub RefusesGrowth : List R → Refusal → Role R record_of eq_of → Role R record_of eq_of → Type 0
+  RefusesGrowth records refusal (roles.Grower old) (roles.Grower new) =
+      (growers.phase_of new ≡ growers.phase_of old) × SeatLearns old.seat new.seat
+      × ((fault : GrowFault) × (refusal ≡ of_growth fault) × IsCopiesRefusal record_of.form.width (growers.phase_of old) new.seat (length records) fault)
+  RefusesGrowth records refusal (roles.Grower old) new = ⊥
+  RefusesGrowth records refusal old new = (refusal ≡ NotSo) × (new ≡ old)
 
--- a growth is none of the phase; or it is no grower, and is as it was
-abbrev pub RefusesLook : Refusal → Role → Role → Type 0
-RefusesLook refusal (roles.Grower old) (roles.Grower new) =
-    (refusal ≡ Broken) × (growers.phase_of new ≡ growers.phase_of old) × SeatLearns old.seat new.seat
-    × ((fault : GrowFault) × IsLookFault new.seat fault)
-RefusesLook refusal (roles.Grower old) new = ⊥
-RefusesLook refusal old new = (refusal ≡ NotSo) × (new ≡ old)
+  -- a growth is none of the phase; or it is no grower, and is as it was
+  abbrev pub RefusesLook : Refusal → Role R record_of eq_of → Role R record_of eq_of → Type 0
+  RefusesLook refusal (roles.Grower old) (roles.Grower new) =
+      (refusal ≡ Broken) × (growers.phase_of new ≡ growers.phase_of old) × SeatLearns old.seat new.seat
+      × ((fault : GrowFault) × IsLookFault new.seat fault)
+  RefusesLook refusal (roles.Grower old) new = ⊥
+  RefusesLook refusal old new = (refusal ≡ NotSo) × (new ≡ old)
 
--- it is no grower, and is as it was
-abbrev pub IsNoGrower : Refusal → Role → Role → Type 0
-IsNoGrower refusal (roles.Grower old) new = ⊥
-IsNoGrower refusal old new = (refusal ≡ NotSo) × (new ≡ old)
+  -- it is no grower, and is as it was
+  abbrev pub IsNoGrower : Refusal → Role R record_of eq_of → Role R record_of eq_of → Type 0
+  IsNoGrower refusal (roles.Grower old) new = ⊥
+  IsNoGrower refusal old new = (refusal ≡ NotSo) × (new ≡ old)
 
--- a grower learned what others grew, and so many records are in its list
-abbrev pub Sizes : ℕ → Role → Role → Type 0
-Sizes size (roles.Grower old) (roles.Grower new) =
-    (growers.phase_of new ≡ growers.phase_of old) × SeatLearns old.seat new.seat × (size ≡ length (list_of new))
-Sizes size old new = ⊥
+  -- a grower learned what others grew, and so many records are in its list
+  abbrev pub Sizes : ℕ → Role R record_of eq_of → Role R record_of eq_of → Type 0
+  Sizes size (roles.Grower old) (roles.Grower new) =
+      (growers.phase_of new ≡ growers.phase_of old) × SeatLearns old.seat new.seat × (size ≡ length (list_of new))
+  Sizes size old new = ⊥
 
--- a grower was told that so many growths are durable
-abbrev pub Tells : ℕ → MarkState → Role → Role → Type 0
-Tells count state (roles.Grower old) (roles.Grower new) =
-    (growers.phase_of new ≡ growers.phase_of old) × SeatIsTold old.seat new.seat count state
-Tells count state old new = ⊥
+  -- a grower was told that so many growths are durable
+  abbrev pub Tells : ℕ → MarkState → Role R record_of eq_of → Role R record_of eq_of → Type 0
+  Tells count state (roles.Grower old) (roles.Grower new) =
+      (growers.phase_of new ≡ growers.phase_of old) × SeatIsTold old.seat new.seat count state
+  Tells count state old new = ⊥
 
--- so many records of its list from that position on stand in front of the output
-abbrev pub Reads : ℕ → List ℕ → List ℕ → ℕ → Role → Role → Type 0
-Reads from before after count (roles.Grower old) (roles.Grower new) = (new ≡ old) × Copies (list_of old) from before after count
-Reads from before after count old new = ⊥
+  -- so many records of its list from that position on stand in front of the output
+  abbrev pub Reads : ℕ → List R → List R → ℕ → Role R record_of eq_of → Role R record_of eq_of → Type 0
+  Reads from before after count (roles.Grower old) (roles.Grower new) = (new ≡ old) × Copies (list_of old) from before after count
+  Reads from before after count old new = ⊥
 
--- ---- who commits
+  -- ---- who commits
 
--- it lists the calls that commit so many growths more, and tells nobody yet
-abbrev pub Plans : ℕ → Role → Role → Type 0
-Plans count (roles.Committer old) (roles.Committer new) =
-    (arc_value new.live ≡ arc_value old.live) × (new.made ≡ old.made)
-    × GoesOn (λ disk. KeepsSoFar disk.inner) old.flusher new.flusher
-    × (new.flusher.taken ≡ old.flusher.taken + count) × (new.flusher.pen.job ≡ None)
-Plans count old new = ⊥
+  -- it lists the calls that commit so many growths more, and tells nobody yet
+  abbrev pub Plans : ℕ → Role R record_of eq_of → Role R record_of eq_of → Type 0
+  Plans count (roles.Committer old) (roles.Committer new) =
+      (arc_value new.live ≡ arc_value old.live) × (new.made ≡ old.made)
+      × GoesOn (λ disk. KeepsSoFar disk.inner) old.flusher new.flusher
+      × (new.flusher.taken ≡ old.flusher.taken + count) × (new.flusher.pen.job ≡ None)
+  Plans count old new = ⊥
 
--- Why it plans no calls: nothing more was taken then, but where a call has failed; nobody is told anything. Or it is another
--- end, and is as it was.
-abbrev pub RefusesPlan : Refusal → Role → Role → Type 0
-RefusesPlan refusal (roles.Committer old) (roles.Committer new) =
-    (arc_value new.live ≡ arc_value old.live) × (new.made ≡ old.made) × GoesOn (λ disk. KeepsSoFar disk.inner) old.flusher new.flusher
-    × ((fault : FlushFault) × (refusal ≡ of_flush fault) × IsUnplanned fault old.flusher new.flusher)
-RefusesPlan refusal (roles.Committer old) new = ⊥
-RefusesPlan refusal old new = (refusal ≡ NotSo) × (new ≡ old)
+  -- Why it plans no calls: nothing more was taken then, but where a call has failed; nobody is told anything. Or it is another
+  -- end, and is as it was.
+  abbrev pub RefusesPlan : Refusal → Role R record_of eq_of → Role R record_of eq_of → Type 0
+  RefusesPlan refusal (roles.Committer old) (roles.Committer new) =
+      (arc_value new.live ≡ arc_value old.live) × (new.made ≡ old.made) × GoesOn (λ disk. KeepsSoFar disk.inner) old.flusher new.flusher
+      × ((fault : FlushFault) × (refusal ≡ of_flush fault) × IsUnplanned fault old.flusher new.flusher)
+  RefusesPlan refusal (roles.Committer old) new = ⊥
+  RefusesPlan refusal old new = (refusal ≡ NotSo) × (new ≡ old)
 
--- a call was lost, and nobody is told anything; or it is another end, and is as it was
-abbrev pub RefusesSettle : Refusal → Role → Role → Type 0
-RefusesSettle refusal (roles.Committer old) (roles.Committer new) =
-    (refusal ≡ Broken) × (arc_value new.live ≡ arc_value old.live) × (new.flusher ≡ old.flusher) × (new.made ≡ old.made)
-RefusesSettle refusal (roles.Committer old) new = ⊥
-RefusesSettle refusal (roles.Vault old) (roles.Vault new) = (refusal ≡ Broken) × (new.vault ≡ old.vault) × (new.made ≡ old.made)
-RefusesSettle refusal (roles.Vault old) new = ⊥
-RefusesSettle refusal old new = (refusal ≡ NotSo) × (new ≡ old)
+  -- a call was lost, and nobody is told anything; or it is another end, and is as it was
+  abbrev pub RefusesSettle : Refusal → Role R record_of eq_of → Role R record_of eq_of → Type 0
+  RefusesSettle refusal (roles.Committer old) (roles.Committer new) =
+      (refusal ≡ Broken) × (arc_value new.live ≡ arc_value old.live) × (new.flusher ≡ old.flusher) × (new.made ≡ old.made)
+  RefusesSettle refusal (roles.Committer old) new = ⊥
+  RefusesSettle refusal (roles.Vault old) (roles.Vault new) = (refusal ≡ Broken) × (new.vault ≡ old.vault) × (new.made ≡ old.made)
+  RefusesSettle refusal (roles.Vault old) new = ⊥
+  RefusesSettle refusal old new = (refusal ≡ NotSo) × (new ≡ old)
 
--- These are the calls that the host hasn't made: they make of the file as it has made it the file as it is to be.
-abbrev pub Lists : List Call → Role → Type 0
-Lists calls (roles.Committer committer) =
-    (calls ≡ calls_of committer)
-    × (KeepsSoFar committer.flusher.pen.disk.inner → LeadTo (states_of committer.flusher.pen.disk.inner) committer.made calls)
-Lists calls (roles.Vault vault) =
-    (calls ≡ vaults.calls_of vault)
-    × (KeepsSoFar vault.vault.pen.disk.inner → LeadTo (states_of vault.vault.pen.disk.inner) vault.made calls)
-Lists calls role = ⊥
+  -- These are the calls that the host hasn't made: they make of the file as it has made it the file as it is to be.
+  abbrev pub Lists : List Call → Role R record_of eq_of → Type 0
+  Lists calls (roles.Committer committer) =
+      (calls ≡ calls_of committer)
+      × (KeepsSoFar committer.flusher.pen.disk.inner → LeadTo (states_of committer.flusher.pen.disk.inner) committer.made calls)
+  Lists calls (roles.Vault vault) =
+      (calls ≡ vaults.calls_of vault)
+      × (KeepsSoFar vault.vault.pen.disk.inner → LeadTo (states_of vault.vault.pen.disk.inner) vault.made calls)
+  Lists calls role = ⊥
 
--- The host has made all calls, and the growers are told what is in the file by them: so many growths. What they were told
--- stands: whatever a crash has left since then opens to so many growths at least. Of a vault, which has told nobody, no growth.
-abbrev pub Settles : ℕ → Role → Role → Type 0
-Settles count (roles.Committer old) (roles.Committer new) =
-    (arc_value new.live ≡ arc_value old.live) × (new.made ≡ clock (states_of new.flusher.pen.disk.inner))
-    × (count ≡ old.flusher.settled) × (new.flusher.mark.told.count ≡ count)
-    × (KeepsSoFar new.flusher.pen.disk.inner
-    → ToldIsLeft (unsigned w64) (states_of new.flusher.pen.disk.inner) new.flusher new.flusher.mark.raises)
-Settles count (roles.Vault old) (roles.Vault new) = (new.vault ≡ old.vault) × (new.made ≡ clock (states_of new.vault.pen.disk.inner)) × (count ≡ 0)
-Settles count old new = ⊥
+  -- The host has made all calls, and the growers are told what is in the file by them: so many growths. What they were told
+  -- stands: whatever a crash has left since then opens to so many growths at least. Of a vault, which has told nobody, no growth.
+  abbrev pub Settles : ℕ → Role R record_of eq_of → Role R record_of eq_of → Type 0
+  Settles count (roles.Committer old) (roles.Committer new) =
+      (arc_value new.live ≡ arc_value old.live) × (new.made ≡ clock (states_of new.flusher.pen.disk.inner))
+      × (count ≡ old.flusher.settled) × (new.flusher.mark.told.count ≡ count)
+      × (KeepsSoFar new.flusher.pen.disk.inner
+      → ToldIsLeft record_of.form (states_of new.flusher.pen.disk.inner) new.flusher new.flusher.mark.raises)
+  Settles count (roles.Vault old) (roles.Vault new) = (new.vault ≡ old.vault) × (new.made ≡ clock (states_of new.vault.pen.disk.inner)) × (count ≡ 0)
+  Settles count old new = ⊥
 
--- ---- a phase
+  -- ---- a phase
 
--- a new grower of the phase
-abbrev pub Seats : Grower → Role → Role → Type 0
-Seats grower (roles.Phase old) (roles.Phase new) =
-    (arc_value new.live ≡ arc_value old.live) × (growers.phase_of grower ≡ arc_value old.live)
-    × IsNewSeat (arc_value old.live).directory (arc_value old.live).mark (length new.seats.items) grower.seat
-Seats grower old new = ⊥
+  -- the first is a new grower of the phase
+  abbrev pub Seats : Role R record_of eq_of → Role R record_of eq_of → Role R record_of eq_of → Type 0
+  Seats (roles.Grower grower) (roles.Phase old) (roles.Phase new) =
+      (arc_value new.live ≡ arc_value old.live) × (growers.phase_of grower ≡ arc_value old.live)
+      × IsNewSeat (arc_value old.live).directory (arc_value old.live).mark (length new.seats.items) grower.seat
+  Seats seat old new = ⊥
 
--- each seat is taken, or there is no memory; or it is another end, and is as it was
-abbrev pub RefusesSeat : Refusal → Role → Role → Type 0
-RefusesSeat refusal (roles.Phase old) (roles.Phase new) = ((refusal ≡ NotSo) ⊎ (refusal ≡ Memory)) × (arc_value new.live ≡ arc_value old.live)
-RefusesSeat refusal (roles.Phase old) new = ⊥
-RefusesSeat refusal old new = (refusal ≡ NotSo) × (new ≡ old)
+  -- each seat is taken, or there is no memory; or it is another end, and is as it was
+  abbrev pub RefusesSeat : Refusal → Role R record_of eq_of → Role R record_of eq_of → Type 0
+  RefusesSeat refusal (roles.Phase old) (roles.Phase new) = ((refusal ≡ NotSo) ⊎ (refusal ≡ Memory)) × (arc_value new.live ≡ arc_value old.live)
+  RefusesSeat refusal (roles.Phase old) new = ⊥
+  RefusesSeat refusal old new = (refusal ≡ NotSo) × (new ≡ old)

@@ -1,8 +1,8 @@
 -- What a call makes of a vault, and how an end becomes one.
 use Rattle.std.specs.Prelude.{◌≡◌, ◌⊎◌, ℕ, Bool, List, length, drop, Ok, Err}
 use Rattle.std.specs.List.{count_by}
-use Rattle.std.specs.Int.{w64}
-use Rattle.record_core.specs.Bytes.{unsigned}
+use Rattle.std.specs.declared.cmp.PartialEq as PartialEq
+use Rattle.record_core.specs.declared.record.Record as Record
 use Rattle.disk_core.specs.FileDisk.{states_of, KeepsSoFar}
 use Rattle.directory_core.specs.Limits.{growth_limit}
 use Rattle.pen_core.specs.declared.fault.PenFault.{PenFault}
@@ -22,102 +22,103 @@ use Rattle.handle_core.specs.Refusal.{of_gather, of_pen, of_vault}
 use Rattle.handle_core.specs.declared.session.Role.{Role}
 use Rattle.handle_core.specs.declared.session.Role.TheVariants as roles
 
--- ---- a phase that ends, and one that begins
+module _ {R : Type 0} {record_of : Record.Ghosts R} {eq_of : PartialEq.Ghosts R} where
+  -- ---- a phase that ends, and one that begins
 
--- all that a committer's phase had is in the vault
-abbrev pub GathersIn : Role → Role → Type 0
-GathersIn (roles.Committer old) (roles.Vault new) = Gathers old new
-GathersIn old new = ⊥
+  -- all that a committer's phase had is in the vault
+  abbrev pub GathersIn : Role R record_of eq_of → Role R record_of eq_of → Type 0
+  GathersIn (roles.Committer old) (roles.Vault new) = Gathers old new
+  GathersIn old new = ⊥
 
--- why it isn't gathered: it is as it was, but that it may have learned what was grown; or it is another end, and is as it was
-abbrev pub RefusesGathering : Refusal → Role → Role → Type 0
-RefusesGathering refusal (roles.Committer old) (roles.Committer new) = (fault : GatherFault) × (refusal ≡ of_gather fault) × RefusesGather fault old new
-RefusesGathering refusal (roles.Committer old) new = ⊥
-RefusesGathering refusal old new = (refusal ≡ NotSo) × (new ≡ old)
+  -- why it isn't gathered: it is as it was, but that it may have learned what was grown; or it is another end, and is as it was
+  abbrev pub RefusesGathering : Refusal → Role R record_of eq_of → Role R record_of eq_of → Type 0
+  RefusesGathering refusal (roles.Committer old) (roles.Committer new) = (fault : GatherFault) × (refusal ≡ of_gather fault) × RefusesGather fault old new
+  RefusesGathering refusal (roles.Committer old) new = ⊥
+  RefusesGathering refusal old new = (refusal ≡ NotSo) × (new ≡ old)
 
--- the vault is lent to a phase with so many seats, the first of these ends, and to who commits
-abbrev pub SharesOut : ℕ → Role → Role → Role → Type 0
-SharesOut seats (roles.Phase phase) (roles.Vault old) (roles.Committer new) = Lends old.vault old.made seats phase new
-SharesOut seats end old new = ⊥
+  -- the vault is lent to a phase with so many seats, the first of these ends, and to who commits
+  abbrev pub SharesOut : ℕ → Role R record_of eq_of → Role R record_of eq_of → Role R record_of eq_of → Type 0
+  SharesOut seats (roles.Phase phase) (roles.Vault old) (roles.Committer new) = Lends old.vault old.made seats phase new
+  SharesOut seats end old new = ⊥
 
--- Why it isn't: it is as it was; or there was no memory for what the ends share, and none is left. Or it is another end, and is
--- as it was.
-abbrev pub RefusesSharing : ℕ → Refusal → Role → Role → Type 0
-RefusesSharing seats refusal (roles.Vault old) (roles.Vault new) =
-    (new ≡ old) × ((refusal ≡ Memory) ⊎ ((fault : PenFault) × (refusal ≡ of_pen fault) × IsShareFault old.vault growth_limit seats (Pen fault)))
-RefusesSharing seats refusal (roles.Vault old) roles.Nothing = refusal ≡ Memory
-RefusesSharing seats refusal (roles.Vault old) new = ⊥
-RefusesSharing seats refusal old new = (refusal ≡ NotSo) × (new ≡ old)
+  -- Why it isn't: it is as it was; or there was no memory for what the ends share, and none is left. Or it is another end, and is
+  -- as it was.
+  abbrev pub RefusesSharing : ℕ → Refusal → Role R record_of eq_of → Role R record_of eq_of → Type 0
+  RefusesSharing seats refusal (roles.Vault old) (roles.Vault new) =
+      (new ≡ old) × ((refusal ≡ Memory) ⊎ ((fault : PenFault) × (refusal ≡ of_pen fault) × IsShareFault old.vault growth_limit seats (Pen fault)))
+  RefusesSharing seats refusal (roles.Vault old) roles.Nothing = refusal ≡ Memory
+  RefusesSharing seats refusal (roles.Vault old) new = ⊥
+  RefusesSharing seats refusal old new = (refusal ≡ NotSo) × (new ≡ old)
 
--- ---- what is asked of a vault
+  -- ---- what is asked of a vault
 
--- it is no vault, and is as it was
-abbrev pub IsNoVault : Refusal → Role → Role → Type 0
-IsNoVault refusal (roles.Vault old) new = ⊥
-IsNoVault refusal old new = (refusal ≡ NotSo) × (new ≡ old)
+  -- it is no vault, and is as it was
+  abbrev pub IsNoVault : Refusal → Role R record_of eq_of → Role R record_of eq_of → Type 0
+  IsNoVault refusal (roles.Vault old) new = ⊥
+  IsNoVault refusal old new = (refusal ≡ NotSo) × (new ≡ old)
 
--- so many records are in its list
-abbrev pub Measures : ℕ → Role → Role → Type 0
-Measures size (roles.Vault old) new = (new ≡ roles.Vault old) × (size ≡ length (list_of old))
-Measures size old new = ⊥
+  -- so many records are in its list
+  abbrev pub Measures : ℕ → Role R record_of eq_of → Role R record_of eq_of → Type 0
+  Measures size (roles.Vault old) new = (new ≡ roles.Vault old) × (size ≡ length (list_of old))
+  Measures size old new = ⊥
 
--- so many records of its list from that position on stand in front of the output: as far as both reach
-abbrev pub ReadsAll : ℕ → List ℕ → List ℕ → ℕ → Role → Role → Type 0
-ReadsAll from before after count (roles.Vault old) new =
-    (new ≡ roles.Vault old) × Copies (list_of old) from before after count × ((count ≡ length before) ⊎ (count ≡ length (drop from (list_of old))))
-ReadsAll from before after count old new = ⊥
+  -- so many records of its list from that position on stand in front of the output: as far as both reach
+  abbrev pub ReadsAll : ℕ → List R → List R → ℕ → Role R record_of eq_of → Role R record_of eq_of → Type 0
+  ReadsAll from before after count (roles.Vault old) new =
+      (new ≡ roles.Vault old) × Copies (list_of old) from before after count × ((count ≡ length before) ⊎ (count ≡ length (drop from (list_of old))))
+  ReadsAll from before after count old new = ⊥
 
--- so many of its records equal that one
-abbrev pub Counts : ℕ → ℕ → Role → Role → Type 0
-Counts x count (roles.Vault old) new = (new ≡ roles.Vault old) × (count ≡ count_by (equals x) (list_of old))
-Counts x count old new = ⊥
+  -- so many of its records equal that one
+  abbrev pub Counts : R → ℕ → Role R record_of eq_of → Role R record_of eq_of → Type 0
+  Counts x count (roles.Vault old) new = (new ≡ roles.Vault old) × (count ≡ count_by (equals eq_of.eq x) (list_of old))
+  Counts x count old new = ⊥
 
--- that is the first position from there on whose record equals that one, or how many records there are
-abbrev pub Finds : ℕ → ℕ → ℕ → Role → Role → Type 0
-Finds x from place (roles.Vault old) new = (new ≡ roles.Vault old) × IsFoundFrom (list_of old) x from place
-Finds x from place old new = ⊥
+  -- that is the first position from there on whose record equals that one, or how many records there are
+  abbrev pub Finds : R → ℕ → ℕ → Role R record_of eq_of → Role R record_of eq_of → Type 0
+  Finds x from place (roles.Vault old) new = (new ≡ roles.Vault old) × IsFoundFrom (list_of old) x from place
+  Finds x from place old new = ⊥
 
--- ---- commands
+  -- ---- commands
 
--- the records are written over those from that position on
-abbrev pub Changes : ℕ → List ℕ → Role → Role → Type 0
-Changes start records (roles.Vault old) (roles.Vault new) = IsChange old new (Ok tt) start records
-Changes start records old new = ⊥
+  -- the records are written over those from that position on
+  abbrev pub Changes : ℕ → List R → Role R record_of eq_of → Role R record_of eq_of → Type 0
+  Changes start records (roles.Vault old) (roles.Vault new) = IsChange record_of.form old new (Ok tt) start records
+  Changes start records old new = ⊥
 
--- why not, and what stands then; or it is another end, and is as it was
-abbrev pub RefusesChange : ℕ → List ℕ → Refusal → Role → Role → Type 0
-RefusesChange start records refusal (roles.Vault old) (roles.Vault new) = (fault : VaultFault) × (refusal ≡ of_vault fault) × IsChange old new (Err fault) start records
-RefusesChange start records refusal (roles.Vault old) new = ⊥
-RefusesChange start records refusal old new = (refusal ≡ NotSo) × (new ≡ old)
+  -- why not, and what stands then; or it is another end, and is as it was
+  abbrev pub RefusesChange : ℕ → List R → Refusal → Role R record_of eq_of → Role R record_of eq_of → Type 0
+  RefusesChange start records refusal (roles.Vault old) (roles.Vault new) = (fault : VaultFault) × (refusal ≡ of_vault fault) × IsChange record_of.form old new (Err fault) start records
+  RefusesChange start records refusal (roles.Vault old) new = ⊥
+  RefusesChange start records refusal old new = (refusal ≡ NotSo) × (new ≡ old)
 
--- it has so many records, those that are more copies of that one
-abbrev pub Resizes : ℕ → ℕ → Role → Role → Type 0
-Resizes size x (roles.Vault old) (roles.Vault new) = IsResize old new (Ok tt) size x
-Resizes size x old new = ⊥
+  -- it has so many records, those that are more copies of that one
+  abbrev pub Resizes : ℕ → R → Role R record_of eq_of → Role R record_of eq_of → Type 0
+  Resizes size x (roles.Vault old) (roles.Vault new) = IsResize record_of.form old new (Ok tt) size x
+  Resizes size x old new = ⊥
 
-abbrev pub RefusesResize : ℕ → ℕ → Refusal → Role → Role → Type 0
-RefusesResize size x refusal (roles.Vault old) (roles.Vault new) = (fault : VaultFault) × (refusal ≡ of_vault fault) × IsResize old new (Err fault) size x
-RefusesResize size x refusal (roles.Vault old) new = ⊥
-RefusesResize size x refusal old new = (refusal ≡ NotSo) × (new ≡ old)
+  abbrev pub RefusesResize : ℕ → R → Refusal → Role R record_of eq_of → Role R record_of eq_of → Type 0
+  RefusesResize size x refusal (roles.Vault old) (roles.Vault new) = (fault : VaultFault) × (refusal ≡ of_vault fault) × IsResize record_of.form old new (Err fault) size x
+  RefusesResize size x refusal (roles.Vault old) new = ⊥
+  RefusesResize size x refusal old new = (refusal ≡ NotSo) × (new ≡ old)
 
--- it has no record
-abbrev pub Clears : Role → Role → Type 0
-Clears (roles.Vault old) (roles.Vault new) = IsClear old new (Ok tt)
-Clears old new = ⊥
+  -- it has no record
+  abbrev pub Clears : Role R record_of eq_of → Role R record_of eq_of → Type 0
+  Clears (roles.Vault old) (roles.Vault new) = IsClear record_of.form old new (Ok tt)
+  Clears old new = ⊥
 
-abbrev pub RefusesClear : Refusal → Role → Role → Type 0
-RefusesClear refusal (roles.Vault old) (roles.Vault new) = (fault : VaultFault) × (refusal ≡ of_vault fault) × IsClear old new (Err fault)
-RefusesClear refusal (roles.Vault old) new = ⊥
-RefusesClear refusal old new = (refusal ≡ NotSo) × (new ≡ old)
+  abbrev pub RefusesClear : Refusal → Role R record_of eq_of → Role R record_of eq_of → Type 0
+  RefusesClear refusal (roles.Vault old) (roles.Vault new) = (fault : VaultFault) × (refusal ≡ of_vault fault) × IsClear record_of.form old new (Err fault)
+  RefusesClear refusal (roles.Vault old) new = ⊥
+  RefusesClear refusal old new = (refusal ≡ NotSo) × (new ≡ old)
 
--- all changes are folded, if there were some
-abbrev pub FoldsAll : Bool → Role → Role → Type 0
-FoldsAll folded (roles.Vault old) (roles.Vault new) =
-    (new.made ≡ old.made) × Folds (unsigned w64) (λ relay. KeepsSoFar relay.inner) (λ relay. states_of relay.inner) folded old.vault new.vault
-FoldsAll folded old new = ⊥
+  -- all changes are folded, if there were some
+  abbrev pub FoldsAll : Bool → Role R record_of eq_of → Role R record_of eq_of → Type 0
+  FoldsAll folded (roles.Vault old) (roles.Vault new) =
+      (new.made ≡ old.made) × Folds record_of.form (λ relay. KeepsSoFar relay.inner) (λ relay. states_of relay.inner) folded old.vault new.vault
+  FoldsAll folded old new = ⊥
 
-abbrev pub RefusesFolding : Refusal → Role → Role → Type 0
-RefusesFolding refusal (roles.Vault old) (roles.Vault new) =
-    (new.made ≡ old.made) × ((fault : VaultFault) × (refusal ≡ of_vault fault) × RefusesFold (unsigned w64) (λ relay. KeepsSoFar relay.inner) (λ relay. states_of relay.inner) fault old.vault new.vault)
-RefusesFolding refusal (roles.Vault old) new = ⊥
-RefusesFolding refusal old new = (refusal ≡ NotSo) × (new ≡ old)
+  abbrev pub RefusesFolding : Refusal → Role R record_of eq_of → Role R record_of eq_of → Type 0
+  RefusesFolding refusal (roles.Vault old) (roles.Vault new) =
+      (new.made ≡ old.made) × ((fault : VaultFault) × (refusal ≡ of_vault fault) × RefusesFold record_of.form (λ relay. KeepsSoFar relay.inner) (λ relay. states_of relay.inner) fault old.vault new.vault)
+  RefusesFolding refusal (roles.Vault old) new = ⊥
+  RefusesFolding refusal old new = (refusal ≡ NotSo) × (new ≡ old)

@@ -5,9 +5,10 @@ ghost use Rattle.handle_core.specs.Refusal.{of_flush};
 ghost use Rattle.handle_core.specs.Roles.{Plans, Lists, Settles, RefusesPlan, RefusesSettle};
 
 use crate::refusal::Refusal;
-use crate::session::{Role, Session};
+use crate::session::Role;
 use flush_core::FlushFault;
 use pen_core::PenFault;
+use record_core::Record;
 use relay_core::Call;
 
 /// Why no group is committed.
@@ -21,13 +22,13 @@ fn of_flush(fault: FlushFault) -> Refusal
     }
 }
 
-impl Session {
+impl<R: Record> Role<R> {
     /// Lists the calls that commit what was grown, and answers how many growths they commit.
-    pub fn plan(&mut self) -> Result<u64, Refusal>
-        ensures plans { IfOk result (λ count. Plans count self.old.role self.new.role) }
-        ensures refused { IfErr result (λ refusal. RefusesPlan refusal self.old.role self.new.role) }
+    pub(crate) fn plan(&mut self) -> Result<u64, Refusal>
+        ensures plans { IfOk result (λ count. Plans count self.old self.new) }
+        ensures refused { IfErr result (λ refusal. RefusesPlan refusal self.old self.new) }
     {
-        match &mut self.role {
+        match self {
             Role::Committer(committer) => match committer.plan() {
                 Ok(count) => Ok(count),
                 Err(fault) => Err(of_flush(fault)),
@@ -37,10 +38,10 @@ impl Session {
     }
 
     /// The calls that the host is to make, in order.
-    pub fn calls(&self) -> Result<&[Call], Refusal>
-        ensures { IfOk result (λ calls. Lists calls.now self.now.role) }
+    pub(crate) fn calls(&self) -> Result<&[Call], Refusal>
+        ensures { IfOk result (λ calls. Lists calls.now self.now) }
     {
-        match &self.role {
+        match self {
             Role::Committer(committer) => match committer.calls() {
                 Some(calls) => Ok(calls),
                 None => Err(Refusal::Broken),
@@ -55,11 +56,11 @@ impl Session {
 
     /// The host has made the calls, and each has succeeded: the growers are told what is durable. Answers how many growths
     /// are: 0 of a vault.
-    pub fn settle(&mut self) -> Result<u64, Refusal>
-        ensures settled { IfOk result (λ count. Settles count self.old.role self.new.role) }
-        ensures refused { IfErr result (λ refusal. RefusesSettle refusal self.old.role self.new.role) }
+    pub(crate) fn settle(&mut self) -> Result<u64, Refusal>
+        ensures settled { IfOk result (λ count. Settles count self.old self.new) }
+        ensures refused { IfErr result (λ refusal. RefusesSettle refusal self.old self.new) }
     {
-        match &mut self.role {
+        match self {
             Role::Committer(committer) => match committer.settle() {
                 Some(count) => Ok(count),
                 None => Err(Refusal::Broken),

@@ -3,7 +3,7 @@
 ghost use Rattle.std.specs.Prelude.{◌≡◌, true, false, None, Some, IsSome, MatchBool, MatchOption};
 
 use crate::kept::Kept;
-use crate::session::{Role, Session};
+use crate::session::{End, Session};
 use std::alloc::Global;
 use std::mem;
 
@@ -17,14 +17,14 @@ pub struct Handle {
 }
 
 impl Handle {
-    ghost use Rattle.handle_core.specs.Handles.{role_of};
+    ghost use Rattle.handle_core.specs.Handles.{end_of};
 
     /// Takes the session out of the handle, which then has nothing. `None` where it had nothing.
     pub fn take(&mut self, alloc: Global) -> Option<Box<Session>>
-        ensures nothing { role_of self.new ≡ None }
-        ensures role { MatchOption result
-            (role_of self.old ≡ None)
-            (λ session. role_of self.old ≡ Some session.value.role) }
+        ensures nothing { end_of self.new ≡ None }
+        ensures end { MatchOption result
+            (end_of self.old ≡ None)
+            (λ session. end_of self.old ≡ Some session.value.end) }
     {
         let nothing = Handle {
             kept: Kept::nothing(alloc),
@@ -39,7 +39,7 @@ impl Handle {
 
     /// Puts a session into the handle, which has nothing.
     pub fn put(&mut self, session: Box<Session>)
-        ensures { role_of self.new ≡ Some session.value.role }
+        ensures { end_of self.new ≡ Some session.value.end }
     {
         *self = Handle {
             kept: Kept::of(session),
@@ -48,11 +48,11 @@ impl Handle {
     }
 
     /// Puts a new end into the handle. What it had is given up. It has nothing where memory for it was refused.
-    pub fn fill(&mut self, alloc: Global, role: Role) -> bool
-        ensures { MatchBool result (role_of self.new ≡ Some role) (role_of self.new ≡ None) }
+    pub fn fill(&mut self, alloc: Global, end: End) -> bool
+        ensures { MatchBool result (end_of self.new ≡ Some end) (end_of self.new ≡ None) }
     {
         drop(self.take(alloc));
-        match Box::new(alloc, Session { role }) {
+        match Box::new(alloc, Session { end }) {
             Ok(session) => {
                 self.put(session);
                 true

@@ -5,12 +5,13 @@ ghost use Rattle.handle_core.specs.Refusal.{of_begin, of_scan};
 ghost use Rattle.handle_core.specs.Roles.{Seats, RefusesSeat};
 
 use crate::refusal::Refusal;
-use crate::session::{Role, Session};
+use crate::session::Role;
 use pen_core::{OpenFault, PenFault};
-use phase_core::{BeginFault, Grower};
+use phase_core::BeginFault;
+use record_core::Record;
 use segment_core::ScanFault;
 
-/// Why a file's bytes have no vector of `u64`.
+/// Why a file's bytes have no vector of these records.
 fn of_scan(fault: ScanFault) -> Refusal
     ensures { result ≡ of_scan fault }
 {
@@ -39,15 +40,15 @@ impl Refusal {
     }
 }
 
-impl Session {
-    /// A seat for one more thread. `NotSo` where each is taken, or there is no memory.
-    pub fn seat(&mut self) -> Result<Grower, Refusal>
-        ensures seated { IfOk result (λ grower. Seats grower self.old.role self.new.role) }
-        ensures refused { IfErr result (λ refusal. RefusesSeat refusal self.old.role self.new.role) }
+impl<R: Record> Role<R> {
+    /// The end of one more thread. `NotSo` where each seat is taken, or there is no memory.
+    pub(crate) fn seat(&mut self) -> Result<Role<R>, Refusal>
+        ensures seated { IfOk result (λ seat. Seats seat self.old self.new) }
+        ensures refused { IfErr result (λ refusal. RefusesSeat refusal self.old self.new) }
     {
-        match &mut self.role {
+        match self {
             Role::Phase(phase) => match phase.grower() {
-                Some(grower) => Ok(grower),
+                Some(grower) => Ok(Role::Grower(grower)),
                 None => Err(Refusal::NotSo),
             },
             _ => Err(Refusal::NotSo),

@@ -17,7 +17,7 @@ pub enum Refusal {
     NotSegment,
     /// The file has a version that isn't known.
     Version,
-    /// The file's records aren't of 8 bytes.
+    /// The records aren't of this width: those of the file, or of the handle.
     Width,
     /// A frame of the file is at fault.
     Damaged,

@@ -2,34 +2,55 @@
 
 ghost use Rattle.std.specs.Prelude.{◌≡◌};
 
+use crate::records::{CvecFlagged, CvecPair};
 use phase_core::{Committer, Grower, HostDisk, HostVault, Phase};
+use record_core::Record;
 
 /// Which end it is.
 #[derive(Drop)]
-pub enum Role {
+pub enum Role<R: Record> {
     /// The phase, with the seats that nobody has.
-    Phase(Phase),
+    Phase(Phase<R>),
     /// A thread's own end.
-    Grower(Grower),
+    Grower(Grower<R>),
     /// Who commits for all.
-    Committer(Committer<HostDisk>),
+    Committer(Committer<R, HostDisk>),
     /// Who has the vector alone.
-    Vault(HostVault<HostDisk>),
+    Vault(HostVault<R, HostDisk>),
     /// None: it was given up.
     Nothing,
+}
+
+/// An end, by what records its vector has.
+#[derive(Drop)]
+pub enum End {
+    U32(Role<u32>),
+    /// Of `i64` too, whose bytes and whose equality are those of `u64`.
+    U64(Role<u64>),
+    Pair(Role<CvecPair>),
+    Flagged(Role<CvecFlagged>),
 }
 
 /// An end of a phase, as C keeps it.
 #[derive(Drop)]
 pub struct Session {
-    pub role: Role,
+    pub end: End,
+}
+
+impl<R: Record> Role<R> {
+    /// It is this end then, and no other.
+    pub(crate) fn put(&mut self, role: Role<R>)
+        ensures { self.new ≡ role }
+    {
+        *self = role;
+    }
 }
 
 impl Session {
     /// It has this end then, and no other.
-    pub(crate) fn put(&mut self, role: Role)
-        ensures { self.new.role ≡ role }
+    pub(crate) fn put(&mut self, end: End)
+        ensures { self.new.end ≡ end }
     {
-        self.role = role;
+        self.end = end;
     }
 }

@@ -1,24 +1,25 @@
 //! The calls of a vault, and those by which an end becomes one.
 
-ghost use Rattle.std.specs.Prelude.{◌≡◌, IfOk, IfErr, OnOk, MatchOption};
+ghost use Rattle.std.specs.Prelude.{◌≡◌, true, IfOk, IfErr, OnOk, MatchOption};
 ghost use Rattle.handle_core.specs.Refusal.{of_pen};
 ghost use Rattle.handle_core.specs.Vaults.{GathersIn, RefusesGathering, SharesOut, RefusesSharing, Measures, ReadsAll, Counts, Finds, IsNoVault, Changes, RefusesChange, Resizes, RefusesResize, Clears, RefusesClear, FoldsAll, RefusesFolding};
 
 use crate::refusal::Refusal;
-use crate::session::{Role, Session};
+use crate::session::Role;
 use pen_core::PenFault;
-use phase_core::{Committer, HostDisk, HostVault, Phase};
+use phase_core::{Committer, HostDisk, HostVault};
+use record_core::Record;
 use std::alloc::Global;
 use std::mem;
 
-impl Session {
+impl<R: Record> Role<R> {
     /// Who commits has the vector alone from then on. `Busy`, while another end of its phase isn't closed; `Broken`;
     /// `Unsettled`, where not all growths are committed; `Memory`.
-    pub fn gather(&mut self, alloc: Global) -> Result<(), Refusal>
-        ensures gathers { OnOk result (GathersIn self.old.role self.new.role) }
-        ensures refused { IfErr result (λ refusal. RefusesGathering refusal self.old.role self.new.role) }
+    pub(crate) fn gather(&mut self, alloc: Global) -> Result<(), Refusal>
+        ensures gathers { OnOk result (GathersIn self.old self.new) }
+        ensures refused { IfErr result (λ refusal. RefusesGathering refusal self.old self.new) }
     {
-        match mem::replace(&mut self.role, Role::Nothing) {
+        match mem::replace(self, Role::Nothing) {
             Role::Committer(committer) => self.gather_phase(alloc, committer),
             other => {
                 self.put(other);
@@ -28,10 +29,14 @@ impl Session {
     }
 
     /// The phase whose committer it had is gathered.
-    fn gather_phase(&mut self, alloc: Global, committer: Committer<HostDisk>) -> Result<(), Refusal>
-        requires { self.old.role ≡ Role.Nothing }
-        ensures gathers { OnOk result (GathersIn (Role.Committer committer) self.new.role) }
-        ensures refused { IfErr result (λ refusal. RefusesGathering refusal (Role.Committer committer) self.new.role) }
+    fn gather_phase(
+        &mut self,
+        alloc: Global,
+        committer: Committer<R, HostDisk>,
+    ) -> Result<(), Refusal>
+        requires { self.old ≡ Role.Nothing }
+        ensures gathers { OnOk result (GathersIn (Role.Committer committer) self.new) }
+        ensures refused { IfErr result (λ refusal. RefusesGathering refusal (Role.Committer committer) self.new) }
     {
         match committer.gather(alloc) {
             Ok(vault) => {
@@ -45,14 +50,20 @@ impl Session {
         }
     }
 
-    /// A vault is lent to a phase with so many seats, whose end is answered, and to who commits. Where there was no memory for
-    /// what these share, the handle has no end.
-    pub fn share(&mut self, alloc: Global, seats: u16) -> Result<Box<Session>, Refusal>
-        ensures shares { IfOk result (λ end. SharesOut seats end.value.role self.old.role self.new.role) }
-        ensures refused { IfErr result (λ refusal. RefusesSharing seats refusal self.old.role self.new.role) }
+    /// A vault is lent to a phase with so many seats, whose end is answered, and to who commits. `Memory` too where its caller
+    /// has no room for that end. Where there was no memory for what these share, it is no end.
+    pub(crate) fn share(
+        &mut self,
+        alloc: Global,
+        seats: u16,
+        has_room: bool,
+    ) -> Result<Role<R>, Refusal>
+        ensures shares { IfOk result (λ end. SharesOut seats end self.old self.new) }
+        ensures room { OnOk result (has_room ≡ true) }
+        ensures refused { IfErr result (λ refusal. RefusesSharing seats refusal self.old self.new) }
     {
-        match mem::replace(&mut self.role, Role::Nothing) {
-            Role::Vault(vault) => self.share_vault(alloc, vault, seats),
+        match mem::replace(self, Role::Nothing) {
+            Role::Vault(vault) => self.share_vault(alloc, vault, seats, has_room),
             other => {
                 self.put(other);
                 Err(Refusal::NotSo)
@@ -64,45 +75,33 @@ impl Session {
     fn share_vault(
         &mut self,
         alloc: Global,
-        vault: HostVault<HostDisk>,
+        vault: HostVault<R, HostDisk>,
         seats: u16,
-    ) -> Result<Box<Session>, Refusal>
-        requires { self.old.role ≡ Role.Nothing }
-        ensures shares { IfOk result (λ end. SharesOut seats end.value.role (Role.Vault vault) self.new.role) }
-        ensures refused { IfErr result (λ refusal. RefusesSharing seats refusal (Role.Vault vault) self.new.role) }
+        has_room: bool,
+    ) -> Result<Role<R>, Refusal>
+        requires { self.old ≡ Role.Nothing }
+        ensures shares { IfOk result (λ end. SharesOut seats end (Role.Vault vault) self.new) }
+        ensures room { OnOk result (has_room ≡ true) }
+        ensures refused { IfErr result (λ refusal. RefusesSharing seats refusal (Role.Vault vault) self.new) }
     {
-        let Ok(end) = Box::new(
-            alloc,
-            Session {
-                role: Role::Nothing,
-            },
-        ) else {
+        if !has_room {
             self.put(Role::Vault(vault));
             return Err(Refusal::Memory);
-        };
+        }
         match vault.share(alloc, seats) {
-            Ok(ends) => Ok(self.begin_phase(end, ends)),
+            Ok((phase, committer)) => {
+                self.put(Role::Committer(committer));
+                Ok(Role::Phase(phase))
+            }
             Err((left, fault)) => Err(self.keep_vault(left, fault)),
         }
     }
 
-    /// It has who commits then, and the other end the phase.
-    fn begin_phase(&mut self, end: Box<Session>, ends: (Phase, Committer<HostDisk>)) -> Box<Session>
-        ensures phase { result.value.role ≡ Role.Phase ends.0 }
-        ensures committer { self.new.role ≡ Role.Committer ends.1 }
-    {
-        let (phase, committer) = ends;
-        let mut end = end;
-        self.put(Role::Committer(committer));
-        end.put(Role::Phase(phase));
-        end
-    }
-
     /// It has the vault again that a refused sharing left, if it left one.
-    fn keep_vault(&mut self, left: Option<HostVault<HostDisk>>, fault: PenFault) -> Refusal
+    fn keep_vault(&mut self, left: Option<HostVault<R, HostDisk>>, fault: PenFault) -> Refusal
         ensures { MatchOption left
-            ((result ≡ Refusal.Memory) × (self.new.role ≡ self.old.role))
-            (λ vault. (result ≡ of_pen fault) × (self.new.role ≡ Role.Vault vault)) }
+            ((result ≡ Refusal.Memory) × (self.new ≡ self.old))
+            (λ vault. (result ≡ of_pen fault) × (self.new ≡ Role.Vault vault)) }
     {
         match left {
             Some(vault) => {
@@ -114,55 +113,55 @@ impl Session {
     }
 
     /// How many records a vault has.
-    pub fn measure(&self) -> Result<u64, Refusal>
-        ensures size { IfOk result (λ size. Measures size self.now.role self.now.role) }
-        ensures refused { IfErr result (λ refusal. IsNoVault refusal self.now.role self.now.role) }
+    pub(crate) fn measure(&self) -> Result<u64, Refusal>
+        ensures size { IfOk result (λ size. Measures size self.now self.now) }
+        ensures refused { IfErr result (λ refusal. IsNoVault refusal self.now self.now) }
     {
-        match &self.role {
+        match self {
             Role::Vault(vault) => Ok(vault.len()),
             _ => Err(Refusal::NotSo),
         }
     }
 
     /// Copies a vault's records from position `from` on to the front of `out`, and answers how many: as far as both reach.
-    pub fn read_all(&self, from: u64, out: &mut [u64]) -> Result<u64, Refusal>
-        ensures read { IfOk result (λ count. ReadsAll from out.old out.new count self.now.role self.now.role) }
-        ensures refused { IfErr result (λ refusal. IsNoVault refusal self.now.role self.now.role × (out.new ≡ out.old)) }
+    pub(crate) fn read_all(&self, from: u64, out: &mut [R]) -> Result<u64, Refusal>
+        ensures read { IfOk result (λ count. ReadsAll from out.old out.new count self.now self.now) }
+        ensures refused { IfErr result (λ refusal. IsNoVault refusal self.now self.now × (out.new ≡ out.old)) }
     {
-        match &self.role {
+        match self {
             Role::Vault(vault) => Ok(vault.read(from, out) as u64),
             _ => Err(Refusal::NotSo),
         }
     }
 
     /// How many records of a vault equal this one.
-    pub fn count(&self, sought: u64) -> Result<u64, Refusal>
-        ensures count { IfOk result (λ count. Counts sought count self.now.role self.now.role) }
-        ensures refused { IfErr result (λ refusal. IsNoVault refusal self.now.role self.now.role) }
+    pub(crate) fn count(&self, sought: R) -> Result<u64, Refusal>
+        ensures count { IfOk result (λ count. Counts sought count self.now self.now) }
+        ensures refused { IfErr result (λ refusal. IsNoVault refusal self.now self.now) }
     {
-        match &self.role {
+        match self {
             Role::Vault(vault) => Ok(vault.count(sought)),
             _ => Err(Refusal::NotSo),
         }
     }
 
     /// The first position from `from` on whose record equals this one, or how many records a vault has.
-    pub fn find(&self, sought: u64, from: u64) -> Result<u64, Refusal>
-        ensures found { IfOk result (λ place. Finds sought from place self.now.role self.now.role) }
-        ensures refused { IfErr result (λ refusal. IsNoVault refusal self.now.role self.now.role) }
+    pub(crate) fn find(&self, sought: R, from: u64) -> Result<u64, Refusal>
+        ensures found { IfOk result (λ place. Finds sought from place self.now self.now) }
+        ensures refused { IfErr result (λ refusal. IsNoVault refusal self.now self.now) }
     {
-        match &self.role {
+        match self {
             Role::Vault(vault) => Ok(vault.find(sought, from)),
             _ => Err(Refusal::NotSo),
         }
     }
 
     /// Writes records over those of a vault from position `start` on.
-    pub fn change(&mut self, start: u64, records: &[u64]) -> Result<(), Refusal>
-        ensures changes { OnOk result (Changes start records.now self.old.role self.new.role) }
-        ensures refused { IfErr result (λ refusal. RefusesChange start records.now refusal self.old.role self.new.role) }
+    pub(crate) fn change(&mut self, start: u64, records: &[R]) -> Result<(), Refusal>
+        ensures changes { OnOk result (Changes start records.now self.old self.new) }
+        ensures refused { IfErr result (λ refusal. RefusesChange start records.now refusal self.old self.new) }
     {
-        match &mut self.role {
+        match self {
             Role::Vault(vault) => match vault.change(start, records) {
                 Ok(()) => Ok(()),
                 Err(fault) => Err(Refusal::of_vault(fault)),
@@ -172,11 +171,11 @@ impl Session {
     }
 
     /// Makes the length of a vault `size`: takes records away, or appends copies of this one.
-    pub fn resize(&mut self, size: u64, filler: u64) -> Result<(), Refusal>
-        ensures resizes { OnOk result (Resizes size filler self.old.role self.new.role) }
-        ensures refused { IfErr result (λ refusal. RefusesResize size filler refusal self.old.role self.new.role) }
+    pub(crate) fn resize(&mut self, size: u64, filler: R) -> Result<(), Refusal>
+        ensures resizes { OnOk result (Resizes size filler self.old self.new) }
+        ensures refused { IfErr result (λ refusal. RefusesResize size filler refusal self.old self.new) }
     {
-        match &mut self.role {
+        match self {
             Role::Vault(vault) => match vault.resize(size, filler) {
                 Ok(()) => Ok(()),
                 Err(fault) => Err(Refusal::of_vault(fault)),
@@ -186,11 +185,11 @@ impl Session {
     }
 
     /// Takes all records of a vault away.
-    pub fn clear(&mut self) -> Result<(), Refusal>
-        ensures clears { OnOk result (Clears self.old.role self.new.role) }
-        ensures refused { IfErr result (λ refusal. RefusesClear refusal self.old.role self.new.role) }
+    pub(crate) fn clear(&mut self) -> Result<(), Refusal>
+        ensures clears { OnOk result (Clears self.old self.new) }
+        ensures refused { IfErr result (λ refusal. RefusesClear refusal self.old self.new) }
     {
-        match &mut self.role {
+        match self {
             Role::Vault(vault) => match vault.clear() {
                 Ok(()) => Ok(()),
                 Err(fault) => Err(Refusal::of_vault(fault)),
@@ -200,11 +199,11 @@ impl Session {
     }
 
     /// Folds all changes of a vault, and answers whether there were some.
-    pub fn fold(&mut self) -> Result<bool, Refusal>
-        ensures folds { IfOk result (λ folded. FoldsAll folded self.old.role self.new.role) }
-        ensures refused { IfErr result (λ refusal. RefusesFolding refusal self.old.role self.new.role) }
+    pub(crate) fn fold(&mut self) -> Result<bool, Refusal>
+        ensures folds { IfOk result (λ folded. FoldsAll folded self.old self.new) }
+        ensures refused { IfErr result (λ refusal. RefusesFolding refusal self.old self.new) }
     {
-        match &mut self.role {
+        match self {
             Role::Vault(vault) => match vault.fold() {
                 Ok(folded) => Ok(folded),
                 Err(fault) => Err(Refusal::of_vault(fault)),

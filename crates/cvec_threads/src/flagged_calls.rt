@@ -1,0 +1,114 @@
+//! The calls that name records of flagged.
+
+ghost use Rattle.std.specs.Prelude.{◌≡◌, ◌≢◌};
+ghost use Rattle.handle_core.specs.Roles.{Grows, Reads, RefusesGrowth, IsNoGrower};
+ghost use Rattle.handle_core.specs.Vaults.{ReadsAll, Counts, Finds, IsNoVault, Changes, RefusesChange, Resizes, RefusesResize};
+ghost use Rattle.handle_core.specs.Handles.{end_of, Becomes, Refused};
+ghost use Rattle.handle_core.specs.Ends.{AtFlagged, RefusedFlagged};
+ghost use Rattle.cvec_threads.specs.Answers.{receipt_of};
+
+use crate::growing::CvecReceipt;
+use crate::of_records;
+use handle_core::{CvecFlagged, Handle};
+use std::alloc::Global;
+
+/// Grows by copies of the records, as one block behind all that was grown before.
+#[unsafe(no_mangle)]
+pub extern "C" fn cvec_phase_grow_flagged(
+    alloc: Global,
+    grower: &mut Handle,
+    records: &[CvecFlagged],
+    receipt: &mut CvecReceipt,
+) -> u32
+    ensures grown { result ≡ 0 → Becomes (AtFlagged (Grows records.now (receipt_of receipt.new))) (end_of grower.old) (end_of grower.new) }
+    ensures refused { result ≢ 0 → Refused (RefusedFlagged (RefusesGrowth records.now)) result (end_of grower.old) (end_of grower.new) × (receipt.new ≡ receipt.old) }
+{
+    of_records::grow(alloc, grower, records, receipt)
+}
+
+/// Copies records from position `from` on to the front of `out`, as many as stand in one piece there.
+#[unsafe(no_mangle)]
+pub extern "C" fn cvec_phase_read_flagged(
+    alloc: Global,
+    grower: &mut Handle,
+    from: u64,
+    out: &mut [CvecFlagged],
+    count: &mut u64,
+) -> u32
+    ensures read { result ≡ 0 → Becomes (AtFlagged (Reads from out.old out.new count.new)) (end_of grower.old) (end_of grower.new) }
+    ensures refused { result ≢ 0 → Refused (RefusedFlagged IsNoGrower) result (end_of grower.old) (end_of grower.new) × (out.new ≡ out.old) × (count.new ≡ count.old) }
+{
+    of_records::read(alloc, grower, from, out, count)
+}
+
+/// Copies records from position `from` on to the front of `out`, as far as both reach.
+#[unsafe(no_mangle)]
+pub extern "C" fn cvec_vault_read_flagged(
+    alloc: Global,
+    vault: &mut Handle,
+    from: u64,
+    out: &mut [CvecFlagged],
+    count: &mut u64,
+) -> u32
+    ensures read { result ≡ 0 → Becomes (AtFlagged (ReadsAll from out.old out.new count.new)) (end_of vault.old) (end_of vault.new) }
+    ensures refused { result ≢ 0 → Refused (RefusedFlagged IsNoVault) result (end_of vault.old) (end_of vault.new) × (out.new ≡ out.old) × (count.new ≡ count.old) }
+{
+    of_records::read_all(alloc, vault, from, out, count)
+}
+
+/// How many of the vault's records equal this one.
+#[unsafe(no_mangle)]
+pub extern "C" fn cvec_vault_count_flagged(
+    alloc: Global,
+    vault: &mut Handle,
+    sought: &CvecFlagged,
+    count: &mut u64,
+) -> u32
+    ensures count { result ≡ 0 → Becomes (AtFlagged (Counts sought.now count.new)) (end_of vault.old) (end_of vault.new) }
+    ensures refused { result ≢ 0 → Refused (RefusedFlagged IsNoVault) result (end_of vault.old) (end_of vault.new) × (count.new ≡ count.old) }
+{
+    of_records::count(alloc, vault, *sought, count)
+}
+
+/// The first position from `from` on whose record equals this one, or how many records there are.
+#[unsafe(no_mangle)]
+pub extern "C" fn cvec_vault_find_flagged(
+    alloc: Global,
+    vault: &mut Handle,
+    sought: &CvecFlagged,
+    from: u64,
+    place: &mut u64,
+) -> u32
+    ensures found { result ≡ 0 → Becomes (AtFlagged (Finds sought.now from place.new)) (end_of vault.old) (end_of vault.new) }
+    ensures refused { result ≢ 0 → Refused (RefusedFlagged IsNoVault) result (end_of vault.old) (end_of vault.new) × (place.new ≡ place.old) }
+{
+    of_records::find(alloc, vault, *sought, from, place)
+}
+
+/// Writes the records over those from position `start` on, and lists the calls of the file that commit it.
+#[unsafe(no_mangle)]
+pub extern "C" fn cvec_vault_change_flagged(
+    alloc: Global,
+    vault: &mut Handle,
+    start: u64,
+    records: &[CvecFlagged],
+) -> u32
+    ensures changes { result ≡ 0 → Becomes (AtFlagged (Changes start records.now)) (end_of vault.old) (end_of vault.new) }
+    ensures refused { result ≢ 0 → Refused (RefusedFlagged (RefusesChange start records.now)) result (end_of vault.old) (end_of vault.new) }
+{
+    of_records::change(alloc, vault, start, records)
+}
+
+/// Makes the vault's length `size`: takes records away, or appends copies of this one; and lists the calls that commit it.
+#[unsafe(no_mangle)]
+pub extern "C" fn cvec_vault_resize_flagged(
+    alloc: Global,
+    vault: &mut Handle,
+    size: u64,
+    filler: &CvecFlagged,
+) -> u32
+    ensures resizes { result ≡ 0 → Becomes (AtFlagged (Resizes size filler.now)) (end_of vault.old) (end_of vault.new) }
+    ensures refused { result ≢ 0 → Refused (RefusedFlagged (RefusesResize size filler.now)) result (end_of vault.old) (end_of vault.new) }
+{
+    of_records::resize(alloc, vault, size, *filler)
+}
