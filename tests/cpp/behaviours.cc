@@ -1,16 +1,16 @@
 // Behaviours of cvec::concurrent_vector, each by its name: behaviours NAME FILE. The status is 0 where it is as promised; else
 // a line says what isn't.
-#define cvec_vector_read counted_read
+#define cvec_vector_read_records counted_read
 #define cvec_vector_await_for asked_await_for
-#define cvec_vector_resize refused_resize
-#define cvec_vector_change refused_change
+#define cvec_vector_resize_by refused_resize
+#define cvec_vector_change_records refused_change
 #define cvec_vector_fold refused_fold
 #define cvec_vector_take_seat careless_take_seat
 #include "told.hpp"
-#undef cvec_vector_read
+#undef cvec_vector_read_records
 #undef cvec_vector_await_for
-#undef cvec_vector_resize
-#undef cvec_vector_change
+#undef cvec_vector_resize_by
+#undef cvec_vector_change_records
 #undef cvec_vector_fold
 #undef cvec_vector_take_seat
 
@@ -30,12 +30,12 @@
 static std::atomic<int> reads{0};
 static std::function<void()> during_read;
 
-extern "C" std::uint32_t cvec_vector_read(cvec_vector_seat *, std::uint64_t, std::uint64_t *, std::size_t, std::uint64_t *);
-extern "C" std::uint32_t counted_read(cvec_vector_seat *seat, std::uint64_t from, std::uint64_t *out, std::size_t room,
+extern "C" std::uint32_t cvec_vector_read_records(cvec_vector_seat *, std::uint64_t, void *, std::size_t, std::uint64_t *);
+extern "C" std::uint32_t counted_read(cvec_vector_seat *seat, std::uint64_t from, void *out, std::size_t room,
                                       std::uint64_t *count) {
     ++reads;
     if (during_read) during_read();
-    return cvec_vector_read(seat, from, out, room, count);
+    return cvec_vector_read_records(seat, from, out, room, count);
 }
 
 // For how many milliseconds the vector was asked to wait at most, and what it answers in place of its own answer.
@@ -59,16 +59,15 @@ static bool is_refused_now() {
     return true;
 }
 
-extern "C" std::uint32_t cvec_vector_resize(cvec_vector *, std::uint64_t, std::uint64_t);
-extern "C" std::uint32_t refused_resize(cvec_vector *vector, std::uint64_t size, std::uint64_t record) {
-    return is_refused_now() ? std::uint32_t{CVEC_MEMORY} : cvec_vector_resize(vector, size, record);
+extern "C" std::uint32_t cvec_vector_resize_by(cvec_vector *, std::uint64_t, const void *);
+extern "C" std::uint32_t refused_resize(cvec_vector *vector, std::uint64_t size, const void *record) {
+    return is_refused_now() ? std::uint32_t{CVEC_MEMORY} : cvec_vector_resize_by(vector, size, record);
 }
 
-extern "C" std::uint32_t cvec_vector_change(cvec_vector *, std::uint64_t, const std::uint64_t *, std::size_t);
-extern "C" std::uint32_t refused_change(cvec_vector *vector, std::uint64_t start, const std::uint64_t *records,
-                                        std::size_t count) {
+extern "C" std::uint32_t cvec_vector_change_records(cvec_vector *, std::uint64_t, const void *, std::size_t);
+extern "C" std::uint32_t refused_change(cvec_vector *vector, std::uint64_t start, const void *records, std::size_t count) {
     if (before_change) before_change();
-    return is_refused_now() ? std::uint32_t{CVEC_MEMORY} : cvec_vector_change(vector, start, records, count);
+    return is_refused_now() ? std::uint32_t{CVEC_MEMORY} : cvec_vector_change_records(vector, start, records, count);
 }
 
 extern "C" std::uint32_t cvec_vector_fold(cvec_vector *);

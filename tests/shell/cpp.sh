@@ -124,13 +124,18 @@ rows_in_cpp_have_any_size() (
     make_cpp
     link_cpp -O0 -o "$work/sizes" "$cpp_tests/sizes.cc"
     "$work/sizes" "$work/t.cv"
-    run list u64 "$work/t.cv"
-    printf '%s\n' 4294967295 5 2147483648 4294967294 4294967294 4294967292 4294967293 4294967294 4294967295 \
-        18446744069414584327 | cmp - "$out"
+    run list u32 "$work/t.cv"
+    printf '%s\n' 4294967295 5 2147483648 4294967294 4294967294 4294967292 4294967293 4294967294 4294967295 | cmp - "$out"
+    run list u64 "$work/t.cv.u64"
+    printf '%s\n' 4294967295 5 2147483648 18446744069414584327 | cmp - "$out"
     run list u64 "$work/t.cv.char"
     did '65\n'
-    run list u64 "$work/t.cv.float"
+    run list u32 "$work/t.cv.float"
     did '1065353216\n'
+    run list pair "$work/t.cv.pair"
+    did '5:-7\n'
+    run list flagged "$work/t.cv.flagged"
+    did '5:1\n6:0\n'
     run list u64 "$work/t.cv.3"
     did '197121\n'
     run list u64 "$work/t.cv.9"

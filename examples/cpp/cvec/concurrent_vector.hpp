@@ -1,7 +1,8 @@
 // cvec::concurrent_vector<T>: a durable vector that the threads of one process grow, in the manner of oneTBB's, for C++17.
 //
 // It stands on cvec_vector.h, which is C, and is not proved; docs/use/cpp.md has its rules. In the file a row, which is one T,
-// is as many records of 8 bytes as T needs, one behind the other; behind T the last of them has zeros.
+// is one record: of u32 where T has 4 bytes, of u64 where it has 8, a pair where it has 16, and a flagged where T is
+// cvec_flagged. Any other T is as many records of u64 as it needs, one behind the other; behind T the last of them has zeros.
 #ifndef CVEC_CONCURRENT_VECTOR_HPP
 #define CVEC_CONCURRENT_VECTOR_HPP
 
@@ -79,14 +80,39 @@ struct growth {
     std::size_t length;   // how many rows it has
 };
 
-// ---- a file of words
+// ---- how rows are kept in a file
+
+// By one record each, where T has the width of one.
+struct one_record {};
+
+// By records of u64, whatever T is. So did versions of this header before there were others: it opens files that these made of
+// a T of 4 or 16 bytes.
+struct rows_of_u64 {};
+
+// ---- a file of words, which are its records
 
 namespace detail {
 
-constexpr std::size_t word_bytes = sizeof(std::uint64_t);
+// A word in memory, its type, and its bytes in a file.
+template <class Word, cvec_type Type, std::size_t Width> struct kept_by {
+    using word = Word;
+    static constexpr cvec_type type = Type;
+    static constexpr std::size_t width = Width;
+};
+
+using by_u64 = kept_by<std::uint64_t, CVEC_U64, 8>;
+
+template <class T>
+using by_record = std::conditional_t<
+    std::is_same_v<T, cvec_flagged>, kept_by<cvec_flagged, CVEC_FLAGGED, 9>,
+    std::conditional_t<sizeof(T) == 4, kept_by<std::uint32_t, CVEC_U32, 4>,
+                       std::conditional_t<sizeof(T) == 16, kept_by<cvec_pair, CVEC_PAIR, 16>, by_u64>>>;
+
+template <class T, class Layout> using keeping = std::conditional_t<std::is_same_v<Layout, rows_of_u64>, by_u64, by_record<T>>;
+
 constexpr std::size_t most_seats = 64;
 // What one growth may have: 2^20 bytes of payload, with 8 of its own.
-constexpr std::size_t most_words = ((std::size_t{1} << 20) - 8) / word_bytes;
+constexpr std::size_t most_bytes = (std::size_t{1} << 20) - 8;
 constexpr std::uint64_t most_records = std::uint64_t{1} << 32;
 constexpr std::size_t cache_line = 64;
 // For a file that is opened again, and that another process has meanwhile.
@@ -145,7 +171,8 @@ class patience {
 // once. No code of the user runs while a seat is lent, so no call waits for a seat that its own thread has.
 class word_file {
   public:
-    word_file(const std::string &path, const options &wanted) : limit_(wanted.seats), process_(::getpid()), path_(path) {
+    word_file(const std::string &path, cvec_type type, const options &wanted)
+        : type_(type), limit_(wanted.seats), process_(::getpid()), path_(path) {
         if (limit_ == 0 || limit_ > most_seats) refuse(CVEC_NOT_SO, "a vector has 1 to 64 seats");
         begin(wanted);
         remember_path();
@@ -162,7 +189,7 @@ class word_file {
     void close() { require(give_up()); }
 
     // Some words as one growth. The receipt counts growths from when the file was opened first.
-    cvec_receipt grow(const std::uint64_t *words, std::size_t count) {
+    cvec_receipt grow(const void *words, std::size_t count) {
         for (;;) {
             std::uint64_t openings = 0;
             cvec_receipt receipt{};
@@ -236,10 +263,10 @@ class word_file {
     }
 
     // Copies words from this place on, and answers how many there were.
-    std::size_t read(std::uint64_t from, std::uint64_t *out, std::size_t room) {
+    std::size_t read(std::uint64_t from, void *out, std::size_t room) {
         const lease lent(*this);
         std::uint64_t count = 0;
-        require(cvec_vector_read(lent.seat(), from, out, room, &count));
+        require(cvec_vector_read_records(lent.seat(), from, out, room, &count));
         return static_cast<std::size_t>(count);
     }
 
@@ -249,14 +276,14 @@ class word_file {
     }
 
     // Writes some words over those from this place on, as one frame. False: not all of those are there, and nothing is written.
-    bool change(std::uint64_t from, const std::uint64_t *words, std::size_t count) {
+    bool change(std::uint64_t from, const void *words, std::size_t count) {
         if (count == 0) return from <= size();
         bool is_there = false;
         const auto are_there = [&](std::uint64_t size) {
             is_there = from <= size && count <= size - from;
             return is_there;
         };
-        run_alone(are_there, [&] { return cvec_vector_change(vector_, from, words, count); });
+        run_alone(are_there, [&] { return cvec_vector_change_records(vector_, from, words, count); });
         return is_there;
     }
 
@@ -333,13 +360,18 @@ class word_file {
     // -- beginning
 
     void begin(const options &wanted) {
-        require(wanted.how == opening::open     ? open()
-                : wanted.how == opening::create ? create(wanted.version)
-                                                : open_or_create(wanted.version));
+        const std::uint32_t status = wanted.how == opening::open     ? open()
+                                     : wanted.how == opening::create ? create(wanted.version)
+                                                                     : open_or_create(wanted.version);
+        if (status == CVEC_WIDTH && type_ != CVEC_U64)
+            refuse(status, "its records have another width; one of rows_of_u64 is opened as such");
+        require(status);
     }
 
-    std::uint32_t open() { return cvec_vector_open(&vector_, path_.c_str(), limit_); }
-    std::uint32_t create(std::uint8_t version) { return cvec_vector_create(&vector_, path_.c_str(), version, limit_); }
+    std::uint32_t open() { return cvec_vector_open_as(&vector_, path_.c_str(), type_, limit_); }
+    std::uint32_t create(std::uint8_t version) {
+        return cvec_vector_create_as(&vector_, path_.c_str(), type_, version, limit_);
+    }
 
     // What a stopped creation has left isn't opened, but created over, as a file that isn't there.
     std::uint32_t open_or_create(std::uint8_t version) {
@@ -418,10 +450,10 @@ class word_file {
 
     // -- growing, and opening again
 
-    std::uint32_t try_grow(const std::uint64_t *words, std::size_t count, cvec_receipt &receipt, std::uint64_t &openings) {
+    std::uint32_t try_grow(const void *words, std::size_t count, cvec_receipt &receipt, std::uint64_t &openings) {
         const lease lent(*this);
         openings = openings_;
-        const std::uint32_t status = cvec_vector_grow(lent.seat(), words, count, &receipt);
+        const std::uint32_t status = cvec_vector_grow_records(lent.seat(), words, count, &receipt);
         if (status != CVEC_DONE) return status;
         receipt.number += base_;
         lent.note_grown(receipt.number + 1);
@@ -529,10 +561,11 @@ class word_file {
 
     // While no seat is taken. What was changed has to be folded before.
     std::uint32_t cut_alone(std::uint64_t length) {
-        std::uint32_t status = cvec_vector_resize(vector_, length, 0);
+        const cvec_pair unused{}; // as large as any record: the length doesn't rise
+        std::uint32_t status = cvec_vector_resize_by(vector_, length, &unused);
         if (status != CVEC_UNFOLDED) return status;
         status = cvec_vector_fold(vector_);
-        return status == CVEC_DONE ? cvec_vector_resize(vector_, length, 0) : status;
+        return status == CVEC_DONE ? cvec_vector_resize_by(vector_, length, &unused) : status;
     }
 
     // With all seats, which were closed behind settle_all. Those that it takes count growths from 0, or, where nothing was done,
@@ -591,6 +624,7 @@ class word_file {
 
     std::array<slot, most_seats> slots_;
     std::atomic<std::size_t> seated_{0}; // so many slots have a seat
+    cvec_type type_;
     std::uint16_t limit_;
     pid_t process_;
     cvec_vector *vector_ = nullptr;
@@ -619,30 +653,33 @@ class word_file {
 template <class T> struct is_its_bytes : std::is_trivially_copyable<T> {};
 template <class A, class B> struct is_its_bytes<std::pair<A, B>> : std::conjunction<is_its_bytes<A>, is_its_bytes<B>> {};
 
-template <class T> struct row {
+template <class T, class Layout = one_record> struct row {
+    using kept = keeping<T, Layout>;
+    using word = typename kept::word;
+
     static_assert(is_its_bytes<T>::value && std::is_copy_constructible_v<T> && !std::is_const_v<T> && !std::is_volatile_v<T>,
                   "cvec::concurrent_vector<T>: T is copied to a file byte by byte, so it is trivially copyable, and not const");
     static_assert(sizeof(T) <= 256, "cvec::concurrent_vector<T>: T has 256 bytes at most");
 
-    static constexpr std::size_t words = (sizeof(T) + word_bytes - 1) / word_bytes;
-    static constexpr std::size_t bytes = words * word_bytes;
-    static constexpr std::size_t most_in_growth = most_words / words;
+    static constexpr std::size_t words = (sizeof(T) + sizeof(word) - 1) / sizeof(word);
+    static constexpr std::size_t bytes = words * sizeof(word);
+    static constexpr std::size_t most_in_growth = most_bytes / (words * kept::width);
 
     // Copies, since a T may be aligned to less than a word, or be no row of words to the compiler. Behind T there are zeros: no
     // bytes of this process, and equal ones for equal rows.
-    static void store(const T &value, std::uint64_t *out) noexcept {
-        out[words - 1] = 0;
+    static void store(const T &value, word *out) noexcept {
+        out[words - 1] = word{};
         std::memcpy(out, &value, sizeof(T));
     }
 
     // What stands behind T isn't looked at.
-    static T load(const std::uint64_t *from) noexcept {
+    static T load(const word *from) noexcept {
         alignas(T) unsigned char copy[sizeof(T)];
         std::memcpy(copy, from, sizeof(T));
         return *std::launder(reinterpret_cast<T *>(copy));
     }
 
-    static void add(std::vector<std::uint64_t> &out, const T &value) {
+    static void add(std::vector<word> &out, const T &value) {
         const std::size_t end = out.size();
         out.resize(end + words);
         store(value, out.data() + end);
@@ -650,20 +687,20 @@ template <class T> struct row {
 
     // Whether what such an iterator walks over lies in memory as a row of words.
     template <class Iterator>
-    static constexpr bool is_in_a_row = sizeof(T) == bytes && alignof(T) % alignof(std::uint64_t) == 0 &&
+    static constexpr bool is_in_a_row = sizeof(T) == bytes && alignof(T) % alignof(word) == 0 &&
                                         (std::is_same_v<Iterator, T *> || std::is_same_v<Iterator, const T *> ||
                                          std::is_same_v<Iterator, typename std::vector<T>::iterator> ||
                                          std::is_same_v<Iterator, typename std::vector<T>::const_iterator>);
 
     // The rows of a range. No seat is lent meanwhile, so the range may be one of the same vector.
-    template <class Iterator> static std::vector<std::uint64_t> words_of(Iterator first, Iterator last) {
-        std::vector<std::uint64_t> found;
+    template <class Iterator> static std::vector<word> words_of(Iterator first, Iterator last) {
+        std::vector<word> found;
         for (; first != last; ++first) add(found, *first);
         return found;
     }
 
-    static std::vector<std::uint64_t> copies_of(const T &value, std::size_t count) {
-        std::vector<std::uint64_t> found(count * words);
+    static std::vector<word> copies_of(const T &value, std::size_t count) {
+        std::vector<word> found(count * words);
         for (std::size_t k = 0; k < count; ++k) store(value, found.data() + k * words);
         return found;
     }
@@ -672,13 +709,13 @@ template <class T> struct row {
         if (rows > most_in_growth) file.refuse(CVEC_TOO_LARGE);
     }
 
-    static growth grow(word_file &file, const std::uint64_t *from, std::size_t rows) {
+    static growth grow(word_file &file, const word *from, std::size_t rows) {
         refuse_too_many(file, rows);
         const cvec_receipt made = file.grow(from, rows * words);
         return {made.number, static_cast<std::size_t>(made.start / words), rows};
     }
 
-    static growth grow(word_file &file, const std::vector<std::uint64_t> &all) {
+    static growth grow(word_file &file, const std::vector<word> &all) {
         return grow(file, all.data(), all.size() / words);
     }
 
@@ -687,30 +724,30 @@ template <class T> struct row {
     template <class Iterator, class Use> static auto pass(Iterator first, Iterator last, const Use &use) {
         if constexpr (is_in_a_row<Iterator>)
             if (first != last)
-                return use(reinterpret_cast<const std::uint64_t *>(std::addressof(*first)),
+                return use(reinterpret_cast<const word *>(std::addressof(*first)),
                            static_cast<std::size_t>(last - first));
-        const std::vector<std::uint64_t> all = words_of(first, last);
+        const std::vector<word> all = words_of(first, last);
         return use(all.data(), all.size() / words);
     }
 
     template <class Iterator> static growth grow_range(word_file &file, Iterator first, Iterator last) {
-        return pass(first, last, [&](const std::uint64_t *from, std::size_t rows) { return grow(file, from, rows); });
+        return pass(first, last, [&](const word *from, std::size_t rows) { return grow(file, from, rows); });
     }
 
     // Over the rows from a position on.
-    static void change(word_file &file, std::size_t first, const std::uint64_t *from, std::size_t rows) {
+    static void change(word_file &file, std::size_t first, const word *from, std::size_t rows) {
         if (first > most_records / words) refuse_position(first);
         if (file.change(std::uint64_t{first} * words, from, rows * words)) return;
         refuse_position(rows == 0 ? first : first + rows - 1);
     }
 
     template <class Iterator> static void change_range(word_file &file, std::size_t at, Iterator first, Iterator last) {
-        pass(first, last, [&](const std::uint64_t *from, std::size_t rows) { change(file, at, from, rows); });
+        pass(first, last, [&](const word *from, std::size_t rows) { change(file, at, from, rows); });
     }
 
     // The row at a position, or nothing where the vector isn't as long.
     static std::optional<T> read(word_file &file, std::size_t position) {
-        std::array<std::uint64_t, words> found;
+        std::array<word, words> found;
         if (position >= most_records / words) return std::nullopt;
         if (file.read(std::uint64_t{position} * words, found.data(), words) < words) return std::nullopt;
         return load(found.data());
@@ -719,22 +756,24 @@ template <class T> struct row {
 
 // Rows that stand one behind the other, copied once. It doesn't change, so any number of iterators may share it. It begins at
 // a multiple of its greatest length, so that iterators find it again in both directions.
-template <class T> class piece {
+template <class T, class Layout = one_record> class piece {
+    using row = detail::row<T, Layout>;
+
   public:
-    static constexpr std::size_t most_rows = 4096 / row<T>::bytes;
+    static constexpr std::size_t most_rows = 4096 / row::bytes;
 
     piece(word_file &file, std::size_t position) : first_(position - position % most_rows) {
-        rows_ = file.read(std::uint64_t{first_} * row<T>::words, words_.data(), words_.size()) / row<T>::words;
+        rows_ = file.read(std::uint64_t{first_} * row::words, words_.data(), words_.size()) / row::words;
     }
 
     [[nodiscard]] bool has(std::size_t position) const noexcept { return position >= first_ && position - first_ < rows_; }
     [[nodiscard]] T operator[](std::size_t position) const noexcept {
-        return row<T>::load(words_.data() + (position - first_) * row<T>::words);
+        return row::load(words_.data() + (position - first_) * row::words);
     }
 
   private:
     std::size_t first_, rows_;
-    std::array<std::uint64_t, most_rows * row<T>::words> words_;
+    std::array<typename row::word, most_rows * row::words> words_;
 };
 
 // What `->` of an iterator answers: it holds the row that it points to.
@@ -749,7 +788,9 @@ template <class T> class arrow {
 
 // Goes through the rows of a vector, and reads copies of them. To move it copies the piece of the file where it comes to, if it
 // hasn't got it: so a loop makes a call of the vector for each piece, and not for each row. What is const changes nothing.
-template <class T> class iterator {
+template <class T, class Layout = one_record> class iterator {
+    using row = detail::row<T, Layout>;
+
   public:
     using iterator_category = std::random_access_iterator_tag;
     using value_type = T;
@@ -797,7 +838,7 @@ template <class T> class iterator {
 
     [[nodiscard]] T row_at(std::size_t position) const {
         if (piece_ && piece_->has(position)) return (*piece_)[position];
-        const std::optional<T> found = row<T>::read(*file_, position);
+        const std::optional<T> found = row::read(*file_, position);
         if (!found) refuse_position(position);
         return *found;
     }
@@ -805,9 +846,9 @@ template <class T> class iterator {
     // What can't be fetched isn't held: to read it is refused.
     void fetch() noexcept {
         if (piece_ && piece_->has(position_)) return;
-        if (position_ >= most_records / row<T>::words) return;
+        if (position_ >= most_records / row::words) return;
         try {
-            auto found = std::make_shared<const piece<T>>(*file_, position_);
+            auto found = std::make_shared<const piece<T, Layout>>(*file_, position_);
             if (found->has(position_)) piece_ = std::move(found);
         } catch (...) {
         }
@@ -815,13 +856,13 @@ template <class T> class iterator {
 
     word_file *file_ = nullptr;
     std::size_t position_ = 0;
-    std::shared_ptr<const piece<T>> piece_;
+    std::shared_ptr<const piece<T, Layout>> piece_;
 };
 
 // Positions from one to another, which can be split in two: what oneTBB calls a Range, without its headers.
-template <class T> class range {
+template <class T, class Layout = one_record> class range {
   public:
-    using const_iterator = detail::iterator<T>;
+    using const_iterator = detail::iterator<T, Layout>;
     using iterator = const_iterator;
     using value_type = T;
     using reference = T;
@@ -867,8 +908,8 @@ template <class T, class... Args> T made_of(Args &&...args) {
 // ---- the vector
 
 // Any number of threads may call its const members, and those that grow it, at once.
-template <class T> class concurrent_vector {
-    using row = detail::row<T>;
+template <class T, class Layout = one_record> class concurrent_vector {
+    using row = detail::row<T, Layout>;
 
   public:
     using value_type = T;
@@ -876,16 +917,16 @@ template <class T> class concurrent_vector {
     using difference_type = std::ptrdiff_t;
     using reference = T; // rows are read as copies: what is written to one changes nothing, and `change` changes no copy
     using const_reference = T;
-    using const_iterator = detail::iterator<T>;
+    using const_iterator = detail::iterator<T, Layout>;
     using iterator = const_iterator;
     using const_reverse_iterator = std::reverse_iterator<const_iterator>;
     using reverse_iterator = const_reverse_iterator;
-    using const_range_type = detail::range<T>;
+    using const_range_type = detail::range<T, Layout>;
     using range_type = const_range_type;
 
     // Opens the file, and makes it where there is none; or as wanted.how asks.
     explicit concurrent_vector(const std::string &path, const options &wanted = {})
-        : file_(std::make_unique<detail::word_file>(path, wanted)) {
+        : file_(std::make_unique<detail::word_file>(path, row::kept::type, wanted)) {
         if (file_->size() % row::words != 0) refuse_length();
     }
 
@@ -937,7 +978,7 @@ template <class T> class concurrent_vector {
     // Writes rows over those from this position on: behind a crash all of them are there or none. With none it does nothing. A
     // position past the end is std::out_of_range, and nothing has changed then.
     void change(size_type first, const T &value) {
-        std::array<std::uint64_t, row::words> words;
+        std::array<typename row::word, row::words> words;
         row::store(value, words.data());
         row::change(*file_, first, words.data(), 1);
     }
@@ -966,7 +1007,7 @@ template <class T> class concurrent_vector {
     // -- growing with a receipt, by which a growth is awaited
 
     growth append(const T &value) {
-        std::array<std::uint64_t, row::words> words;
+        std::array<typename row::word, row::words> words;
         row::store(value, words.data());
         return row::grow(*file_, words.data(), 1);
     }
@@ -1046,14 +1087,14 @@ template <class T> class concurrent_vector {
     friend void swap(concurrent_vector &a, concurrent_vector &b) noexcept { a.swap(b); }
 
   private:
-    template <class> friend class appender;
+    template <class, class> friend class appender;
 
     [[noreturn]] void refuse_length() const {
         file_->refuse(CVEC_WIDTH, "its records are no whole rows of " + std::to_string(row::bytes) + " bytes");
     }
 
     // No rows are no growth.
-    iterator grow_or_end(const std::vector<std::uint64_t> &words) {
+    iterator grow_or_end(const std::vector<typename row::word> &words) {
         return words.empty() ? end() : iterator_to(row::grow(*file_, words));
     }
 
@@ -1066,13 +1107,13 @@ template <class T> class concurrent_vector {
 
 // Gathers the rows that one thread pushes, and grows by many at once. Others see them once they are flushed. The destructor
 // flushes too, but can't report what fails: who wants to know calls flush or settle before.
-template <class T> class appender {
-    using row = detail::row<T>;
+template <class T, class Layout = one_record> class appender {
+    using row = detail::row<T, Layout>;
 
   public:
     using size_type = std::size_t;
 
-    explicit appender(concurrent_vector<T> &vector, size_type rows = 1024)
+    explicit appender(concurrent_vector<T, Layout> &vector, size_type rows = 1024)
         : file_(vector.file_.get()), rows_(std::clamp<size_type>(rows, 1, row::most_in_growth)) {}
 
     appender(appender &&other) noexcept
@@ -1122,7 +1163,7 @@ template <class T> class appender {
 
     detail::word_file *file_;
     size_type rows_;
-    std::vector<std::uint64_t> words_; // room for so many rows, or for none yet
+    std::vector<typename row::word> words_; // room for so many rows, or for none yet
     size_type buffered_ = 0;
     std::optional<growth> last_;
 };
