@@ -1,4 +1,4 @@
-"""A durable vector of uint64 that threads of this process grow, by ctypes over the library for C (docs/use/threads.md says how
+"""A durable vector that threads of this process grow, by ctypes over the library for C (docs/use/threads.md says how
 that is built).
 
     with Vector.create("numbers.cvec") as vector:
@@ -74,25 +74,25 @@ def _library() -> ctypes.CDLL:
     beside = os.path.join(os.path.dirname(os.path.abspath(__file__)), "libcvec.so")
     lib = ctypes.CDLL(os.environ.get("CVEC_VECTOR_LIBRARY", beside), use_errno=True)
     answers = {
-        "create": [POINTER(c_void_p), ctypes.c_char_p, c_uint8, c_uint16],
-        "open": [POINTER(c_void_p), ctypes.c_char_p, c_uint16],
+        "create_as": [POINTER(c_void_p), ctypes.c_char_p, c_uint32, c_uint8, c_uint16],
+        "open_as": [POINTER(c_void_p), ctypes.c_char_p, c_uint32, c_uint16],
         "close": [c_void_p],
         "take_seat": [c_void_p, POINTER(c_void_p)],
         "close_seat": [c_void_p],
-        "grow": [c_void_p, c_void_p, c_size_t, POINTER(_Receipt)],
+        "grow_records": [c_void_p, c_void_p, c_size_t, POINTER(_Receipt)],
         "await": [c_void_p, c_uint64],
         "await_for": [c_void_p, c_uint64, c_uint64],
         "run_flusher": [c_void_p, c_uint64],
         "stop_flusher": [c_void_p],
         "settled": [c_void_p, POINTER(c_uint64)],
         "size": [c_void_p, POINTER(c_uint64)],
-        "read": [c_void_p, c_uint64, c_void_p, c_size_t, POINTER(c_uint64)],
-        "change": [c_void_p, c_uint64, c_void_p, c_size_t],
-        "resize": [c_void_p, c_uint64, c_uint64],
+        "read_records": [c_void_p, c_uint64, c_void_p, c_size_t, POINTER(c_uint64)],
+        "change_records": [c_void_p, c_uint64, c_void_p, c_size_t],
+        "resize_by": [c_void_p, c_uint64, ctypes.c_char_p],
         "clear": [c_void_p],
         "fold": [c_void_p],
-        "count": [c_void_p, c_uint64, POINTER(c_uint64)],
-        "find": [c_void_p, c_uint64, c_uint64, POINTER(c_uint64)],
+        "count_record": [c_void_p, ctypes.c_char_p, POINTER(c_uint64)],
+        "find_record": [c_void_p, ctypes.c_char_p, c_uint64, POINTER(c_uint64)],
     }
     for name, words in answers.items():
         call = getattr(lib, "cvec_vector_" + name)
@@ -138,47 +138,71 @@ def _name_of(path: Any) -> bytes:
     return name
 
 
-class _Numbers:
-    """Records that are numbers: each is a word of the file."""
+# The types of records by their names, as C numbers them, and as `array` has them.
+_TYPES = {"u32": (0, "I"), "u64": (1, "Q"), "i64": (2, "q"), "pair": (3, None), "flagged": (4, None)}
+
+
+class _Records:
+    """Records of a type that C has: each is one of the file."""
 
     words = 1
 
+    def __init__(self, name: str) -> None:
+        if name not in _TYPES:
+            raise ValueError(f"there is no type {name} of records")
+        self.number, self._code = _TYPES[name]
+        self._form = IN_C[name]
+        if numpy is None and self._code is None:
+            raise ValueError(f"records of {name} need numpy")
+
+    def _is_lent(self, records: Any) -> bool:
+        """Whether it stands in memory as C reads it. Flags may be bytes that are neither 0 nor 1, so they are copied."""
+        flags = records.flags
+        return self._code is not None and records.dtype == self._form.dtype and records.ndim == 1 and flags.c_contiguous and flags.aligned
+
     def lend(self, records: Any) -> tuple[Any, Any, int]:
         """What has to live while C reads the records, where they stand, and how many words they are. No copy is made of an
-        array of u64 in one row."""
+        array of the same numbers in one row."""
         if numpy is not None and isinstance(records, numpy.ndarray):
-            flags = records.flags
-            if records.dtype == numpy.uint64 and records.ndim == 1 and flags.c_contiguous and flags.aligned:
+            if self._is_lent(records):
                 return records, records.__array_interface__["data"][0], len(records)
-        elif isinstance(records, array.array) and records.typecode == "Q" and records:
-            seen = c_uint64.from_buffer(records)
+        elif isinstance(records, array.array) and records.typecode == self._code and records:
+            seen = c_uint8.from_buffer(records)
             return seen, ctypes.addressof(seen), len(records)
         elif isinstance(records, (bytes, bytearray, memoryview)):
             raise ValueError("no records of the type: bytes")
-        packed = IN_C["u64"].pack(records)
-        return packed, packed, len(packed) // 8
+        packed = self._form.pack(records)
+        return packed, packed, len(packed) // self._form.width
 
     def room(self, count: int) -> Any:
         """An array of so many records to be written."""
-        return array.array("Q", bytes(8 * count)) if numpy is None else numpy.empty(count, dtype=numpy.uint64)
+        if numpy is None:
+            return array.array(self._code, bytes(self._form.width * count))
+        return numpy.empty(count, dtype=self._form.dtype)
 
     def put(self, room: Any, at: int, record: Any) -> None:
         """Writes a record of such an array."""
-        room[at] = self.row(record)[0]
+        room[at] = self._form.record.unpack(self.bytes_of(record))[0 if self._code else slice(None)]
 
-    def row(self, record: Any) -> list[int]:
-        """The words of a record."""
-        return [int.from_bytes(IN_C["u64"].pack([record]), "little")]
+    def bytes_of(self, record: Any) -> bytes:
+        """The bytes of a record as C has it."""
+        return self._form.pack([record])
+
+    def blank(self) -> bytes:
+        """The bytes of one of zeros."""
+        return bytes(self._form.width)
 
     def one(self, rows: Any) -> Any:
-        return int(rows[0])
+        return rows[0] if isinstance(rows, array.array) else rows[0].item()
 
     def each(self, rows: Any) -> Iterable[Any]:
         return rows.tolist()
 
 
 class _Rows:
-    """Records of a type of numpy: each is a row of words, with the bytes that it has in memory."""
+    """Records of a type of numpy: each is a row of words of u64, with the bytes that it has in memory."""
+
+    number = _TYPES["u64"][0]
 
     def __init__(self, dtype: Any) -> None:
         if numpy is None:
@@ -208,9 +232,12 @@ class _Rows:
         self._check(record)
         room[at] = record
 
-    def row(self, record: Any) -> list[int]:
+    def bytes_of(self, record: Any) -> bytes:
         self._check(record)
-        return numpy.frombuffer(record.tobytes(), dtype=numpy.uint64).tolist()
+        return record.tobytes()
+
+    def blank(self) -> bytes:
+        return bytes(self.dtype.itemsize)
 
     def one(self, rows: Any) -> Any:
         return rows[0]
@@ -275,7 +302,7 @@ class Seat:
             raise Error(Status.BUSY)
 
     def _grow_by(self, handle: c_void_p, at: int, count: int, receipt: _Receipt) -> int:
-        status = _LIB.cvec_vector_grow(handle, at, count, byref(receipt))
+        status = _LIB.cvec_vector_grow_records(handle, at, count, byref(receipt))
         if status == 0:
             receipt.number += self._vector._base
             self._last = receipt.number
@@ -296,7 +323,7 @@ class Seat:
         """Grows the vector by these records, as one block behind all that was grown before: all of them or none. Other threads
         read them when it returns; they are durable once they are settled. Nobody changes an array meanwhile. Where 1,048,568
         growths were made it settles them first. ValueError: not all are records of the vector. Error EMPTY: none; TOO_LARGE:
-        more than 131,071 words; BROKEN."""
+        more than 1,048,568 bytes; BROKEN."""
         held, at, count = self._form.lend(records)
         receipt = _Receipt()
         try:
@@ -350,19 +377,20 @@ class Seat:
         words, done = self._form.words, c_uint64()
         room = self._form.room(max(0, min(stop, self.size()) - start))
         if len(room) > 0:
-            self._call(_LIB.cvec_vector_read, start * words, _address_of(room), len(room) * words, byref(done))
+            self._call(_LIB.cvec_vector_read_records, start * words, _address_of(room), len(room) * words, byref(done))
         return room[:done.value // words]
 
     def appender(self, capacity: int = 4096) -> Appender:
         """Gathers single records for this seat."""
         return Appender(self, capacity)
 
-    def _search_by(self, handle: c_void_p, row: list[int], start: int, ends: Any) -> int:
-        """Reads the rows from position `start` on, and passes on the positions of those that have these words, until it ends."""
-        words, done = len(row), c_uint64()
-        room, sought = numpy.empty((_PIECE, words), dtype=numpy.uint64), numpy.array(row, dtype=numpy.uint64)
+    def _search_by(self, handle: c_void_p, row: bytes, start: int, ends: Any) -> int:
+        """Reads the rows from position `start` on, and passes on the positions of those that have these bytes, until it ends."""
+        sought, done = numpy.frombuffer(row, dtype=numpy.uint64), c_uint64()
+        words = len(sought)
+        room = numpy.empty((_PIECE, words), dtype=numpy.uint64)
         while True:
-            status = _LIB.cvec_vector_read(handle, start * words, _address_of(room), _PIECE * words, byref(done))
+            status = _LIB.cvec_vector_read_records(handle, start * words, _address_of(room), _PIECE * words, byref(done))
             count = done.value // words
             if status != 0 or count == 0 or ends(start + numpy.flatnonzero((room[:count] == sought).all(axis=1))):
                 return status
@@ -450,7 +478,7 @@ class Vector:
 
     _handle: c_void_p | None = None
 
-    def __init__(self, handle: c_void_p, form: _Numbers | _Rows, limit: int) -> None:
+    def __init__(self, handle: c_void_p, form: _Records | _Rows, limit: int) -> None:
         """Not to be called: `create` and `open` do."""
         self._handle, self._form, self._limit, self._process = handle, form, limit, os.getpid()
         self._lock, self._local = threading.Lock(), threading.local()
@@ -464,19 +492,20 @@ class Vector:
         self._counting, self._is_counted = threading.Lock(), False
 
     @classmethod
-    def create(cls, path: Any, seats: int = MOST_SEATS, dtype: Any = None, version: int = 1) -> Vector:
-        """Makes a file of version 1 or 2, for so many threads at a time: 1 to 64. Its records are numbers of u64, or of a type
-        of numpy whose width is a multiple of 8 bytes up to 256: the file has their bytes, and doesn't say which type. Error
-        EXISTS: something is there, and stays."""
+    def create(cls, path: Any, seats: int = MOST_SEATS, dtype: Any = None, version: int = 1, type: str = "u64") -> Vector:
+        """Makes a file of version 1 or 2, for so many threads at a time: 1 to 64. Its records are of this type: u32, u64, i64,
+        pair or flagged, of which the last two are tuples. Or they are of a type of numpy whose width is a multiple of 8 bytes up
+        to 256, each a row of u64. The file has their bytes, and doesn't say which type. Error EXISTS: something is there, and
+        stays."""
         if version not in (1, 2):
             raise ValueError("a file has version 1 or 2")
-        return cls._begin(_LIB.cvec_vector_create, path, seats, dtype, version)
+        return cls._begin(_LIB.cvec_vector_create_as, path, seats, dtype, type, version)
 
     @classmethod
-    def open(cls, path: Any, seats: int = MOST_SEATS, dtype: Any = None) -> Vector:
+    def open(cls, path: Any, seats: int = MOST_SEATS, dtype: Any = None, type: str = "u64") -> Vector:
         """Opens a file that is there, and reads it. Error IN_USE: it is open, here or elsewhere; UNBORN, NOT_SEGMENT, VERSION,
-        WIDTH or DAMAGED: it has no vector of u64. ValueError: its words are no whole records of that type."""
-        vector = cls._begin(_LIB.cvec_vector_open, path, seats, dtype)
+        WIDTH or DAMAGED: it has no vector of such records. ValueError: its words are no whole records of that dtype."""
+        vector = cls._begin(_LIB.cvec_vector_open_as, path, seats, dtype, type)
         seat = vector._take()
         words = seat._words()
         vector._free.append(seat)
@@ -486,12 +515,14 @@ class Vector:
         return vector
 
     @classmethod
-    def _begin(cls, call: Any, path: Any, seats: int, dtype: Any, *version: int) -> Vector:
+    def _begin(cls, call: Any, path: Any, seats: int, dtype: Any, type: str, *version: int) -> Vector:
         if not 1 <= seats <= MOST_SEATS:
             raise ValueError(f"a vector has 1 to {MOST_SEATS} seats")
-        form = _Numbers() if dtype is None else _Rows(dtype)
+        if dtype is not None and type != "u64":
+            raise ValueError("records of a dtype are rows of u64")
+        form = _Records(type) if dtype is None else _Rows(dtype)
         handle = c_void_p()
-        _pass(call(byref(handle), _name_of(path), *version, seats))
+        _pass(call(byref(handle), _name_of(path), form.number, *version, seats))
         return cls(handle, form, seats)
 
     def __enter__(self) -> Vector:
@@ -601,7 +632,7 @@ class Vector:
         are records of the vector. Error OUT_OF_RANGE: it doesn't reach so far; TOO_LARGE: more than a frame has."""
         held, at, count = self._form.lend(records)
         try:
-            self._whole(_LIB.cvec_vector_change, self._words_before(start), at, count)
+            self._whole(_LIB.cvec_vector_change_records, self._words_before(start), at, count)
         finally:
             del held
 
@@ -609,10 +640,11 @@ class Vector:
         """Takes the records behind the first `size` away, or appends copies of this one, else of zeros, as one block. ValueError:
         it is no record of the vector, or one whose words differ: grow by such. Error UNFOLDED: a change isn't folded, so none is
         taken away; OUT_OF_RANGE: past 2^32 words; TOO_LARGE: more than a frame has."""
-        row = [0] if record is None else self._form.row(record)
-        if len(set(row)) > 1:
+        row = self._form.blank() if record is None else self._form.bytes_of(record)
+        word = len(row) // self._form.words
+        if row != row[:word] * self._form.words:
             raise ValueError("no copies of a record whose words differ: grow by them")
-        self._whole(_LIB.cvec_vector_resize, self._words_before(size), row[0])
+        self._whole(_LIB.cvec_vector_resize_by, self._words_before(size), row)
 
     def clear(self) -> None:
         """Takes all records away. Error UNFOLDED: a change isn't folded."""
@@ -622,36 +654,36 @@ class Vector:
         """Writes what was changed to its place in the file: a write for each word, after which the vector may become shorter."""
         self._whole(_LIB.cvec_vector_fold)
 
-    def _search(self, row: list[int], start: int, ends: Any) -> None:
+    def _search(self, row: bytes, start: int, ends: Any) -> None:
         """For rows of several words, which C doesn't search: one call by the seat, beside growths."""
         seat = self.seat()
         seat._call(seat._search_by, row, start, ends)
 
     def count(self, record: Any) -> int:
         """How many records have the bytes of this one. ValueError: it is no record of the vector."""
-        row, count, found = self._form.row(record), c_uint64(), []
-        if len(row) == 1:
-            self._whole(_LIB.cvec_vector_count, row[0], byref(count))
+        row, count, found = self._form.bytes_of(record), c_uint64(), []
+        if self._form.words == 1:
+            self._whole(_LIB.cvec_vector_count_record, row, byref(count))
             return count.value
         self._search(row, 0, lambda places: found.append(len(places)))
         return sum(found)
 
     def find(self, record: Any, start: int = 0) -> int | None:
         """The first position from `start` on of a record with the bytes of this one. ValueError: it is no record of the vector."""
-        row, before = self._form.row(record), self._words_before(start)
-        if len(row) == 1:
-            return self._find_word(row[0], before)
+        row, before = self._form.bytes_of(record), self._words_before(start)
+        if self._form.words == 1:
+            return self._find_record(row, before)
         found: list[int] = []
-        self._search(row, before // len(row), lambda places: found.extend(places[:1].tolist()) or found)
+        self._search(row, before // self._form.words, lambda places: found.extend(places[:1].tolist()) or found)
         return found[0] if found else None
 
-    def _find_word(self, word: int, start: int) -> int | None:
-        """C answers how many words there are where it finds none, and from behind them all."""
+    def _find_record(self, record: bytes, start: int) -> int | None:
+        """C answers how many records there are where it finds none, and from behind them all."""
         place, size = c_uint64(), c_uint64()
         with self._alone():
             self._close_handles()
-            _pass(_LIB.cvec_vector_find(self._handle, word, start, byref(place)))
-            _pass(_LIB.cvec_vector_find(self._handle, word, _GREATEST, byref(size)))
+            _pass(_LIB.cvec_vector_find_record(self._handle, record, start, byref(place)))
+            _pass(_LIB.cvec_vector_find_record(self._handle, record, _GREATEST, byref(size)))
         return place.value if place.value < size.value else None
 
     # ---- by the seat of the calling thread

@@ -224,6 +224,85 @@ def rows_of_a_dtype():
         assert b"".join(it.to_bytes(8, "little") for it in records()) == values.tobytes()
 
 
+def width_of_file():
+    with open(PATH, "rb") as file:
+        return int.from_bytes(file.read(11)[9:], "little")
+
+
+def has_records_of(name, width, first, more, bad):
+    """Of this type: grown, read, opened again, searched and changed."""
+    if os.path.exists(PATH):
+        os.remove(PATH)
+    with Vector.create(PATH, type=name, version=2) as vector:
+        assert vector.grow(first) == (0, 0, len(first))
+        with vector.appender(2) as out:
+            for record in more:
+                out.push(record)
+            for record in bad:
+                has_no(ValueError, out.push, record)
+        for record in bad:
+            has_no(ValueError, vector.grow, [record])
+            has_no(ValueError, vector.count, record)
+        vector.settle()
+        assert list(vector) == first + more and vector[0] == first[0] and vector[-1] == more[-1]
+        assert width_of_file() == width
+    for other, its_width in (("u32", 4), ("u64", 8), ("i64", 8), ("pair", 16), ("flagged", 9)):
+        if its_width != width and (numpy or its_width in (4, 8)):
+            assert refusal(Vector.open, PATH, type=other)[0] == Status.WIDTH
+    with Vector.open(PATH, type=name) as vector:
+        assert list(vector) == first + more
+        assert vector.count(first[0]) == 1 and vector.find(more[-1]) == len(vector) - 1 and vector.find(first[0], 1) is None
+        vector.change(1, more[:1])
+        assert vector[1] == more[0] and vector.count(more[0]) == 2
+        vector.resize(len(vector) + 2, first[1])
+        assert vector[-1] == vector[-2] == first[1]
+        vector.fold()
+        vector.resize(1)
+        vector.resize(2)
+        assert list(vector) == first[:1] + [(0, False if name == "flagged" else 0) if numpy and isinstance(first[0], tuple) else 0]
+
+
+def records_of_each_type():
+    has_records_of("u32", 4, [1, 2 ** 32 - 1], [0, 7, 8], [-1, 2 ** 32, 0.5, "a"])
+    has_records_of("u64", 8, [1, 2 ** 64 - 1], [0, 7, 8], [-1, 2 ** 64])
+    has_records_of("i64", 8, [-2 ** 63, 2 ** 63 - 1], [-1, 7, 8], [2 ** 63, -2 ** 63 - 1])
+    with Vector.open(PATH, type="u64") as vector:
+        assert vector[0] == 2 ** 63
+    for name in ("u8", "", None):
+        has_no(ValueError, Vector.open, PATH, type=name)
+    has_no(ValueError, Vector.open, PATH, dtype="i8", type="i64")
+    if numpy is None:
+        for name in ("pair", "flagged"):
+            has_no(ValueError, Vector.open, PATH, type=name)
+        return
+    has_records_of("pair", 16, [(1, -1), (2 ** 64 - 1, -2 ** 63)], [(0, 0), (7, 7), (8, 8)], [(-1, 0), (1, 2 ** 63), 5, (1, 2, 3)])
+    has_records_of("flagged", 9, [(1, True), (2 ** 64 - 1, False)], [(0, False), (7, True), (8, True)], [(-1, True), 5])
+
+
+def arrays_of_each_type():
+    for name, dtype in (("u32", "u4"), ("i64", "i8"), ("pair", [("key", "u8"), ("value", "i8")]), ("flagged", [("key", "u8"), ("flag", "?")])):
+        values = numpy.zeros(5, dtype=dtype)
+        if name in ("u32", "i64"):
+            values[:] = [3, 1, 4, 1, 5]
+        else:
+            values["key"], values[values.dtype.names[1]] = [3, 1, 4, 1, 5], [1, 0, 1, 1, 0]
+        if os.path.exists(PATH):
+            os.remove(PATH)
+        with Vector.create(PATH, type=name) as vector:
+            vector.grow(values)
+            assert (vector[:] == values).all() and vector[:].dtype.names == values.dtype.names
+            assert (vector.seat()._form.lend(values)[0] is values) == (name in ("u32", "i64"))
+            has_no(ValueError, vector.grow, values.reshape(5, 1))
+    # Flags that are neither 0 nor 1 are true.
+    form = numpy.dtype([("key", "<u8"), ("flag", "?")], align=True)
+    wild = numpy.frombuffer(bytes([5] + [0] * 7 + [2] + [0] * 7), dtype=form)
+    with Vector.open(PATH, type="flagged") as vector:
+        vector.grow(wild)
+        assert vector[-1] == (5, True)
+    with open(PATH, "rb") as file:
+        assert file.read()[-10:] == bytes([5] + [0] * 7 + [1, 0])
+
+
 def dtype_without_numpy():
     has_no(ValueError, Vector.create, PATH, dtype="i8")
     assert not os.path.exists(PATH)
@@ -603,7 +682,7 @@ def each_refusal():
         refused.append(refusal(vector.settled))
 
     run_all([ask])
-    assert refused == [(Status.NOT_SO, "every seat is taken, or there is no such version")]
+    assert refused == [(Status.NOT_SO, "every seat is taken, or there is no such version or type")]
     # Whoever closes one leaves it to another, and growths are counted on.
     for _ in range(3):
         vector.seat().close()
@@ -635,7 +714,7 @@ def each_refusal():
 def each_status_has_the_sentence_of_c():
     with open(os.path.join(os.path.dirname(os.path.abspath(__file__)), "vector_texts.txt")) as lines:
         told = {int(number): text.rstrip("\n") for number, text in (line.split(" ", 1) for line in lines)}
-    assert {int(it) for it in Status} == told.keys() - {0, 65, 70}
+    assert {int(it) for it in Status} == told.keys() - {0, 13, 65, 70}
     for it in Status:
         assert str(Error(it)) == told[it] and str(Error(it, errno=2)) == told[it] + ": No such file or directory"
         assert Error(int(it)).status is it
@@ -688,7 +767,7 @@ def a_seat_goes_to_the_next_thread():
             run_all([vector.settled])
             raise AssertionError("a third seat")
         except Error as fault:
-            assert fault.status == Status.NOT_SO and str(fault) == "every seat is taken, or there is no such version"
+            assert fault.status == Status.NOT_SO and str(fault) == "every seat is taken, or there is no such version or type"
         goes_on.set()
         thread.join()
     assert sorted(records()) == list(range(41))

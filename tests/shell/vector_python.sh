@@ -116,6 +116,11 @@ a_python_vector_has_rows_of_a_dtype() (
     is_so_with_numpy rows_of_a_dtype
 )
 
+a_python_vector_has_records_of_each_type() (
+    is_so_with_and_without_numpy records_of_each_type
+    is_so_with_numpy arrays_of_each_type
+)
+
 a_dtype_without_numpy_is_refused() (
     is_so_without_numpy dtype_without_numpy
 )
