@@ -1,6 +1,6 @@
 //! Tests of cvec_vector.rs: vector_cases NAME FILE, where NAME is that of a test below; and writers that vector_killed.py and
 //! vector_steps.py kill: vector_cases write FILE ROUND THREADS TURNS, vector_cases steps FILE. What a file holds is read by others.
-use cvec_vector::{Error, MOST_SEATS, Receipt, Seat, Vector, Version};
+use cvec_vector::{Error, Flagged, MOST_SEATS, Pair, Receipt, Record, Seat, Vector, Version};
 use std::fmt::Debug;
 use std::fs;
 use std::io::{Write, stdout};
@@ -26,7 +26,7 @@ fn block(round: u64, name: u64, turn: u64) -> Vec<u64> {
     std::iter::once(head).chain((1..length).map(|at| head.wrapping_mul(31).wrapping_add(at))).collect()
 }
 
-const TOO_LARGE: &str = "more than 131,071 records in a growth, or not 1 to 64 seats";
+const TOO_LARGE: &str = "more than 1,048,568 bytes of records in a growth, or not 1 to 64 seats";
 const IN_USE: &str = "the file is in use";
 const FULL: &str = "it was grown 1,048,568 times: close each seat, and take new ones";
 const UNFOLDED: &str = "a change isn't folded: fold first";
@@ -70,6 +70,48 @@ fn grows_and_reads(path: &Path) -> Result<(), Error> {
     seat.grow(&[13])?;
     // A seat may go to another thread; the vector's drop commits what nobody has settled.
     thread::scope(|scope| scope.spawn(move || seat.grow(&[17])).join().unwrap())?;
+    Ok(())
+}
+
+/// Of this type: grown, read, opened again, searched and changed.
+fn has_records_of<R: Record>(path: &Path, width: u8, records: [R; 4]) -> Result<(), Error> {
+    let _ = fs::remove_file(path);
+    let vector = Vector::<R>::create_of(path, 2, Version::Two)?;
+    let seat = vector.seat()?;
+    assert_eq!(seat.grow(&records[..2])?, Receipt { number: 0, start: 0, length: 2 });
+    let mut appender = seat.appender(1)?;
+    appender.push(records[2])?;
+    let receipt = appender.push(records[3])?.unwrap();
+    assert_eq!((receipt.start, appender.kept()), (2, &records[3..]));
+    seat.settle(&appender.flush()?.unwrap())?;
+    drop(appender);
+    assert_eq!(seat.read(..)?, records);
+    drop(seat);
+    vector.close()?;
+    assert_eq!(fs::read(path).unwrap()[9..11], [width, 0]);
+    let mut vector = Vector::<R>::open_of(path, 2)?;
+    assert_eq!((vector.count(records[3])?, vector.find(records[3], 0)?, vector.find(records[0], 1)?), (1, Some(3), None));
+    vector.change(1, &records[..2])?;
+    vector.resize(6, records[3])?;
+    vector.fold()?;
+    vector.resize(5, records[0])?;
+    assert_eq!(vector.seat()?.read(..)?, [records[0], records[0], records[1], records[3], records[3]]);
+    vector.close()
+}
+
+fn has_types(path: &Path) -> Result<(), Error> {
+    has_records_of(path, 4, [1, u32::MAX, 0, 7])?;
+    const WIDTH: &str = "the records have another width";
+    assert_eq!(refused(Vector::open(path, 1), WIDTH), Error::Width);
+    refused(Vector::<Pair>::open_of(path, 1), WIDTH);
+    has_records_of(path, 8, [1, u64::MAX, 0, 7])?;
+    refused(Vector::<u32>::open_of(path, 1), WIDTH);
+    has_records_of(path, 8, [-1, i64::MIN, i64::MAX, 7])?;
+    assert_eq!(Vector::open(path, 1)?.seat()?.read(..1)?, [u64::MAX]);
+    has_records_of(path, 16, [(1, -1), (u64::MAX, i64::MIN), (1, 1), (0, 7)].map(|(key, value)| Pair { key, value }))?;
+    refused(Vector::<Flagged>::open_of(path, 1), WIDTH);
+    has_records_of(path, 9, [(1, true), (u64::MAX, false), (1, false), (0, true)].map(|(key, flag)| Flagged { key, flag }))?;
+    refused(Vector::<Pair>::open_of(path, 1), WIDTH);
     Ok(())
 }
 
@@ -127,7 +169,7 @@ fn has_the_sentences_of_c() {
     told.sort();
     let lines = include_str!("vector_texts.txt").lines().map(|it| it.split_once(' ').unwrap());
     let of_system = |number: u32| if (35..40).contains(&number) { ": No such file or directory (os error 2)" } else { "" };
-    let wanted: Vec<_> = lines.map(|it| (it.0.parse().unwrap(), it.1)).filter(|it| ![0, 65, 70].contains(&it.0)).collect();
+    let wanted: Vec<_> = lines.map(|it| (it.0.parse().unwrap(), it.1)).filter(|it| ![0, 13, 65, 70].contains(&it.0)).collect();
     assert_eq!(told, wanted.iter().map(|it| (it.0, format!("{}{}", it.1, of_system(it.0)))).collect::<Vec<_>>());
     assert_eq!((Error::Unknown(99).to_string(), Error::Seats.status(), Error::Path.status()), ("an unknown status".into(), None, None));
 }
@@ -156,7 +198,7 @@ fn each_refusal(path: &Path) -> Result<(), Error> {
         assert_eq!(vector.seat()?.grow(&[3])?.number, number);
     }
     let other = vector.seat()?;
-    assert_eq!(refused(vector.seat(), "every seat is taken, or there is no such version"), Error::NoSeat);
+    assert_eq!(refused(vector.seat(), "every seat is taken, or there is no such version or type"), Error::NoSeat);
     drop((seat, other));
     let seat = vector.seat()?;
     assert_eq!((seat.grow(&[3])?.number, seat.settled()?), (4, 1));
@@ -536,6 +578,7 @@ fn main() {
     let path = Path::new(&words[1]);
     match words[0].as_str() {
         "grows_and_reads" => grows_and_reads(path),
+        "has_types" => has_types(path),
         "appends" => appends(path),
         "each_refusal" => each_refusal(path),
         "has_a_deadline" => has_a_deadline(path),

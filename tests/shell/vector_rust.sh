@@ -28,7 +28,7 @@ make_rust_cases() {
     make_rust_vector
     if [ -e "$built/cases" ]; then return; fi
     cc -O1 -fPIC -c "$top/tests/bindings/refused.c" -o "$built/refused.o"
-    make_rust_program "$top/tests/bindings/vector_cases.rs" "$built/cases" -C "link-arg=$built/refused.o" -C link-arg=-Wl,--wrap=cvec_vector_resize
+    make_rust_program "$top/tests/bindings/vector_cases.rs" "$built/cases" -C "link-arg=$built/refused.o" -C link-arg=-Wl,--wrap=cvec_vector_resize_by
 }
 
 # A test of tests/bindings/vector_cases.rs.
@@ -44,6 +44,13 @@ has_lines() {
     [ "$status" -eq 0 ]
     cmp - "$out"
 }
+
+# The last of them has records of flagged.
+a_rust_vector_has_records_of_each_type() (
+    is_so_in_rust has_types
+    run list flagged "$work/files/t.cv"
+    did '1:1\n1:1\n18446744073709551615:0\n0:1\n0:1\n'
+)
 
 the_rust_example_grows_by_threads() (
     has_rust_vector || exit $is_skipped

@@ -1,4 +1,4 @@
-//! A durable vector of `u64` that threads of this process grow, over cvec_vector.c and libcvec_threads.a (docs/use/threads.md
+//! A durable vector that threads of this process grow, over cvec_vector.c and libcvec_threads.a (docs/use/threads.md
 //! says how they are built and linked). `std` alone is used, and no function of this module is called back by C.
 //!
 //! ```no_run
@@ -16,13 +16,16 @@
 //! vector.close()?;
 //! # Ok::<(), cvec_vector::Error>(())
 //! ```
+//!
+//! Its records are of `u64`, or of another [`Record`] type: `Vector::<u32>::create_of` and `open_of`.
 #![deny(unsafe_op_in_unsafe_fn)]
 #![warn(missing_docs)]
 
 use std::cell::Cell;
-use std::ffi::{CStr, CString, c_char};
+use std::ffi::{CStr, CString, c_char, c_void};
 use std::fmt;
 use std::io;
+use std::marker::PhantomData;
 use std::mem::{self, ManuallyDrop};
 use std::ops::{Bound, RangeBounds};
 use std::os::unix::ffi::OsStrExt;
@@ -45,7 +48,7 @@ pub enum Error {
     NotSegment,
     /// The file has a version that isn't known.
     Version,
-    /// The file's records aren't of 8 bytes.
+    /// The file's records have another width than the vector's.
     Width,
     /// A frame of the file is damaged.
     Damaged,
@@ -55,7 +58,7 @@ pub enum Error {
     Empty,
     /// The vector would have more than 2^32 records; of `settle`, there is no such growth; of `change`, no such positions.
     OutOfRange,
-    /// A growth of more than 131,071 records, or a change or a resize that doesn't fit one frame.
+    /// A growth of more than 1,048,568 bytes of records, or a change or a resize that doesn't fit one frame.
     TooLarge,
     /// The file would become longer than 2^48 bytes.
     FileFull,
@@ -178,6 +181,48 @@ fn told(status: u32) -> Result<(), Error> {
     })
 }
 
+mod sealed {
+    pub trait Sealed {}
+}
+
+/// A type of records. A file has the width of its records and no name for their type: one of `u64` is opened as `i64` too.
+pub trait Record: Copy + Default + PartialEq + fmt::Debug + Send + Sync + sealed::Sealed + 'static {
+    /// The number that C has for it.
+    #[doc(hidden)]
+    const TYPE: u32;
+}
+
+macro_rules! records {
+    ($($name:ty = $number:literal),*) => {
+        $(impl sealed::Sealed for $name {}
+        impl Record for $name {
+            const TYPE: u32 = $number;
+        })*
+    };
+}
+
+records!(u32 = 0, u64 = 1, i64 = 2, Pair = 3, Flagged = 4);
+
+/// A record with a key and a value, of 16 bytes.
+#[repr(C)]
+#[derive(Clone, Copy, Debug, Default, PartialEq, Eq, Hash)]
+pub struct Pair {
+    /// The first 8 bytes.
+    pub key: u64,
+    /// The last 8 bytes.
+    pub value: i64,
+}
+
+/// A record with a key and a flag: 9 bytes in a file.
+#[repr(C)]
+#[derive(Clone, Copy, Debug, Default, PartialEq, Eq, Hash)]
+pub struct Flagged {
+    /// The first 8 bytes.
+    pub key: u64,
+    /// The last byte, 0 or 1.
+    pub flag: bool,
+}
+
 /// What C has behind a vector's pointer.
 #[repr(C)]
 struct RawVector {
@@ -201,25 +246,25 @@ struct RawReceipt {
 }
 
 unsafe extern "C" {
-    fn cvec_vector_create(vector: *mut *mut RawVector, path: *const c_char, version: u8, seats: u16) -> u32;
-    fn cvec_vector_open(vector: *mut *mut RawVector, path: *const c_char, seats: u16) -> u32;
+    fn cvec_vector_create_as(vector: *mut *mut RawVector, path: *const c_char, record: u32, version: u8, seats: u16) -> u32;
+    fn cvec_vector_open_as(vector: *mut *mut RawVector, path: *const c_char, record: u32, seats: u16) -> u32;
     fn cvec_vector_close(vector: *mut RawVector) -> u32;
     fn cvec_vector_take_seat(vector: *mut RawVector, seat: *mut *mut RawSeat) -> u32;
     fn cvec_vector_close_seat(seat: *mut RawSeat) -> u32;
-    fn cvec_vector_grow(seat: *mut RawSeat, records: *const u64, count: usize, receipt: *mut RawReceipt) -> u32;
+    fn cvec_vector_grow_records(seat: *mut RawSeat, records: *const c_void, count: usize, receipt: *mut RawReceipt) -> u32;
     fn cvec_vector_await(seat: *mut RawSeat, number: u64) -> u32;
     fn cvec_vector_await_for(seat: *mut RawSeat, number: u64, milliseconds: u64) -> u32;
     fn cvec_vector_run_flusher(vector: *mut RawVector, every_milliseconds: u64) -> u32;
     fn cvec_vector_stop_flusher(vector: *mut RawVector) -> u32;
     fn cvec_vector_settled(seat: *mut RawSeat, count: *mut u64) -> u32;
     fn cvec_vector_size(seat: *mut RawSeat, size: *mut u64) -> u32;
-    fn cvec_vector_read(seat: *mut RawSeat, from: u64, out: *mut u64, room: usize, count: *mut u64) -> u32;
-    fn cvec_vector_change(vector: *mut RawVector, start: u64, records: *const u64, count: usize) -> u32;
-    fn cvec_vector_resize(vector: *mut RawVector, size: u64, record: u64) -> u32;
+    fn cvec_vector_read_records(seat: *mut RawSeat, from: u64, out: *mut c_void, room: usize, count: *mut u64) -> u32;
+    fn cvec_vector_change_records(vector: *mut RawVector, start: u64, records: *const c_void, count: usize) -> u32;
+    fn cvec_vector_resize_by(vector: *mut RawVector, size: u64, record: *const c_void) -> u32;
     fn cvec_vector_clear(vector: *mut RawVector) -> u32;
     fn cvec_vector_fold(vector: *mut RawVector) -> u32;
-    fn cvec_vector_count(vector: *mut RawVector, record: u64, count: *mut u64) -> u32;
-    fn cvec_vector_find(vector: *mut RawVector, record: u64, from: u64, place: *mut u64) -> u32;
+    fn cvec_vector_count_record(vector: *mut RawVector, record: *const c_void, count: *mut u64) -> u32;
+    fn cvec_vector_find_record(vector: *mut RawVector, record: *const c_void, from: u64, place: *mut u64) -> u32;
     fn cvec_vector_status_text(status: u32) -> *const c_char;
 }
 
@@ -231,6 +276,11 @@ fn name_of(path: &Path) -> Result<CString, Error> {
 /// As C counts it, rounded up.
 fn milliseconds_of(time: Duration) -> u64 {
     u64::try_from(time.as_nanos().div_ceil(1_000_000)).unwrap_or(u64::MAX)
+}
+
+/// As C takes one record.
+fn pointer_to<R: Record>(record: &R) -> *const c_void {
+    ptr::from_ref(record).cast()
 }
 
 fn check_seats(seats: u16) -> Result<(), Error> {
@@ -286,25 +336,39 @@ impl Seats {
 /// What takes `&mut self` is of the whole vector: no seat is there then. It settles what was grown, and what it makes is durable
 /// when it returns. `Memory` and `FileFull` lose nothing. Where a write or a sync failed all is `Broken` from then on, reads too.
 #[derive(Debug)]
-pub struct Vector {
+pub struct Vector<R: Record = u64> {
     raw: NonNull<RawVector>,
     process: u32,
     seats: Mutex<Seats>,
+    of: PhantomData<R>,
 }
 
-// SAFETY: C guards all that its calls on a vector have in common by a mutex, and any thread may make them.
-unsafe impl Send for Vector {}
+// SAFETY: C guards all that its calls on a vector have in common by a mutex, and any thread may make them. Records go anywhere.
+unsafe impl<R: Record> Send for Vector<R> {}
 // SAFETY: as above; the calls that want the vector alone take it by value, by `&mut` or on its drop. The seats are in a mutex.
-unsafe impl Sync for Vector {}
+unsafe impl<R: Record> Sync for Vector<R> {}
 
 impl Vector {
-    /// Makes a file of version 1, and a vector for so many seats: 1 to 64.
+    /// Makes a file of `u64` of version 1, and a vector for so many seats: 1 to 64.
     pub fn create(path: &Path, seats: u16) -> Result<Vector, Error> {
-        Vector::create_as(path, seats, Version::One)
+        Vector::create_of(path, seats, Version::One)
     }
 
-    /// Makes a file of that version. Something that is there stays: `Exists`.
+    /// Makes a file of `u64` of that version. Something that is there stays: `Exists`.
     pub fn create_as(path: &Path, seats: u16, version: Version) -> Result<Vector, Error> {
+        Vector::create_of(path, seats, version)
+    }
+
+    /// Opens a file of `u64` that is there, and reads it.
+    pub fn open(path: &Path, seats: u16) -> Result<Vector, Error> {
+        Vector::open_of(path, seats)
+    }
+}
+
+impl<R: Record> Vector<R> {
+    /// Makes a file of such records, of that version, and a vector for so many seats: 1 to 64. Something that is there stays:
+    /// `Exists`.
+    pub fn create_of(path: &Path, seats: u16, version: Version) -> Result<Vector<R>, Error> {
         let number = match version {
             Version::One => 1,
             Version::Two => 2,
@@ -312,23 +376,23 @@ impl Vector {
         check_seats(seats)?;
         let (name, mut raw) = (name_of(path)?, ptr::null_mut());
         // SAFETY: the name ends with a zero, and lasts for the call, as does the place for the pointer.
-        told(unsafe { cvec_vector_create(&mut raw, name.as_ptr(), number, seats) })?;
+        told(unsafe { cvec_vector_create_as(&mut raw, name.as_ptr(), R::TYPE, number, seats) })?;
         Vector::over(raw, seats)
     }
 
-    /// Opens a file that is there, and reads it.
-    pub fn open(path: &Path, seats: u16) -> Result<Vector, Error> {
+    /// Opens a file of such records that is there, and reads it. `Width`: its records have another width.
+    pub fn open_of(path: &Path, seats: u16) -> Result<Vector<R>, Error> {
         check_seats(seats)?;
         let (name, mut raw) = (name_of(path)?, ptr::null_mut());
         // SAFETY: as above.
-        told(unsafe { cvec_vector_open(&mut raw, name.as_ptr(), seats) })?;
+        told(unsafe { cvec_vector_open_as(&mut raw, name.as_ptr(), R::TYPE, seats) })?;
         Vector::over(raw, seats)
     }
 
-    fn over(raw: *mut RawVector, seats: u16) -> Result<Vector, Error> {
+    fn over(raw: *mut RawVector, seats: u16) -> Result<Vector<R>, Error> {
         let seats_kept = Seats { idle: Vec::new(), lent: 0, grown: 0, base: 0, is_new: true, is_full: false };
         let raw = NonNull::new(raw).ok_or(Error::Memory)?;
-        let mut vector = Vector { raw, process: process::id(), seats: Mutex::new(seats_kept) };
+        let mut vector = Vector { raw, process: process::id(), seats: Mutex::new(seats_kept), of: PhantomData };
         // So that a drop of a seat asks for no memory.
         vector.seats_alone().idle.try_reserve_exact(seats.into()).map_err(|_| Error::Memory)?;
         Ok(vector)
@@ -349,7 +413,7 @@ impl Vector {
 
     /// A seat, for one thread at a time. Who drops it leaves it to another. `NoSeat`: every seat is taken. Behind `Full`, while no
     /// other seat is there, it first settles what was grown, and is refused where that is.
-    pub fn seat(&self) -> Result<Seat<'_>, Error> {
+    pub fn seat(&self) -> Result<Seat<'_, R>, Error> {
         self.check_process()?;
         let mut seats = self.seats();
         if seats.is_full && seats.lent == 0 {
@@ -390,16 +454,16 @@ impl Vector {
 
     /// Writes these records over those from position `start` on: all of them or none, also over a crash. `OutOfRange`: the vector
     /// doesn't reach so far; `TooLarge`.
-    pub fn change(&mut self, start: u64, records: &[u64]) -> Result<(), Error> {
-        // SAFETY: no seat is there; the pointer and the length are those of one slice.
-        told(unsafe { cvec_vector_change(self.alone()?, start, records.as_ptr(), records.len()) })
+    pub fn change(&mut self, start: u64, records: &[R]) -> Result<(), Error> {
+        // SAFETY: no seat is there; the pointer and the length are those of one slice, whose records are of the vector's type.
+        told(unsafe { cvec_vector_change_records(self.alone()?, start, records.as_ptr().cast(), records.len()) })
     }
 
     /// Takes the records behind the first `size` away, or appends copies of this one. `Unfolded`, where it takes some away;
     /// `OutOfRange`, past 2^32 records; `TooLarge`.
-    pub fn resize(&mut self, size: u64, record: u64) -> Result<(), Error> {
-        // SAFETY: as above.
-        told(unsafe { cvec_vector_resize(self.alone()?, size, record) })
+    pub fn resize(&mut self, size: u64, record: R) -> Result<(), Error> {
+        // SAFETY: as above; the record lasts for the call.
+        told(unsafe { cvec_vector_resize_by(self.alone()?, size, pointer_to(&record)) })
     }
 
     /// Takes all records away. `Unfolded`.
@@ -415,20 +479,20 @@ impl Vector {
     }
 
     /// How many records equal this one.
-    pub fn count(&mut self, record: u64) -> Result<u64, Error> {
+    pub fn count(&mut self, record: R) -> Result<u64, Error> {
         let mut count = 0;
         // SAFETY: as above; the place for the count lasts for the call.
-        told(unsafe { cvec_vector_count(self.alone()?, record, &mut count) })?;
+        told(unsafe { cvec_vector_count_record(self.alone()?, pointer_to(&record), &mut count) })?;
         Ok(count)
     }
 
     /// The first position from `from` on that has this record.
-    pub fn find(&mut self, record: u64, from: u64) -> Result<Option<u64>, Error> {
+    pub fn find(&mut self, record: R, from: u64) -> Result<Option<u64>, Error> {
         let (mut place, mut len) = (0, 0);
         // SAFETY: as above.
-        told(unsafe { cvec_vector_find(self.alone()?, record, from, &mut place) })?;
+        told(unsafe { cvec_vector_find_record(self.alone()?, pointer_to(&record), from, &mut place) })?;
         // From behind each position it answers how many there are. SAFETY: as above.
-        told(unsafe { cvec_vector_find(self.alone()?, record, u64::MAX, &mut len) })?;
+        told(unsafe { cvec_vector_find_record(self.alone()?, pointer_to(&record), u64::MAX, &mut len) })?;
         Ok((place < len).then_some(place))
     }
 
@@ -462,7 +526,7 @@ impl Vector {
     }
 }
 
-impl Drop for Vector {
+impl<R: Record> Drop for Vector<R> {
     fn drop(&mut self) {
         // Once, since `close` leaves nothing to drop.
         self.end();
@@ -482,9 +546,9 @@ pub struct Receipt {
 
 /// What one thread grows, waits and reads by. It may go to another thread, but two can't share it.
 #[derive(Debug)]
-pub struct Seat<'v> {
+pub struct Seat<'v, R: Record = u64> {
     raw: NonNull<RawSeat>,
-    vector: &'v Vector,
+    vector: &'v Vector<R>,
     /// That of the vector's seats, as long as one is there.
     base: u64,
     /// The number behind its last growth. A `Cell` is in one thread at a time.
@@ -494,15 +558,16 @@ pub struct Seat<'v> {
 }
 
 // SAFETY: C keeps nothing of the thread that took it: its memory is malloc's, and its calls are those of any one thread.
-unsafe impl Send for Seat<'_> {}
+unsafe impl<R: Record> Send for Seat<'_, R> {}
 
-impl<'v> Seat<'v> {
+impl<'v, R: Record> Seat<'v, R> {
     /// Grows by copies of these records, as one block behind all that was grown before: all of them are in the vector, in a row,
     /// or none. Others read them when it returns; they are durable once they are settled.
-    pub fn grow(&self, records: &[u64]) -> Result<Receipt, Error> {
+    pub fn grow(&self, records: &[R]) -> Result<Receipt, Error> {
         let mut receipt = RawReceipt::default();
-        // SAFETY: the seat is open as long as `self` is there, and in one call; the pointer and the length are those of one slice.
-        let grown = told(unsafe { cvec_vector_grow(self.raw.as_ptr(), records.as_ptr(), records.len(), &mut receipt) });
+        // SAFETY: the seat is open as long as `self` is there, and in one call; the pointer and the length are those of one slice,
+        // whose records are of the vector's type.
+        let grown = told(unsafe { cvec_vector_grow_records(self.raw.as_ptr(), records.as_ptr().cast(), records.len(), &mut receipt) });
         if grown == Err(Error::Full) {
             self.is_full.set(true);
         }
@@ -553,7 +618,7 @@ impl<'v> Seat<'v> {
     }
 
     /// Copies the records of these positions, as far as the vector reaches.
-    pub fn read(&self, range: impl RangeBounds<u64>) -> Result<Vec<u64>, Error> {
+    pub fn read(&self, range: impl RangeBounds<u64>) -> Result<Vec<R>, Error> {
         let from = match range.start_bound() {
             Bound::Included(&at) => at,
             Bound::Excluded(&at) => at.saturating_add(1),
@@ -568,23 +633,23 @@ impl<'v> Seat<'v> {
         let room = usize::try_from(to.saturating_sub(from)).map_err(|_| Error::Memory)?;
         let mut out = Vec::new();
         out.try_reserve_exact(room).map_err(|_| Error::Memory)?;
-        out.resize(room, 0);
+        out.resize(room, R::default());
         let count = self.read_into(from, &mut out)?;
         out.truncate(count);
         Ok(out)
     }
 
     /// Copies the records from a position on over the front of `out`, as far as it and the vector reach, and answers how many.
-    pub fn read_into(&self, from: u64, out: &mut [u64]) -> Result<usize, Error> {
+    pub fn read_into(&self, from: u64, out: &mut [R]) -> Result<usize, Error> {
         let mut count = 0;
-        // SAFETY: as above; `out` is this call's alone.
-        told(unsafe { cvec_vector_read(self.raw.as_ptr(), from, out.as_mut_ptr(), out.len(), &mut count) })?;
+        // SAFETY: as above; `out` is this call's alone, and of the vector's type: a flag is written as 0 or 1.
+        told(unsafe { cvec_vector_read_records(self.raw.as_ptr(), from, out.as_mut_ptr().cast(), out.len(), &mut count) })?;
         // No more than `out` has.
         Ok(count as usize)
     }
 
     /// Gathers single records into blocks of so many. `Empty`: 0 are none; `Memory`.
-    pub fn appender(&self, capacity: usize) -> Result<Appender<'_, 'v>, Error> {
+    pub fn appender(&self, capacity: usize) -> Result<Appender<'_, 'v, R>, Error> {
         if capacity == 0 {
             return Err(Error::Empty);
         }
@@ -594,7 +659,7 @@ impl<'v> Seat<'v> {
     }
 }
 
-impl Drop for Seat<'_> {
+impl<R: Record> Drop for Seat<'_, R> {
     fn drop(&mut self) {
         if self.vector.check_process().is_err() {
             return;
@@ -610,16 +675,16 @@ impl Drop for Seat<'_> {
 /// Single records, kept until there are as many as a block has: then the vector grows by them. Nobody reads what is kept. A drop
 /// grows by the rest, and can't report what fails: `flush` does.
 #[derive(Debug)]
-pub struct Appender<'s, 'v> {
-    seat: &'s Seat<'v>,
-    kept: Vec<u64>,
+pub struct Appender<'s, 'v, R: Record = u64> {
+    seat: &'s Seat<'v, R>,
+    kept: Vec<R>,
     capacity: usize,
 }
 
-impl Appender<'_, '_> {
+impl<R: Record> Appender<'_, '_, R> {
     /// Keeps the record. Where as many are kept as fit, it grows by those first, and answers their receipt; where that is refused
     /// the record isn't kept, and the others stay.
-    pub fn push(&mut self, record: u64) -> Result<Option<Receipt>, Error> {
+    pub fn push(&mut self, record: R) -> Result<Option<Receipt>, Error> {
         let receipt = if self.kept.len() == self.capacity { self.flush()? } else { None };
         self.kept.push(record);
         Ok(receipt)
@@ -636,12 +701,12 @@ impl Appender<'_, '_> {
     }
 
     /// What is kept, in order.
-    pub fn kept(&self) -> &[u64] {
+    pub fn kept(&self) -> &[R] {
         &self.kept
     }
 }
 
-impl Drop for Appender<'_, '_> {
+impl<R: Record> Drop for Appender<'_, '_, R> {
     fn drop(&mut self) {
         let _ = self.flush();
     }
