@@ -256,11 +256,12 @@ has_sanitizer() {
     cc "-fsanitize=$1" -o "$work/empty" "$work/empty.c" 2>/dev/null && "$work/empty" || lacks "cc has no -fsanitize=$1"
 }
 
-# Runs a program of examples, over this file of words of which so many are one of what it counts: thrice killed in place of a
-# sync, and then to its end, where its output is $out. Its first line says how many it found there, and each kill leaves more.
+# Runs a program of examples, over this file of this type, of whose records so many are one of what it counts: thrice killed in
+# place of a sync, and then to its end, where its output is $out. Its first line says how many it found there, and each kill leaves
+# more.
 goes_on_where_it_is_killed() {
-    file=$1 words=$2
-    shift 2
+    file=$1 type=$2 each=$3
+    shift 3
     [ -e "$work/syncs.so" ] || cc -shared -fPIC -o "$work/syncs.so" "$top/tests/bindings/syncs.c"
     before=0
     for _ in 1 2 3; do
@@ -271,7 +272,7 @@ goes_on_where_it_is_killed() {
         ) || status=$?
         [ "$status" -eq 137 ]
         grep -q "^found $before " "$out"
-        now=$(($("$top/cvec" list u64 "$file" | wc -l) / words))
+        now=$(($("$top/cvec" list "$type" "$file" | wc -l) / each))
         [ "$now" -gt "$before" ]
         before=$now
     done
@@ -291,19 +292,22 @@ indexes_words() {
     make_texts
     words_of_entry=$1
     shift
-    goes_on_where_it_is_killed "$work/t.cv" "$words_of_entry" "$@" "$work/t.cv" Thread "$work"/*.txt
+    goes_on_where_it_is_killed "$work/t.cv" u64 "$words_of_entry" "$@" "$work/t.cv" Thread "$work"/*.txt
     sed 1d "$out" | cmp "$work/wanted" -
     "$@" "$work/t.cv" Thread "$work"/*.txt >"$out"
     sed -n 1p "$out" | grep -qx "found $(cat "$work"/*.txt | LC_ALL=C tr -cs A-Za-z '\n' | grep -c .) words"
 }
 
-# The example of a pool of threads, which is this command, goes on where it is killed, and finds all.
+# The example of a pool of threads, whose results are so many records of this type each, goes on where it is killed, and finds
+# all. Further words are its command.
 has_results_of_a_pool() {
-    goes_on_where_it_is_killed "$work/t.cv" 2 "$@" "$work/t.cv" 5000
+    type=$1 each=$2
+    shift 2
+    goes_on_where_it_is_killed "$work/t.cv" "$type" "$each" "$@" "$work/t.cv" 5000
     awk 'BEGIN { for (n = 1; n <= 5000; n++) for (k = n; k != 1; sum++) k = k % 2 ? 3 * k + 1 : k / 2; print "5000 results, " sum " steps in all" }' \
         >"$work/wanted"
     sed 1d "$out" | cmp "$work/wanted" -
-    [ "$("$top/cvec" list u64 "$work/t.cv" | paste - - | sort -u | wc -l)" -eq 5000 ]
+    [ "$("$top/cvec" list "$type" "$work/t.cv" | tr : '\n' | paste - - | sort -u | wc -l)" -eq 5000 ]
 }
 
 # ---- the program that measures

@@ -434,8 +434,8 @@ def rows_of_the_whole_vector():
 def refused_memory_loses_nothing():
     """A call of the whole vector that C refuses before it has done anything: growths are counted on."""
     library, refused = cvec_vector._LIB, [Status.MEMORY]
-    resize = library.cvec_vector_resize
-    library.cvec_vector_resize = lambda *words: refused.pop() if refused else resize(*words)
+    resize = library.cvec_vector_resize_by
+    library.cvec_vector_resize_by = lambda *words: refused.pop() if refused else resize(*words)
     with Vector.create(PATH, seats=2) as vector:
         first = vector.grow([5, 7])
         assert refusal(vector.resize, 1) == (Status.MEMORY, "memory was refused")
@@ -541,13 +541,13 @@ MOST_GROWTHS = 1048568
 def a_full_phase_goes_on():
     """But the first and the last one, growths are made by a loop in C (tests/bindings/often.c)."""
     library, told = cvec_vector._LIB, []
-    often, grow = ctypes.CDLL(os.environ["OFTEN"]), library.cvec_vector_grow
+    often, grow = ctypes.CDLL(os.environ["OFTEN"]), library.cvec_vector_grow_records
 
     def grow_noted(*words):
         told.append(grow(*words))
         return told[-1]
 
-    library.cvec_vector_grow = grow_noted
+    library.cvec_vector_grow_records = grow_noted
     with Vector.create(PATH, seats=1) as vector:
         first, seat = vector.grow([0]), vector.seat()
         assert often.grow_often(grow, seat._handle, ctypes.c_uint64(1), ctypes.c_uint64(MOST_GROWTHS - 2)) == 0
@@ -570,7 +570,7 @@ def count_few(most):
     """C refuses a growth behind so many others here, until its seats are closed. Then it counts anew, as behind a call of the whole
     vector. Answers a set of C's seats that are open, and a list of how many growths each phase had."""
     library, lock, made, there, phases = cvec_vector._LIB, threading.Lock(), [0], set(), []
-    grow, take, close = library.cvec_vector_grow, library.cvec_vector_take_seat, library.cvec_vector_close_seat
+    grow, take, close = library.cvec_vector_grow_records, library.cvec_vector_take_seat, library.cvec_vector_close_seat
 
     def grow_few(*words):
         with lock:
@@ -583,7 +583,7 @@ def count_few(most):
         with lock:
             if not there:
                 phases.append(made[0])
-                made[0] = library.cvec_vector_find(vector, 0, GREATEST, ctypes.byref(ctypes.c_uint64()))
+                made[0] = library.cvec_vector_find_record(vector, bytes(8), GREATEST, ctypes.byref(ctypes.c_uint64()))
             status = take(vector, seat)
             there.add(seat._obj.value)
             return status
@@ -593,7 +593,7 @@ def count_few(most):
             there.remove(seat.value)
             return close(seat)
 
-    library.cvec_vector_grow, library.cvec_vector_take_seat, library.cvec_vector_close_seat = grow_few, take_noted, close_noted
+    library.cvec_vector_grow_records, library.cvec_vector_take_seat, library.cvec_vector_close_seat = grow_few, take_noted, close_noted
     return there, phases
 
 

@@ -331,7 +331,7 @@ results_of_a_pool_are_kept_in_cpp() (
     has_cpp || exit $is_skipped
     make_cpp
     link_cpp -o "$work/pool" "$cpp/pool.cc"
-    has_results_of_a_pool "$work/pool"
+    has_results_of_a_pool pair 1 "$work/pool"
 )
 
 has_tbb() {

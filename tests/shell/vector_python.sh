@@ -91,7 +91,7 @@ results_of_a_pool_are_kept_in_python() (
     has_python_vector || exit $is_skipped
     make_python_vector
     export "CVEC_VECTOR_LIBRARY=$built/libcvec_vector.so" "PYTHONPATH=$top/bindings/python" PYTHONDONTWRITEBYTECODE=1
-    has_results_of_a_pool "$python" "$top/examples/python/pool.py"
+    has_results_of_a_pool u64 2 "$python" "$top/examples/python/pool.py"
 )
 
 # ---- what the vector is

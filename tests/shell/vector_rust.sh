@@ -76,7 +76,7 @@ results_of_a_pool_are_kept_in_rust() (
     has_rust_vector || exit $is_skipped
     make_rust_vector
     make_rust_program "$top/bindings/rust/vector/examples/pool.rs" "$work/pool"
-    has_results_of_a_pool "$work/pool"
+    has_results_of_a_pool u64 2 "$work/pool"
 )
 
 the_rust_program_of_the_page_grows_by_threads() (
