@@ -152,7 +152,8 @@ a_command_runs_again_while_it_was_stopped() (
 # The first step is what was there. Two records come about a second later.
 the_rate_of_growth_is_shown() (
     has python3 'copies by follow' || exit "$is_skipped"
-    { printf '+ 1\n+ 2\n. 1\n'; sleep 1; printf '+ 3\n= 0 9\n+ 4\n. 2\n'; } | "$shipping/rate" >"$out"
+    # What takes the lines may begin late.
+    { printf '+ 1\n+ 2\n. 1\n'; await [ -s "$out" ]; sleep 1; printf '+ 3\n= 0 9\n+ 4\n. 2\n'; } | "$shipping/rate" >"$out"
     [ "$(head -n 1 "$out")" = '2 records are there' ]
     tail -n +2 "$out" | grep -qx '[1-9] records a second'
     [ "$(wc -l <"$out")" -eq 2 ]
