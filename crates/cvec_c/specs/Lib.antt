@@ -1,6 +1,5 @@
 pub mod Status
 pub mod Stat
-pub mod Records
 pub mod Reading
 pub mod Append
 pub mod Frame

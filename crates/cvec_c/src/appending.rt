@@ -2,19 +2,17 @@
 
 ghost use Rattle.std.specs.Prelude.{◌≡◌, ◌≢◌, ◌<◌, ◌+◌, ◌*◌, ◌^◌, ◌++◌, ◌∷◌, [], None, Some, ◌⊎◌, length, take, drop, IfOk, OnOk, MatchOption};
 ghost use Rattle.std.specs.Int.{w32, w64};
-ghost use Rattle.record_core.specs.Bytes.{unsigned, signed};
+ghost use Rattle.record_core.specs.Bytes.{unsigned, signed, pair, flagged};
 ghost use Rattle.record_core.specs.Cells.{AreReadAgain};
 ghost use Rattle.segment_core.specs.declared.format.Format.{Format};
 ghost use Rattle.segment_core.specs.Frame.{frame_text};
 ghost use Rattle.segment_core.specs.Written.{group_frame};
 ghost use Rattle.cvec_c.specs.Status.{code_of};
 ghost use Rattle.cvec_c.specs.Append.{first_status, append_lines, append_len, AppendsTo};
-ghost use Rattle.cvec_c.specs.Records.{c_pair, c_flagged};
 
-use crate::records::{CvecFlagged, CvecPair};
 use crate::stat::CvecStat;
 use crate::status::CallStatus;
-use record_core::{GROWTH_HEAD_LEN, RECORD_LIMIT, Record, width_of};
+use record_core::{Flagged, GROWTH_HEAD_LEN, Pair, RECORD_LIMIT, Record, width_of};
 use segment_core::{CLOSED_GATE, FRAME_HEAD_LEN, Format, GATE_LIMIT, append_group};
 use std::alloc::{AllocError, Global};
 
@@ -165,18 +163,18 @@ pub extern "C" fn cvec_append_i64(
 pub extern "C" fn cvec_append_pair(
     alloc: Global,
     stat: &CvecStat,
-    records: &[CvecPair],
+    records: &[Pair],
     out: &mut [u8],
     next: &mut CvecStat,
 ) -> u32
     ensures answer { MatchOption (first_status (append_lines 16 stat.now (length records.now) (length out.old)))
         ((result ≡ 0) ⊎ (result ≡ 6))
         (λ status. result ≡ code_of status) }
-    ensures done { result ≡ 0 → AppendsTo c_pair stat.now records.now (take (append_len 16 (length records.now)) out.new) next.new }
+    ensures done { result ≡ 0 → AppendsTo pair stat.now records.now (take (append_len 16 (length records.now)) out.new) next.new }
     ensures rest { drop (append_len 16 (length records.now)) out.new ≡ drop (append_len 16 (length records.now)) out.old }
     ensures refused { result ≢ 0 → (out.new ≡ out.old) × (next.new ≡ next.old) }
 {
-    append::<CvecPair>(alloc, stat, records, out, next)
+    append::<Pair>(alloc, stat, records, out, next)
 }
 
 /// Appends records of flagged, as `append` says.
@@ -184,16 +182,16 @@ pub extern "C" fn cvec_append_pair(
 pub extern "C" fn cvec_append_flagged(
     alloc: Global,
     stat: &CvecStat,
-    records: &[CvecFlagged],
+    records: &[Flagged],
     out: &mut [u8],
     next: &mut CvecStat,
 ) -> u32
     ensures answer { MatchOption (first_status (append_lines 9 stat.now (length records.now) (length out.old)))
         ((result ≡ 0) ⊎ (result ≡ 6))
         (λ status. result ≡ code_of status) }
-    ensures done { result ≡ 0 → AppendsTo c_flagged stat.now records.now (take (append_len 9 (length records.now)) out.new) next.new }
+    ensures done { result ≡ 0 → AppendsTo flagged stat.now records.now (take (append_len 9 (length records.now)) out.new) next.new }
     ensures rest { drop (append_len 9 (length records.now)) out.new ≡ drop (append_len 9 (length records.now)) out.old }
     ensures refused { result ≢ 0 → (out.new ≡ out.old) × (next.new ≡ next.old) }
 {
-    append::<CvecFlagged>(alloc, stat, records, out, next)
+    append::<Flagged>(alloc, stat, records, out, next)
 }

@@ -2,17 +2,15 @@
 
 ghost use Rattle.std.specs.Prelude.{◌≡◌, ◌≢◌, List, MatchResult, ℕ, ℤ};
 ghost use Rattle.std.specs.Int.{w32, w64};
-ghost use Rattle.record_core.specs.Bytes.{unsigned, signed};
+ghost use Rattle.record_core.specs.Bytes.{unsigned, signed, pair, flagged};
 ghost use Rattle.segment_core.specs.Fault.{IsRefused};
 ghost use Rattle.cvec_c.specs.Stat.{HasStat, IsScanToldOf};
-ghost use Rattle.cvec_c.specs.declared.records.CvecPair.{CvecPair};
-ghost use Rattle.cvec_c.specs.declared.records.CvecFlagged.{CvecFlagged};
-ghost use Rattle.cvec_c.specs.Records.{c_pair, c_flagged};
+ghost use Rattle.record_core.specs.declared.key_value.Pair.{Pair};
+ghost use Rattle.record_core.specs.declared.key_flag.Flagged.{Flagged};
 
-use crate::records::{CvecFlagged, CvecPair};
 use crate::stat::CvecStat;
 use crate::status::{CallStatus, CvecFault};
-use record_core::Record;
+use record_core::{Flagged, Pair, Record};
 use segment_core::{ScanFault, scan};
 use std::alloc::Global;
 
@@ -93,10 +91,10 @@ pub extern "C" fn cvec_check_pair(
     stat: &mut CvecStat,
     fault: &mut CvecFault,
 ) -> u32
-    ensures done { result ≡ 0 → ((records : List CvecPair) × HasStat c_pair image.now records stat.new) × (fault.new ≡ fault.old) }
-    ensures refused { result ≢ 0 → IsScanToldOf c_pair image.now result fault.new × (stat.new ≡ stat.old) }
+    ensures done { result ≡ 0 → ((records : List Pair) × HasStat pair image.now records stat.new) × (fault.new ≡ fault.old) }
+    ensures refused { result ≢ 0 → IsScanToldOf pair image.now result fault.new × (stat.new ≡ stat.old) }
 {
-    check::<CvecPair>(alloc, image, stat, fault)
+    check::<Pair>(alloc, image, stat, fault)
 }
 
 /// Checks an image of flagged, as `check` says.
@@ -107,8 +105,8 @@ pub extern "C" fn cvec_check_flagged(
     stat: &mut CvecStat,
     fault: &mut CvecFault,
 ) -> u32
-    ensures done { result ≡ 0 → ((records : List CvecFlagged) × HasStat c_flagged image.now records stat.new) × (fault.new ≡ fault.old) }
-    ensures refused { result ≢ 0 → IsScanToldOf c_flagged image.now result fault.new × (stat.new ≡ stat.old) }
+    ensures done { result ≡ 0 → ((records : List Flagged) × HasStat flagged image.now records stat.new) × (fault.new ≡ fault.old) }
+    ensures refused { result ≢ 0 → IsScanToldOf flagged image.now result fault.new × (stat.new ≡ stat.old) }
 {
-    check::<CvecFlagged>(alloc, image, stat, fault)
+    check::<Flagged>(alloc, image, stat, fault)
 }

@@ -2,16 +2,14 @@
 
 ghost use Rattle.std.specs.Prelude.{◌≡◌, ◌≢◌, length, take, drop, MatchOption};
 ghost use Rattle.std.specs.Int.{w32, w64};
-ghost use Rattle.record_core.specs.Bytes.{unsigned, signed};
+ghost use Rattle.record_core.specs.Bytes.{unsigned, signed, pair, flagged};
 ghost use Rattle.cvec_c.specs.Status.{code_of};
 ghost use Rattle.cvec_c.specs.Append.{first_status};
 ghost use Rattle.cvec_c.specs.Empty.{empty_lines, Creates};
-ghost use Rattle.cvec_c.specs.Records.{c_pair, c_flagged};
 
-use crate::records::{CvecFlagged, CvecPair};
 use crate::stat::CvecStat;
 use crate::status::CallStatus;
-use record_core::{Record, width_of};
+use record_core::{Flagged, Pair, Record, width_of};
 use segment_core::{EMPTY_FILE_LEN, Format, HEADER_LEN, empty_file};
 
 /// Answers 0, and writes an empty file of this version over the front of `out`; `stat` is what is told of it. Else it
@@ -79,20 +77,20 @@ pub extern "C" fn cvec_empty_i64(version: u8, out: &mut [u8], stat: &mut CvecSta
 #[unsafe(no_mangle)]
 pub extern "C" fn cvec_empty_pair(version: u8, out: &mut [u8], stat: &mut CvecStat) -> u32
     ensures answer { MatchOption (first_status (empty_lines version (length out.old))) (result ≡ 0) (λ status. result ≡ code_of status) }
-    ensures done { result ≡ 0 → Creates c_pair (take 12 out.new) stat.new }
+    ensures done { result ≡ 0 → Creates pair (take 12 out.new) stat.new }
     ensures rest { drop 12 out.new ≡ drop 12 out.old }
     ensures refused { result ≢ 0 → (out.new ≡ out.old) × (stat.new ≡ stat.old) }
 {
-    empty::<CvecPair>(version, out, stat)
+    empty::<Pair>(version, out, stat)
 }
 
 /// Makes a file of flagged, as `empty` says.
 #[unsafe(no_mangle)]
 pub extern "C" fn cvec_empty_flagged(version: u8, out: &mut [u8], stat: &mut CvecStat) -> u32
     ensures answer { MatchOption (first_status (empty_lines version (length out.old))) (result ≡ 0) (λ status. result ≡ code_of status) }
-    ensures done { result ≡ 0 → Creates c_flagged (take 12 out.new) stat.new }
+    ensures done { result ≡ 0 → Creates flagged (take 12 out.new) stat.new }
     ensures rest { drop 12 out.new ≡ drop 12 out.old }
     ensures refused { result ≢ 0 → (out.new ≡ out.old) × (stat.new ≡ stat.old) }
 {
-    empty::<CvecFlagged>(version, out, stat)
+    empty::<Flagged>(version, out, stat)
 }

@@ -2,20 +2,18 @@
 
 ghost use Rattle.std.specs.Prelude.{◌≡◌, ◌≢◌, ◌≤◌, ◌<◌, ℕ, ℤ, List, length, take, MatchResult};
 ghost use Rattle.std.specs.Int.{w32, w64};
-ghost use Rattle.record_core.specs.Bytes.{unsigned, signed};
+ghost use Rattle.record_core.specs.Bytes.{unsigned, signed, pair, flagged};
 ghost use Rattle.segment_core.specs.declared.found.Home.{Home};
 ghost use Rattle.segment_core.specs.Fault.{IsRefused};
-ghost use Rattle.cvec_c.specs.declared.records.CvecPair.{CvecPair};
-ghost use Rattle.cvec_c.specs.declared.records.CvecFlagged.{CvecFlagged};
-ghost use Rattle.cvec_c.specs.Records.{c_pair, c_flagged};
+ghost use Rattle.record_core.specs.declared.key_value.Pair.{Pair};
+ghost use Rattle.record_core.specs.declared.key_flag.Flagged.{Flagged};
 ghost use Rattle.cvec_c.specs.declared.stat.CvecStat.{CvecStat};
 ghost use Rattle.cvec_c.specs.Stat.{IsScanToldOf};
 ghost use Rattle.cvec_c.specs.Homes.{HasHomes, as_homes};
 
-use crate::records::{CvecFlagged, CvecPair};
 use crate::stat::CvecStat;
 use crate::status::{CallStatus, CvecFault};
-use record_core::Record;
+use record_core::{Flagged, Pair, Record};
 use segment_core::{Home, ScanFault, Scanner};
 use std::alloc::Global;
 
@@ -155,12 +153,12 @@ pub extern "C" fn cvec_homes_pair(
     stat: &mut CvecStat,
     fault: &mut CvecFault,
 ) -> u32
-    ensures done { result ≡ 0 → ((records : List CvecPair) × HasHomes c_pair image.now records stat.new (as_homes (take count.new out.new))) × (fault.new ≡ fault.old) }
-    ensures no_room { result ≡ 11 → (length out.old < count.new) × ((records : List CvecPair) × (holds : CvecStat) × (homes : List Home) × HasHomes c_pair image.now records holds homes × (count.new ≡ length homes)) }
+    ensures done { result ≡ 0 → ((records : List Pair) × HasHomes pair image.now records stat.new (as_homes (take count.new out.new))) × (fault.new ≡ fault.old) }
+    ensures no_room { result ≡ 11 → (length out.old < count.new) × ((records : List Pair) × (holds : CvecStat) × (homes : List Home) × HasHomes pair image.now records holds homes × (count.new ≡ length homes)) }
     ensures unchanged { result ≡ 11 → (out.new ≡ out.old) × (stat.new ≡ stat.old) × (fault.new ≡ fault.old) }
-    ensures refused { result ≢ 0 → result ≢ 11 → IsScanToldOf c_pair image.now result fault.new × (out.new ≡ out.old) × (count.new ≡ count.old) × (stat.new ≡ stat.old) }
+    ensures refused { result ≢ 0 → result ≢ 11 → IsScanToldOf pair image.now result fault.new × (out.new ≡ out.old) × (count.new ≡ count.old) × (stat.new ≡ stat.old) }
 {
-    homes::<CvecPair>(alloc, image, out, count, stat, fault)
+    homes::<Pair>(alloc, image, out, count, stat, fault)
 }
 
 /// Tells where the records of an image of flagged stand, as `homes` says.
@@ -173,10 +171,10 @@ pub extern "C" fn cvec_homes_flagged(
     stat: &mut CvecStat,
     fault: &mut CvecFault,
 ) -> u32
-    ensures done { result ≡ 0 → ((records : List CvecFlagged) × HasHomes c_flagged image.now records stat.new (as_homes (take count.new out.new))) × (fault.new ≡ fault.old) }
-    ensures no_room { result ≡ 11 → (length out.old < count.new) × ((records : List CvecFlagged) × (holds : CvecStat) × (homes : List Home) × HasHomes c_flagged image.now records holds homes × (count.new ≡ length homes)) }
+    ensures done { result ≡ 0 → ((records : List Flagged) × HasHomes flagged image.now records stat.new (as_homes (take count.new out.new))) × (fault.new ≡ fault.old) }
+    ensures no_room { result ≡ 11 → (length out.old < count.new) × ((records : List Flagged) × (holds : CvecStat) × (homes : List Home) × HasHomes flagged image.now records holds homes × (count.new ≡ length homes)) }
     ensures unchanged { result ≡ 11 → (out.new ≡ out.old) × (stat.new ≡ stat.old) × (fault.new ≡ fault.old) }
-    ensures refused { result ≢ 0 → result ≢ 11 → IsScanToldOf c_flagged image.now result fault.new × (out.new ≡ out.old) × (count.new ≡ count.old) × (stat.new ≡ stat.old) }
+    ensures refused { result ≢ 0 → result ≢ 11 → IsScanToldOf flagged image.now result fault.new × (out.new ≡ out.old) × (count.new ≡ count.old) × (stat.new ≡ stat.old) }
 {
-    homes::<CvecFlagged>(alloc, image, out, count, stat, fault)
+    homes::<Flagged>(alloc, image, out, count, stat, fault)
 }

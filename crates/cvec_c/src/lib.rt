@@ -14,6 +14,5 @@ mod frame;
 mod homes;
 mod looking;
 mod reading;
-mod records;
 mod stat;
 mod status;

@@ -2,19 +2,17 @@
 
 ghost use Rattle.std.specs.Prelude.{◌≡◌, ◌≢◌, List, ℕ, ℤ};
 ghost use Rattle.std.specs.Int.{w32, w64};
-ghost use Rattle.record_core.specs.Bytes.{unsigned, signed};
+ghost use Rattle.record_core.specs.Bytes.{unsigned, signed, pair, flagged};
 ghost use Rattle.cvec_c.specs.Look.{HasShown, IsLookToldOf};
 ghost use Rattle.cvec_c.specs.Reading.{AreCopied};
-ghost use Rattle.cvec_c.specs.declared.records.CvecPair.{CvecPair};
-ghost use Rattle.cvec_c.specs.declared.records.CvecFlagged.{CvecFlagged};
-ghost use Rattle.cvec_c.specs.Records.{c_pair, c_flagged};
+ghost use Rattle.record_core.specs.declared.key_value.Pair.{Pair};
+ghost use Rattle.record_core.specs.declared.key_flag.Flagged.{Flagged};
 
 use crate::reading::copy_from;
-use crate::records::{CvecFlagged, CvecPair};
 use crate::stat::CvecStat;
 use crate::status::{CallStatus, CvecFault};
 use beside_core::records_seen;
-use record_core::Record;
+use record_core::{Flagged, Pair, Record};
 use std::alloc::Global;
 
 /// Answers 0 where the bytes of a file show a vector, from its first one on, and copies its records from position `from` on
@@ -103,15 +101,15 @@ pub extern "C" fn cvec_look_pair(
     alloc: Global,
     bytes: &[u8],
     from: u64,
-    out: &mut [CvecPair],
+    out: &mut [Pair],
     count: &mut u64,
     stat: &mut CvecStat,
     fault: &mut CvecFault,
 ) -> u32
-    ensures done { result ≡ 0 → ((records : List CvecPair) × HasShown c_pair bytes.now records stat.new × AreCopied records from out.old out.new count.new) × (fault.new ≡ fault.old) }
-    ensures refused { result ≢ 0 → IsLookToldOf c_pair bytes.now result fault.new × (out.new ≡ out.old) × (count.new ≡ count.old) × (stat.new ≡ stat.old) }
+    ensures done { result ≡ 0 → ((records : List Pair) × HasShown pair bytes.now records stat.new × AreCopied records from out.old out.new count.new) × (fault.new ≡ fault.old) }
+    ensures refused { result ≢ 0 → IsLookToldOf pair bytes.now result fault.new × (out.new ≡ out.old) × (count.new ≡ count.old) × (stat.new ≡ stat.old) }
 {
-    look::<CvecPair>(alloc, bytes, from, out, count, stat, fault)
+    look::<Pair>(alloc, bytes, from, out, count, stat, fault)
 }
 
 /// Copies records of flagged out of the bytes of a file, as `look` says.
@@ -120,13 +118,13 @@ pub extern "C" fn cvec_look_flagged(
     alloc: Global,
     bytes: &[u8],
     from: u64,
-    out: &mut [CvecFlagged],
+    out: &mut [Flagged],
     count: &mut u64,
     stat: &mut CvecStat,
     fault: &mut CvecFault,
 ) -> u32
-    ensures done { result ≡ 0 → ((records : List CvecFlagged) × HasShown c_flagged bytes.now records stat.new × AreCopied records from out.old out.new count.new) × (fault.new ≡ fault.old) }
-    ensures refused { result ≢ 0 → IsLookToldOf c_flagged bytes.now result fault.new × (out.new ≡ out.old) × (count.new ≡ count.old) × (stat.new ≡ stat.old) }
+    ensures done { result ≡ 0 → ((records : List Flagged) × HasShown flagged bytes.now records stat.new × AreCopied records from out.old out.new count.new) × (fault.new ≡ fault.old) }
+    ensures refused { result ≢ 0 → IsLookToldOf flagged bytes.now result fault.new × (out.new ≡ out.old) × (count.new ≡ count.old) × (stat.new ≡ stat.old) }
 {
-    look::<CvecFlagged>(alloc, bytes, from, out, count, stat, fault)
+    look::<Flagged>(alloc, bytes, from, out, count, stat, fault)
 }

@@ -2,16 +2,14 @@
 
 ghost use Rattle.std.specs.Prelude.{◌≡◌, ◌≢◌, ◌-◌, List, min, ℕ, ℤ};
 ghost use Rattle.std.specs.Int.{w32, w64};
-ghost use Rattle.record_core.specs.Bytes.{unsigned, signed};
+ghost use Rattle.record_core.specs.Bytes.{unsigned, signed, pair, flagged};
 ghost use Rattle.cvec_c.specs.Stat.{HasRecords, IsScanToldOf};
 ghost use Rattle.cvec_c.specs.Reading.{AreCopied};
-ghost use Rattle.cvec_c.specs.declared.records.CvecPair.{CvecPair};
-ghost use Rattle.cvec_c.specs.declared.records.CvecFlagged.{CvecFlagged};
-ghost use Rattle.cvec_c.specs.Records.{c_pair, c_flagged};
+ghost use Rattle.record_core.specs.declared.key_value.Pair.{Pair};
+ghost use Rattle.record_core.specs.declared.key_flag.Flagged.{Flagged};
 
-use crate::records::{CvecFlagged, CvecPair};
 use crate::status::{CallStatus, CvecFault};
-use record_core::Record;
+use record_core::{Flagged, Pair, Record};
 use segment_core::scan;
 use std::alloc::Global;
 
@@ -107,14 +105,14 @@ pub extern "C" fn cvec_read_pair(
     alloc: Global,
     image: &[u8],
     from: u64,
-    out: &mut [CvecPair],
+    out: &mut [Pair],
     count: &mut u64,
     fault: &mut CvecFault,
 ) -> u32
-    ensures done { result ≡ 0 → ((records : List CvecPair) × HasRecords c_pair image.now records × AreCopied records from out.old out.new count.new) × (fault.new ≡ fault.old) }
-    ensures refused { result ≢ 0 → IsScanToldOf c_pair image.now result fault.new × (out.new ≡ out.old) × (count.new ≡ count.old) }
+    ensures done { result ≡ 0 → ((records : List Pair) × HasRecords pair image.now records × AreCopied records from out.old out.new count.new) × (fault.new ≡ fault.old) }
+    ensures refused { result ≢ 0 → IsScanToldOf pair image.now result fault.new × (out.new ≡ out.old) × (count.new ≡ count.old) }
 {
-    read::<CvecPair>(alloc, image, from, out, count, fault)
+    read::<Pair>(alloc, image, from, out, count, fault)
 }
 
 /// Copies records of flagged out of an image, as `read` says.
@@ -123,12 +121,12 @@ pub extern "C" fn cvec_read_flagged(
     alloc: Global,
     image: &[u8],
     from: u64,
-    out: &mut [CvecFlagged],
+    out: &mut [Flagged],
     count: &mut u64,
     fault: &mut CvecFault,
 ) -> u32
-    ensures done { result ≡ 0 → ((records : List CvecFlagged) × HasRecords c_flagged image.now records × AreCopied records from out.old out.new count.new) × (fault.new ≡ fault.old) }
-    ensures refused { result ≢ 0 → IsScanToldOf c_flagged image.now result fault.new × (out.new ≡ out.old) × (count.new ≡ count.old) }
+    ensures done { result ≡ 0 → ((records : List Flagged) × HasRecords flagged image.now records × AreCopied records from out.old out.new count.new) × (fault.new ≡ fault.old) }
+    ensures refused { result ≢ 0 → IsScanToldOf flagged image.now result fault.new × (out.new ≡ out.old) × (count.new ≡ count.old) }
 {
-    read::<CvecFlagged>(alloc, image, from, out, count, fault)
+    read::<Flagged>(alloc, image, from, out, count, fault)
 }

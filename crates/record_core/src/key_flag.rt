@@ -11,7 +11,8 @@ ghost use Rattle.record_core.specs.WritesBack.{unsigned_back, boolean_back, of_p
 
 use crate::record::Record;
 
-/// A key and whether it is flagged.
+/// A key and whether it is flagged. C has it with the same layout.
+#[repr(C)]
 #[derive(Clone, Copy, Debug, PartialEq, Eq)]
 pub struct Flagged {
     pub key: u64,

@@ -11,7 +11,8 @@ ghost use Rattle.record_core.specs.WritesBack.{unsigned_back, signed_back, of_pa
 
 use crate::record::Record;
 
-/// A key and a number of either sign.
+/// A key and a number of either sign. C has it with the same layout.
+#[repr(C)]
 #[derive(Clone, Copy, Debug, PartialEq, Eq)]
 pub struct Pair {
     pub key: u64,
