@@ -9,9 +9,9 @@ use Rattle.handle_core.specs.declared.session.Role.{Role}
 use Rattle.handle_core.specs.declared.session.Role.TheVariants as roles
 use Rattle.handle_core.specs.declared.session.End.{End}
 use Rattle.handle_core.specs.declared.session.End.TheVariants as ends
-use Rattle.handle_core.specs.Ends.{AllAt, AtAny}
+use Rattle.handle_core.specs.Ends.{Becomes, AllAt, AtAny}
 use Rattle.handle_core.specs.Roles.{Seats, RefusesSeat}
-use Rattle.handle_core.specs.Handles.{Becomes, Refused}
+use Rattle.handle_core.specs.Handles.{Refused}
 
 pub becomes : (P : End → End → Type 0) (before after : Option End) (old new : End) → before ≡ Some old → after ≡ Some new → P old new → Becomes P before after
 becomes P before after old new had has related =

@@ -2,8 +2,8 @@
 
 ghost use Rattle.std.specs.Prelude.{◌≡◌, ◌≢◌};
 ghost use Rattle.handle_core.specs.Roles.{Plans, Settles, RefusesPlan, RefusesSettle};
-ghost use Rattle.handle_core.specs.Handles.{end_of, Becomes, Refused};
-ghost use Rattle.handle_core.specs.Ends.{AtAny};
+ghost use Rattle.handle_core.specs.Handles.{end_of, Refused};
+ghost use Rattle.handle_core.specs.Ends.{Becomes, AtAny};
 ghost use Rattle.cvec_threads.specs.Calls.{CountsCalls, TellsCall};
 
 use crate::file_call::{CvecCall, call_at, count_of};

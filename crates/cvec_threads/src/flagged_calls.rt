@@ -3,13 +3,14 @@
 ghost use Rattle.std.specs.Prelude.{◌≡◌, ◌≢◌};
 ghost use Rattle.handle_core.specs.Roles.{Grows, Reads, RefusesGrowth, IsNoGrower};
 ghost use Rattle.handle_core.specs.Vaults.{ReadsAll, Counts, Finds, IsNoVault, Changes, RefusesChange, Resizes, RefusesResize};
-ghost use Rattle.handle_core.specs.Handles.{end_of, Becomes, Refused};
-ghost use Rattle.handle_core.specs.Ends.{AtFlagged, RefusedFlagged};
+ghost use Rattle.handle_core.specs.Handles.{end_of, Refused};
+ghost use Rattle.handle_core.specs.Ends.{Becomes, At, RefusedAt, flagged_role};
 ghost use Rattle.cvec_threads.specs.Answers.{receipt_of};
 
 use crate::growing::CvecReceipt;
 use crate::of_records;
-use handle_core::{CvecFlagged, Handle};
+use handle_core::Handle;
+use record_core::Flagged;
 use std::alloc::Global;
 
 /// Grows by copies of the records, as one block behind all that was grown before.
@@ -17,11 +18,11 @@ use std::alloc::Global;
 pub extern "C" fn cvec_phase_grow_flagged(
     alloc: Global,
     grower: &mut Handle,
-    records: &[CvecFlagged],
+    records: &[Flagged],
     receipt: &mut CvecReceipt,
 ) -> u32
-    ensures grown { result ≡ 0 → Becomes (AtFlagged (Grows records.now (receipt_of receipt.new))) (end_of grower.old) (end_of grower.new) }
-    ensures refused { result ≢ 0 → Refused (RefusedFlagged (RefusesGrowth records.now)) result (end_of grower.old) (end_of grower.new) × (receipt.new ≡ receipt.old) }
+    ensures grown { result ≡ 0 → Becomes (At flagged_role (Grows records.now (receipt_of receipt.new))) (end_of grower.old) (end_of grower.new) }
+    ensures refused { result ≢ 0 → Refused (RefusedAt flagged_role (RefusesGrowth records.now)) result (end_of grower.old) (end_of grower.new) × (receipt.new ≡ receipt.old) }
 {
     of_records::grow(alloc, grower, records, receipt)
 }
@@ -32,11 +33,11 @@ pub extern "C" fn cvec_phase_read_flagged(
     alloc: Global,
     grower: &mut Handle,
     from: u64,
-    out: &mut [CvecFlagged],
+    out: &mut [Flagged],
     count: &mut u64,
 ) -> u32
-    ensures read { result ≡ 0 → Becomes (AtFlagged (Reads from out.old out.new count.new)) (end_of grower.old) (end_of grower.new) }
-    ensures refused { result ≢ 0 → Refused (RefusedFlagged IsNoGrower) result (end_of grower.old) (end_of grower.new) × (out.new ≡ out.old) × (count.new ≡ count.old) }
+    ensures read { result ≡ 0 → Becomes (At flagged_role (Reads from out.old out.new count.new)) (end_of grower.old) (end_of grower.new) }
+    ensures refused { result ≢ 0 → Refused (RefusedAt flagged_role IsNoGrower) result (end_of grower.old) (end_of grower.new) × (out.new ≡ out.old) × (count.new ≡ count.old) }
 {
     of_records::read(alloc, grower, from, out, count)
 }
@@ -47,11 +48,11 @@ pub extern "C" fn cvec_vault_read_flagged(
     alloc: Global,
     vault: &mut Handle,
     from: u64,
-    out: &mut [CvecFlagged],
+    out: &mut [Flagged],
     count: &mut u64,
 ) -> u32
-    ensures read { result ≡ 0 → Becomes (AtFlagged (ReadsAll from out.old out.new count.new)) (end_of vault.old) (end_of vault.new) }
-    ensures refused { result ≢ 0 → Refused (RefusedFlagged IsNoVault) result (end_of vault.old) (end_of vault.new) × (out.new ≡ out.old) × (count.new ≡ count.old) }
+    ensures read { result ≡ 0 → Becomes (At flagged_role (ReadsAll from out.old out.new count.new)) (end_of vault.old) (end_of vault.new) }
+    ensures refused { result ≢ 0 → Refused (RefusedAt flagged_role IsNoVault) result (end_of vault.old) (end_of vault.new) × (out.new ≡ out.old) × (count.new ≡ count.old) }
 {
     of_records::read_all(alloc, vault, from, out, count)
 }
@@ -61,11 +62,11 @@ pub extern "C" fn cvec_vault_read_flagged(
 pub extern "C" fn cvec_vault_count_flagged(
     alloc: Global,
     vault: &mut Handle,
-    sought: &CvecFlagged,
+    sought: &Flagged,
     count: &mut u64,
 ) -> u32
-    ensures count { result ≡ 0 → Becomes (AtFlagged (Counts sought.now count.new)) (end_of vault.old) (end_of vault.new) }
-    ensures refused { result ≢ 0 → Refused (RefusedFlagged IsNoVault) result (end_of vault.old) (end_of vault.new) × (count.new ≡ count.old) }
+    ensures count { result ≡ 0 → Becomes (At flagged_role (Counts sought.now count.new)) (end_of vault.old) (end_of vault.new) }
+    ensures refused { result ≢ 0 → Refused (RefusedAt flagged_role IsNoVault) result (end_of vault.old) (end_of vault.new) × (count.new ≡ count.old) }
 {
     of_records::count(alloc, vault, *sought, count)
 }
@@ -75,12 +76,12 @@ pub extern "C" fn cvec_vault_count_flagged(
 pub extern "C" fn cvec_vault_find_flagged(
     alloc: Global,
     vault: &mut Handle,
-    sought: &CvecFlagged,
+    sought: &Flagged,
     from: u64,
     place: &mut u64,
 ) -> u32
-    ensures found { result ≡ 0 → Becomes (AtFlagged (Finds sought.now from place.new)) (end_of vault.old) (end_of vault.new) }
-    ensures refused { result ≢ 0 → Refused (RefusedFlagged IsNoVault) result (end_of vault.old) (end_of vault.new) × (place.new ≡ place.old) }
+    ensures found { result ≡ 0 → Becomes (At flagged_role (Finds sought.now from place.new)) (end_of vault.old) (end_of vault.new) }
+    ensures refused { result ≢ 0 → Refused (RefusedAt flagged_role IsNoVault) result (end_of vault.old) (end_of vault.new) × (place.new ≡ place.old) }
 {
     of_records::find(alloc, vault, *sought, from, place)
 }
@@ -91,10 +92,10 @@ pub extern "C" fn cvec_vault_change_flagged(
     alloc: Global,
     vault: &mut Handle,
     start: u64,
-    records: &[CvecFlagged],
+    records: &[Flagged],
 ) -> u32
-    ensures changes { result ≡ 0 → Becomes (AtFlagged (Changes start records.now)) (end_of vault.old) (end_of vault.new) }
-    ensures refused { result ≢ 0 → Refused (RefusedFlagged (RefusesChange start records.now)) result (end_of vault.old) (end_of vault.new) }
+    ensures changes { result ≡ 0 → Becomes (At flagged_role (Changes start records.now)) (end_of vault.old) (end_of vault.new) }
+    ensures refused { result ≢ 0 → Refused (RefusedAt flagged_role (RefusesChange start records.now)) result (end_of vault.old) (end_of vault.new) }
 {
     of_records::change(alloc, vault, start, records)
 }
@@ -105,10 +106,10 @@ pub extern "C" fn cvec_vault_resize_flagged(
     alloc: Global,
     vault: &mut Handle,
     size: u64,
-    filler: &CvecFlagged,
+    filler: &Flagged,
 ) -> u32
-    ensures resizes { result ≡ 0 → Becomes (AtFlagged (Resizes size filler.now)) (end_of vault.old) (end_of vault.new) }
-    ensures refused { result ≢ 0 → Refused (RefusedFlagged (RefusesResize size filler.now)) result (end_of vault.old) (end_of vault.new) }
+    ensures resizes { result ≡ 0 → Becomes (At flagged_role (Resizes size filler.now)) (end_of vault.old) (end_of vault.new) }
+    ensures refused { result ≢ 0 → Refused (RefusedAt flagged_role (RefusesResize size filler.now)) result (end_of vault.old) (end_of vault.new) }
 {
     of_records::resize(alloc, vault, size, *filler)
 }

@@ -3,13 +3,14 @@
 ghost use Rattle.std.specs.Prelude.{◌≡◌, ◌≢◌};
 ghost use Rattle.handle_core.specs.Roles.{Grows, Reads, RefusesGrowth, IsNoGrower};
 ghost use Rattle.handle_core.specs.Vaults.{ReadsAll, Counts, Finds, IsNoVault, Changes, RefusesChange, Resizes, RefusesResize};
-ghost use Rattle.handle_core.specs.Handles.{end_of, Becomes, Refused};
-ghost use Rattle.handle_core.specs.Ends.{AtPair, RefusedPair};
+ghost use Rattle.handle_core.specs.Handles.{end_of, Refused};
+ghost use Rattle.handle_core.specs.Ends.{Becomes, At, RefusedAt, pair_role};
 ghost use Rattle.cvec_threads.specs.Answers.{receipt_of};
 
 use crate::growing::CvecReceipt;
 use crate::of_records;
-use handle_core::{CvecPair, Handle};
+use handle_core::Handle;
+use record_core::Pair;
 use std::alloc::Global;
 
 /// Grows by copies of the records, as one block behind all that was grown before.
@@ -17,11 +18,11 @@ use std::alloc::Global;
 pub extern "C" fn cvec_phase_grow_pair(
     alloc: Global,
     grower: &mut Handle,
-    records: &[CvecPair],
+    records: &[Pair],
     receipt: &mut CvecReceipt,
 ) -> u32
-    ensures grown { result ≡ 0 → Becomes (AtPair (Grows records.now (receipt_of receipt.new))) (end_of grower.old) (end_of grower.new) }
-    ensures refused { result ≢ 0 → Refused (RefusedPair (RefusesGrowth records.now)) result (end_of grower.old) (end_of grower.new) × (receipt.new ≡ receipt.old) }
+    ensures grown { result ≡ 0 → Becomes (At pair_role (Grows records.now (receipt_of receipt.new))) (end_of grower.old) (end_of grower.new) }
+    ensures refused { result ≢ 0 → Refused (RefusedAt pair_role (RefusesGrowth records.now)) result (end_of grower.old) (end_of grower.new) × (receipt.new ≡ receipt.old) }
 {
     of_records::grow(alloc, grower, records, receipt)
 }
@@ -32,11 +33,11 @@ pub extern "C" fn cvec_phase_read_pair(
     alloc: Global,
     grower: &mut Handle,
     from: u64,
-    out: &mut [CvecPair],
+    out: &mut [Pair],
     count: &mut u64,
 ) -> u32
-    ensures read { result ≡ 0 → Becomes (AtPair (Reads from out.old out.new count.new)) (end_of grower.old) (end_of grower.new) }
-    ensures refused { result ≢ 0 → Refused (RefusedPair IsNoGrower) result (end_of grower.old) (end_of grower.new) × (out.new ≡ out.old) × (count.new ≡ count.old) }
+    ensures read { result ≡ 0 → Becomes (At pair_role (Reads from out.old out.new count.new)) (end_of grower.old) (end_of grower.new) }
+    ensures refused { result ≢ 0 → Refused (RefusedAt pair_role IsNoGrower) result (end_of grower.old) (end_of grower.new) × (out.new ≡ out.old) × (count.new ≡ count.old) }
 {
     of_records::read(alloc, grower, from, out, count)
 }
@@ -47,11 +48,11 @@ pub extern "C" fn cvec_vault_read_pair(
     alloc: Global,
     vault: &mut Handle,
     from: u64,
-    out: &mut [CvecPair],
+    out: &mut [Pair],
     count: &mut u64,
 ) -> u32
-    ensures read { result ≡ 0 → Becomes (AtPair (ReadsAll from out.old out.new count.new)) (end_of vault.old) (end_of vault.new) }
-    ensures refused { result ≢ 0 → Refused (RefusedPair IsNoVault) result (end_of vault.old) (end_of vault.new) × (out.new ≡ out.old) × (count.new ≡ count.old) }
+    ensures read { result ≡ 0 → Becomes (At pair_role (ReadsAll from out.old out.new count.new)) (end_of vault.old) (end_of vault.new) }
+    ensures refused { result ≢ 0 → Refused (RefusedAt pair_role IsNoVault) result (end_of vault.old) (end_of vault.new) × (out.new ≡ out.old) × (count.new ≡ count.old) }
 {
     of_records::read_all(alloc, vault, from, out, count)
 }
@@ -61,11 +62,11 @@ pub extern "C" fn cvec_vault_read_pair(
 pub extern "C" fn cvec_vault_count_pair(
     alloc: Global,
     vault: &mut Handle,
-    sought: &CvecPair,
+    sought: &Pair,
     count: &mut u64,
 ) -> u32
-    ensures count { result ≡ 0 → Becomes (AtPair (Counts sought.now count.new)) (end_of vault.old) (end_of vault.new) }
-    ensures refused { result ≢ 0 → Refused (RefusedPair IsNoVault) result (end_of vault.old) (end_of vault.new) × (count.new ≡ count.old) }
+    ensures count { result ≡ 0 → Becomes (At pair_role (Counts sought.now count.new)) (end_of vault.old) (end_of vault.new) }
+    ensures refused { result ≢ 0 → Refused (RefusedAt pair_role IsNoVault) result (end_of vault.old) (end_of vault.new) × (count.new ≡ count.old) }
 {
     of_records::count(alloc, vault, *sought, count)
 }
@@ -75,12 +76,12 @@ pub extern "C" fn cvec_vault_count_pair(
 pub extern "C" fn cvec_vault_find_pair(
     alloc: Global,
     vault: &mut Handle,
-    sought: &CvecPair,
+    sought: &Pair,
     from: u64,
     place: &mut u64,
 ) -> u32
-    ensures found { result ≡ 0 → Becomes (AtPair (Finds sought.now from place.new)) (end_of vault.old) (end_of vault.new) }
-    ensures refused { result ≢ 0 → Refused (RefusedPair IsNoVault) result (end_of vault.old) (end_of vault.new) × (place.new ≡ place.old) }
+    ensures found { result ≡ 0 → Becomes (At pair_role (Finds sought.now from place.new)) (end_of vault.old) (end_of vault.new) }
+    ensures refused { result ≢ 0 → Refused (RefusedAt pair_role IsNoVault) result (end_of vault.old) (end_of vault.new) × (place.new ≡ place.old) }
 {
     of_records::find(alloc, vault, *sought, from, place)
 }
@@ -91,10 +92,10 @@ pub extern "C" fn cvec_vault_change_pair(
     alloc: Global,
     vault: &mut Handle,
     start: u64,
-    records: &[CvecPair],
+    records: &[Pair],
 ) -> u32
-    ensures changes { result ≡ 0 → Becomes (AtPair (Changes start records.now)) (end_of vault.old) (end_of vault.new) }
-    ensures refused { result ≢ 0 → Refused (RefusedPair (RefusesChange start records.now)) result (end_of vault.old) (end_of vault.new) }
+    ensures changes { result ≡ 0 → Becomes (At pair_role (Changes start records.now)) (end_of vault.old) (end_of vault.new) }
+    ensures refused { result ≢ 0 → Refused (RefusedAt pair_role (RefusesChange start records.now)) result (end_of vault.old) (end_of vault.new) }
 {
     of_records::change(alloc, vault, start, records)
 }
@@ -105,10 +106,10 @@ pub extern "C" fn cvec_vault_resize_pair(
     alloc: Global,
     vault: &mut Handle,
     size: u64,
-    filler: &CvecPair,
+    filler: &Pair,
 ) -> u32
-    ensures resizes { result ≡ 0 → Becomes (AtPair (Resizes size filler.now)) (end_of vault.old) (end_of vault.new) }
-    ensures refused { result ≢ 0 → Refused (RefusedPair (RefusesResize size filler.now)) result (end_of vault.old) (end_of vault.new) }
+    ensures resizes { result ≡ 0 → Becomes (At pair_role (Resizes size filler.now)) (end_of vault.old) (end_of vault.new) }
+    ensures refused { result ≢ 0 → Refused (RefusedAt pair_role (RefusesResize size filler.now)) result (end_of vault.old) (end_of vault.new) }
 {
     of_records::resize(alloc, vault, size, *filler)
 }

@@ -3,8 +3,8 @@
 ghost use Rattle.std.specs.Prelude.{◌≡◌, ◌≢◌};
 ghost use Rattle.handle_core.specs.Roles.{Grows, Reads, RefusesGrowth, IsNoGrower};
 ghost use Rattle.handle_core.specs.Vaults.{ReadsAll, Counts, Finds, IsNoVault, Changes, RefusesChange, Resizes, RefusesResize};
-ghost use Rattle.handle_core.specs.Handles.{end_of, Becomes, Refused};
-ghost use Rattle.handle_core.specs.Ends.{AtU64, RefusedU64};
+ghost use Rattle.handle_core.specs.Handles.{end_of, Refused};
+ghost use Rattle.handle_core.specs.Ends.{Becomes, At, RefusedAt, u64_role};
 ghost use Rattle.cvec_threads.specs.Answers.{receipt_of};
 
 use crate::growing::CvecReceipt;
@@ -20,8 +20,8 @@ pub extern "C" fn cvec_phase_grow_u64(
     records: &[u64],
     receipt: &mut CvecReceipt,
 ) -> u32
-    ensures grown { result ≡ 0 → Becomes (AtU64 (Grows records.now (receipt_of receipt.new))) (end_of grower.old) (end_of grower.new) }
-    ensures refused { result ≢ 0 → Refused (RefusedU64 (RefusesGrowth records.now)) result (end_of grower.old) (end_of grower.new) × (receipt.new ≡ receipt.old) }
+    ensures grown { result ≡ 0 → Becomes (At u64_role (Grows records.now (receipt_of receipt.new))) (end_of grower.old) (end_of grower.new) }
+    ensures refused { result ≢ 0 → Refused (RefusedAt u64_role (RefusesGrowth records.now)) result (end_of grower.old) (end_of grower.new) × (receipt.new ≡ receipt.old) }
 {
     of_records::grow(alloc, grower, records, receipt)
 }
@@ -35,8 +35,8 @@ pub extern "C" fn cvec_phase_read_u64(
     out: &mut [u64],
     count: &mut u64,
 ) -> u32
-    ensures read { result ≡ 0 → Becomes (AtU64 (Reads from out.old out.new count.new)) (end_of grower.old) (end_of grower.new) }
-    ensures refused { result ≢ 0 → Refused (RefusedU64 IsNoGrower) result (end_of grower.old) (end_of grower.new) × (out.new ≡ out.old) × (count.new ≡ count.old) }
+    ensures read { result ≡ 0 → Becomes (At u64_role (Reads from out.old out.new count.new)) (end_of grower.old) (end_of grower.new) }
+    ensures refused { result ≢ 0 → Refused (RefusedAt u64_role IsNoGrower) result (end_of grower.old) (end_of grower.new) × (out.new ≡ out.old) × (count.new ≡ count.old) }
 {
     of_records::read(alloc, grower, from, out, count)
 }
@@ -50,8 +50,8 @@ pub extern "C" fn cvec_vault_read_u64(
     out: &mut [u64],
     count: &mut u64,
 ) -> u32
-    ensures read { result ≡ 0 → Becomes (AtU64 (ReadsAll from out.old out.new count.new)) (end_of vault.old) (end_of vault.new) }
-    ensures refused { result ≢ 0 → Refused (RefusedU64 IsNoVault) result (end_of vault.old) (end_of vault.new) × (out.new ≡ out.old) × (count.new ≡ count.old) }
+    ensures read { result ≡ 0 → Becomes (At u64_role (ReadsAll from out.old out.new count.new)) (end_of vault.old) (end_of vault.new) }
+    ensures refused { result ≢ 0 → Refused (RefusedAt u64_role IsNoVault) result (end_of vault.old) (end_of vault.new) × (out.new ≡ out.old) × (count.new ≡ count.old) }
 {
     of_records::read_all(alloc, vault, from, out, count)
 }
@@ -64,8 +64,8 @@ pub extern "C" fn cvec_vault_count_u64(
     sought: u64,
     count: &mut u64,
 ) -> u32
-    ensures count { result ≡ 0 → Becomes (AtU64 (Counts sought count.new)) (end_of vault.old) (end_of vault.new) }
-    ensures refused { result ≢ 0 → Refused (RefusedU64 IsNoVault) result (end_of vault.old) (end_of vault.new) × (count.new ≡ count.old) }
+    ensures count { result ≡ 0 → Becomes (At u64_role (Counts sought count.new)) (end_of vault.old) (end_of vault.new) }
+    ensures refused { result ≢ 0 → Refused (RefusedAt u64_role IsNoVault) result (end_of vault.old) (end_of vault.new) × (count.new ≡ count.old) }
 {
     of_records::count(alloc, vault, sought, count)
 }
@@ -79,8 +79,8 @@ pub extern "C" fn cvec_vault_find_u64(
     from: u64,
     place: &mut u64,
 ) -> u32
-    ensures found { result ≡ 0 → Becomes (AtU64 (Finds sought from place.new)) (end_of vault.old) (end_of vault.new) }
-    ensures refused { result ≢ 0 → Refused (RefusedU64 IsNoVault) result (end_of vault.old) (end_of vault.new) × (place.new ≡ place.old) }
+    ensures found { result ≡ 0 → Becomes (At u64_role (Finds sought from place.new)) (end_of vault.old) (end_of vault.new) }
+    ensures refused { result ≢ 0 → Refused (RefusedAt u64_role IsNoVault) result (end_of vault.old) (end_of vault.new) × (place.new ≡ place.old) }
 {
     of_records::find(alloc, vault, sought, from, place)
 }
@@ -93,8 +93,8 @@ pub extern "C" fn cvec_vault_change_u64(
     start: u64,
     records: &[u64],
 ) -> u32
-    ensures changes { result ≡ 0 → Becomes (AtU64 (Changes start records.now)) (end_of vault.old) (end_of vault.new) }
-    ensures refused { result ≢ 0 → Refused (RefusedU64 (RefusesChange start records.now)) result (end_of vault.old) (end_of vault.new) }
+    ensures changes { result ≡ 0 → Becomes (At u64_role (Changes start records.now)) (end_of vault.old) (end_of vault.new) }
+    ensures refused { result ≢ 0 → Refused (RefusedAt u64_role (RefusesChange start records.now)) result (end_of vault.old) (end_of vault.new) }
 {
     of_records::change(alloc, vault, start, records)
 }
@@ -107,8 +107,8 @@ pub extern "C" fn cvec_vault_resize_u64(
     size: u64,
     filler: u64,
 ) -> u32
-    ensures resizes { result ≡ 0 → Becomes (AtU64 (Resizes size filler)) (end_of vault.old) (end_of vault.new) }
-    ensures refused { result ≢ 0 → Refused (RefusedU64 (RefusesResize size filler)) result (end_of vault.old) (end_of vault.new) }
+    ensures resizes { result ≡ 0 → Becomes (At u64_role (Resizes size filler)) (end_of vault.old) (end_of vault.new) }
+    ensures refused { result ≢ 0 → Refused (RefusedAt u64_role (RefusesResize size filler)) result (end_of vault.old) (end_of vault.new) }
 {
     of_records::resize(alloc, vault, size, filler)
 }

@@ -2,8 +2,8 @@
 
 ghost use Rattle.std.specs.Prelude.{◌≡◌, ◌≢◌};
 ghost use Rattle.handle_core.specs.Vaults.{GathersIn, RefusesGathering, RefusesSharing, Measures, IsNoVault, Clears, RefusesClear, RefusesFolding};
-ghost use Rattle.handle_core.specs.Handles.{end_of, Becomes, Refused};
-ghost use Rattle.handle_core.specs.Ends.{AtAny};
+ghost use Rattle.handle_core.specs.Handles.{end_of, Refused};
+ghost use Rattle.handle_core.specs.Ends.{Becomes, AtAny};
 ghost use Rattle.cvec_threads.specs.Vaults.{HasPhase, IsFolded};
 
 use handle_core::{Handle, Refusal};

@@ -1,22 +1,27 @@
 -- Ends by what records their vector has, and what a call makes of one.
-use Rattle.std.specs.Prelude.{◌≡◌, ℕ}
+use Rattle.std.specs.Prelude.{◌≡◌, ℕ, Option, Some, None, MatchOption}
 use Rattle.std.specs.declared.cmp.PartialEq as PartialEq
 use Rattle.std.specs.contracts.prelude.U32PartialEq.TheImpl as u32_eq
 use Rattle.std.specs.contracts.prelude.U64PartialEq.TheImpl as u64_eq
 use Rattle.record_core.specs.declared.record.Record as Record
 use Rattle.record_core.specs.contracts.number.U32Record.TheImpl as u32_record
 use Rattle.record_core.specs.contracts.number.U64Record.TheImpl as u64_record
-use Rattle.handle_core.specs.declared.records.CvecPair.{CvecPair}
-use Rattle.handle_core.specs.declared.records.CvecFlagged.{CvecFlagged}
-use Rattle.handle_core.specs.contracts.records.CvecPairPartialEq.TheImpl as pair_eq
-use Rattle.handle_core.specs.contracts.records.CvecPairRecord.TheImpl as pair_record
-use Rattle.handle_core.specs.contracts.records.CvecFlaggedPartialEq.TheImpl as flagged_eq
-use Rattle.handle_core.specs.contracts.records.CvecFlaggedRecord.TheImpl as flagged_record
+use Rattle.record_core.specs.declared.key_value.Pair.{Pair}
+use Rattle.record_core.specs.declared.key_flag.Flagged.{Flagged}
+use Rattle.record_core.specs.contracts.key_value.PairPartialEq.TheImpl as pair_eq
+use Rattle.record_core.specs.contracts.key_value.PairRecord.TheImpl as pair_record
+use Rattle.record_core.specs.contracts.key_flag.FlaggedPartialEq.TheImpl as flagged_eq
+use Rattle.record_core.specs.contracts.key_flag.FlaggedRecord.TheImpl as flagged_record
 use Rattle.handle_core.specs.declared.refusal.Refusal.{Refusal}
 use Rattle.handle_core.specs.declared.refusal.Refusal.TheVariants.{Width}
 use Rattle.handle_core.specs.declared.session.Role.{Role}
 use Rattle.handle_core.specs.declared.session.End.{End}
 use Rattle.handle_core.specs.declared.session.End.TheVariants as ends
+
+-- there was one, and is one, and these are so related
+abbrev pub Becomes : {T : Type 0} → (T → T → Type 0) → Option T → Option T → Type 0
+Becomes P (Some old) (Some new) = P old new
+Becomes P old new = ⊥
 
 -- the bytes of a record
 abbrev pub width_of : End → ℕ
@@ -52,52 +57,28 @@ AllAt P end old new = ⊥
 
 -- ---- with these records alone
 
-abbrev pub U32Role : Type 0
-U32Role = Role ℕ u32_record.ghosts u32_eq.ghosts
+-- what an end is whose vector has records of u32
+abbrev pub u32_role : End → Option (Role ℕ u32_record.ghosts u32_eq.ghosts)
+u32_role (ends.U32 role) = Some role
+u32_role end = None
 
-abbrev pub U64Role : Type 0
-U64Role = Role ℕ u64_record.ghosts u64_eq.ghosts
+abbrev pub u64_role : End → Option (Role ℕ u64_record.ghosts u64_eq.ghosts)
+u64_role (ends.U64 role) = Some role
+u64_role end = None
 
-abbrev pub PairRole : Type 0
-PairRole = Role CvecPair pair_record.ghosts pair_eq.ghosts
+abbrev pub pair_role : End → Option (Role Pair pair_record.ghosts pair_eq.ghosts)
+pair_role (ends.Pair role) = Some role
+pair_role end = None
 
-abbrev pub FlaggedRole : Type 0
-FlaggedRole = Role CvecFlagged flagged_record.ghosts flagged_eq.ghosts
+abbrev pub flagged_role : End → Option (Role Flagged flagged_record.ghosts flagged_eq.ghosts)
+flagged_role (ends.Flagged role) = Some role
+flagged_role end = None
 
--- both have records of u32, and are so related
-abbrev pub AtU32 : (U32Role → U32Role → Type 0) → End → End → Type 0
-AtU32 P (ends.U32 old) (ends.U32 new) = P old new
-AtU32 P old new = ⊥
+module _ {T : Type 0} (role_of : End → Option T) where
+  -- both have such records, and are so related
+  abbrev pub At : (T → T → Type 0) → End → End → Type 0
+  At P old new = Becomes P (role_of old) (role_of new)
 
--- why a call that names such records is refused: so; or the end has others, and is as it was
-abbrev pub RefusedU32 : (Refusal → U32Role → U32Role → Type 0) → Refusal → End → End → Type 0
-RefusedU32 P refusal (ends.U32 old) (ends.U32 new) = P refusal old new
-RefusedU32 P refusal (ends.U32 old) new = ⊥
-RefusedU32 P refusal old new = (refusal ≡ Width) × (new ≡ old)
-
-abbrev pub AtU64 : (U64Role → U64Role → Type 0) → End → End → Type 0
-AtU64 P (ends.U64 old) (ends.U64 new) = P old new
-AtU64 P old new = ⊥
-
-abbrev pub RefusedU64 : (Refusal → U64Role → U64Role → Type 0) → Refusal → End → End → Type 0
-RefusedU64 P refusal (ends.U64 old) (ends.U64 new) = P refusal old new
-RefusedU64 P refusal (ends.U64 old) new = ⊥
-RefusedU64 P refusal old new = (refusal ≡ Width) × (new ≡ old)
-
-abbrev pub AtPair : (PairRole → PairRole → Type 0) → End → End → Type 0
-AtPair P (ends.Pair old) (ends.Pair new) = P old new
-AtPair P old new = ⊥
-
-abbrev pub RefusedPair : (Refusal → PairRole → PairRole → Type 0) → Refusal → End → End → Type 0
-RefusedPair P refusal (ends.Pair old) (ends.Pair new) = P refusal old new
-RefusedPair P refusal (ends.Pair old) new = ⊥
-RefusedPair P refusal old new = (refusal ≡ Width) × (new ≡ old)
-
-abbrev pub AtFlagged : (FlaggedRole → FlaggedRole → Type 0) → End → End → Type 0
-AtFlagged P (ends.Flagged old) (ends.Flagged new) = P old new
-AtFlagged P old new = ⊥
-
-abbrev pub RefusedFlagged : (Refusal → FlaggedRole → FlaggedRole → Type 0) → Refusal → End → End → Type 0
-RefusedFlagged P refusal (ends.Flagged old) (ends.Flagged new) = P refusal old new
-RefusedFlagged P refusal (ends.Flagged old) new = ⊥
-RefusedFlagged P refusal old new = (refusal ≡ Width) × (new ≡ old)
+  -- why a call that names such records is refused: so; or the end has others, and is as it was
+  abbrev pub RefusedAt : (Refusal → T → T → Type 0) → Refusal → End → End → Type 0
+  RefusedAt P refusal old new = MatchOption (role_of old) ((refusal ≡ Width) × (new ≡ old)) (λ _. Becomes (P refusal) (role_of old) (role_of new))

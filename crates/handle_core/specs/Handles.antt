@@ -15,11 +15,6 @@ end_in (Some session) = Some session.end
 abbrev pub end_of : Handle → Option End
 end_of handle = if handle.full then (end_in handle.kept.session) else None
 
--- it had an end, and has one, and these are so related
-abbrev pub Becomes : (End → End → Type 0) → Option End → Option End → Type 0
-Becomes P (Some old) (Some new) = P old new
-Becomes P old new = ⊥
-
 -- Why the call is refused, by its number, and what stands: it had nothing and has nothing; or it had an end, and has one,
 -- and these are so related.
 abbrev pub Refused : (Refusal → End → End → Type 0) → ℕ → Option End → Option End → Type 0

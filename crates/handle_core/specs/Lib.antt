@@ -2,6 +2,5 @@ pub mod Keeping
 pub mod Refusal
 pub mod Roles
 pub mod Vaults
-pub mod Records
 pub mod Ends
 pub mod Handles

@@ -1,76 +1,111 @@
-//! The calls of an end that name records.
+//! Records that an end's vector may have.
 
-ghost use Rattle.std.specs.Prelude.{◌≡◌, ℕ, List, IfOk, IfErr, OnOk};
+ghost use Rattle.std.specs.Prelude.{◌≡◌, Option, Some, None, refl, option_map};
 
-use crate::refusal::Refusal;
-use crate::session::End;
-use book_core::Receipt;
-use record_core::Record;
-use std::alloc::Global;
+use crate::session::{End, Role};
+use record_core::{Flagged, Pair, Record};
 
-/// Records that an end's vector may have. Each type says by its members what its calls make of an end, and why they are
-/// refused: `Width`, with the end as it was, where that vector has other records.
+/// Records that an end's vector may have: those of this width. What names records is written once over it.
 pub trait EndRecord: Record {
+    ghost use Rattle.std.specs.Borrow.{LendsIf, sem};
     ghost use Rattle.handle_core.specs.declared.session.End.{End};
-    ghost use Rattle.handle_core.specs.declared.refusal.Refusal.{Refusal};
-    ghost use Rattle.book_core.specs.declared.seat.Receipt.{Receipt};
+    ghost use Rattle.handle_core.specs.contracts.session.End.{the_row};
 
-    ghost grows: { List Self → Receipt → End → End → Type 0 };
+    /// What an end of such a vector is.
+    type Role;
 
-    ghost refuses_growth: { List Self → Refusal → End → End → Type 0 };
+    ghost with_role: { Self.Role → End };
 
-    ghost reads: { ℕ → List Self → List Self → ℕ → End → End → Type 0 };
+    ghost role_of: { End → Option Self.Role };
 
-    ghost refuses_read: { Refusal → End → End → Type 0 };
+    /// What the end is, where its vector has such records.
+    fn role(end: &mut End) -> Option<&mut Self::Role>
+        ensures* writes_back { sem 𝓛 (LendsIf the_row Self.Role.row end.entry result with_role end.old) }
+        ensures value { option_map (λ role. role.now) result ≡ role_of end.old };
 
-    ghost reads_all: { ℕ → List Self → List Self → ℕ → End → End → Type 0 };
+    ghost is_its_role: { (role : Self.Role) → role_of (with_role role) ≡ Some role };
+}
 
-    ghost counts: { Self → ℕ → End → End → Type 0 };
+impl EndRecord for u32 {
+    ghost use Rattle.handle_core.specs.declared.session.End.TheVariants as ends;
+    ghost use Rattle.handle_core.specs.Ends.{u32_role};
 
-    ghost finds: { Self → ℕ → ℕ → End → End → Type 0 };
+    type Role = Role<u32>;
 
-    ghost refuses_look: { Refusal → End → End → Type 0 };
+    ghost with_role = { ends.U32 };
 
-    ghost changes: { ℕ → List Self → End → End → Type 0 };
+    ghost role_of = { u32_role };
 
-    ghost refuses_change: { ℕ → List Self → Refusal → End → End → Type 0 };
+    ghost is_its_role = { λ role. refl };
 
-    ghost resizes: { ℕ → Self → End → End → Type 0 };
+    fn role(end: &mut End) -> Option<&mut Role<u32>> {
+        if let End::U32(role) = end {
+            Some(role)
+        } else {
+            None
+        }
+    }
+}
 
-    ghost refuses_resize: { ℕ → Self → Refusal → End → End → Type 0 };
+impl EndRecord for u64 {
+    ghost use Rattle.handle_core.specs.declared.session.End.TheVariants as ends;
+    ghost use Rattle.handle_core.specs.Ends.{u64_role};
 
-    /// Grows by copies of the records. `Again` where another growth came first.
-    fn grow(end: &mut End, alloc: Global, records: &[Self]) -> Result<Receipt, Refusal>
-        ensures grown { IfOk result (λ receipt. grows records.now receipt end.old end.new) }
-        ensures refused { IfErr result (λ refusal. refuses_growth records.now refusal end.old end.new) };
+    type Role = Role<u64>;
 
-    /// Copies records from position `from` on to the front of `out`, and answers how many: as many as stand in one piece.
-    fn read(end: &mut End, from: u64, out: &mut [Self]) -> Result<u64, Refusal>
-        ensures read { IfOk result (λ count. reads from out.old out.new count end.old end.new) }
-        ensures refused { IfErr result (λ refusal. refuses_read refusal end.old end.new × (out.new ≡ out.old)) };
+    ghost with_role = { ends.U64 };
 
-    /// Copies a vault's records from position `from` on to the front of `out`, and answers how many: as far as both reach.
-    fn read_all(end: &End, from: u64, out: &mut [Self]) -> Result<u64, Refusal>
-        ensures read { IfOk result (λ count. reads_all from out.old out.new count end.now end.now) }
-        ensures refused { IfErr result (λ refusal. refuses_look refusal end.now end.now × (out.new ≡ out.old)) };
+    ghost role_of = { u64_role };
 
-    /// How many records of a vault equal this one.
-    fn count(end: &End, sought: Self) -> Result<u64, Refusal>
-        ensures count { IfOk result (λ count. counts sought count end.now end.now) }
-        ensures refused { IfErr result (λ refusal. refuses_look refusal end.now end.now) };
+    ghost is_its_role = { λ role. refl };
 
-    /// The first position from `from` on whose record equals this one, or how many records a vault has.
-    fn find(end: &End, sought: Self, from: u64) -> Result<u64, Refusal>
-        ensures found { IfOk result (λ place. finds sought from place end.now end.now) }
-        ensures refused { IfErr result (λ refusal. refuses_look refusal end.now end.now) };
+    fn role(end: &mut End) -> Option<&mut Role<u64>> {
+        if let End::U64(role) = end {
+            Some(role)
+        } else {
+            None
+        }
+    }
+}
 
-    /// Writes records over those of a vault from position `start` on.
-    fn change(end: &mut End, start: u64, records: &[Self]) -> Result<(), Refusal>
-        ensures changes { OnOk result (changes start records.now end.old end.new) }
-        ensures refused { IfErr result (λ refusal. refuses_change start records.now refusal end.old end.new) };
+impl EndRecord for Pair {
+    ghost use Rattle.handle_core.specs.declared.session.End.TheVariants as ends;
+    ghost use Rattle.handle_core.specs.Ends.{pair_role};
 
-    /// Makes the length of a vault `size`: takes records away, or appends copies of this one.
-    fn resize(end: &mut End, size: u64, filler: Self) -> Result<(), Refusal>
-        ensures resizes { OnOk result (resizes size filler end.old end.new) }
-        ensures refused { IfErr result (λ refusal. refuses_resize size filler refusal end.old end.new) };
+    type Role = Role<Pair>;
+
+    ghost with_role = { ends.Pair };
+
+    ghost role_of = { pair_role };
+
+    ghost is_its_role = { λ role. refl };
+
+    fn role(end: &mut End) -> Option<&mut Role<Pair>> {
+        if let End::Pair(role) = end {
+            Some(role)
+        } else {
+            None
+        }
+    }
+}
+
+impl EndRecord for Flagged {
+    ghost use Rattle.handle_core.specs.declared.session.End.TheVariants as ends;
+    ghost use Rattle.handle_core.specs.Ends.{flagged_role};
+
+    type Role = Role<Flagged>;
+
+    ghost with_role = { ends.Flagged };
+
+    ghost role_of = { flagged_role };
+
+    ghost is_its_role = { λ role. refl };
+
+    fn role(end: &mut End) -> Option<&mut Role<Flagged>> {
+        if let End::Flagged(role) = end {
+            Some(role)
+        } else {
+            None
+        }
+    }
 }

@@ -2,9 +2,8 @@
 
 ghost use Rattle.std.specs.Prelude.{◌≡◌};
 
-use crate::records::{CvecFlagged, CvecPair};
 use phase_core::{Committer, Grower, HostDisk, HostVault, Phase};
-use record_core::Record;
+use record_core::{Flagged, Pair, Record};
 
 /// Which end it is.
 #[derive(Drop)]
@@ -27,8 +26,8 @@ pub enum End {
     U32(Role<u32>),
     /// Of `i64` too, whose bytes and whose equality are those of `u64`.
     U64(Role<u64>),
-    Pair(Role<CvecPair>),
-    Flagged(Role<CvecFlagged>),
+    Pair(Role<Pair>),
+    Flagged(Role<Flagged>),
 }
 
 /// An end of a phase, as C keeps it.
