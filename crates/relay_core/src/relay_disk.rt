@@ -7,6 +7,7 @@ ghost use Rattle.relay_core.specs.Listed.{LeadTo, IsListed};
 use crate::call::Call;
 use disk_core::{Disk, DiskFault};
 use std::alloc::Global;
+use std::mem;
 use std::sync::atomic::AtomicBool;
 use std::sync::atomic::Ordering::SeqCst;
 
@@ -17,6 +18,8 @@ pub struct RelayDisk<D: Disk> {
     alloc: Global,
     inner: D,
     calls: Vec<Call>,
+    /// Memory for the next write: that of the first one of the list before, which is the longest of a commit.
+    spare: Vec<u8>,
     /// The moment at which the list began, by the clock of the disk below.
     from: u64,
     /// The moment that it is now.
@@ -39,6 +42,7 @@ impl<D: Disk> RelayDisk<D> {
             alloc,
             inner,
             calls: Vec::new(alloc),
+            spare: Vec::new(alloc),
             from: 1,
             moment: 1,
             lost: false,
@@ -86,17 +90,38 @@ impl<D: Disk> RelayDisk<D> {
         ensures inner { self.new.inner ≡ self.old.inner }
     {
         if self.made.swap(false, SeqCst) && !self.lost {
-            self.calls.clear();
+            let spare = empty(&mut self.calls);
             self.from = self.moment;
+            if let Some(spare) = spare {
+                self.spare = spare;
+            }
         }
     }
 }
 
-/// A copy of the bytes. `None` where there is no memory for it.
-fn copy_of(alloc: Global, bytes: &[u8]) -> Option<Vec<u8>>
+/// Empties the list, and answers the memory of its first call's bytes.
+fn empty(calls: &mut Vec<Call>) -> Option<Vec<u8>>
+    ensures { calls.new.items ≡ [] }
+{
+    calls.truncate(1);
+    let first = calls.pop();
+    calls.clear();
+    match first {
+        Some(Call::Write { bytes, .. }) => Some(bytes),
+        _ => None,
+    }
+}
+
+/// A copy of the bytes in this memory, or in more where they are longer. `None` where there is none.
+fn copy_in(spare: Vec<u8>, bytes: &[u8]) -> Option<Vec<u8>>
     ensures { IfSome result (λ copy. copy.items ≡ bytes.now) }
 {
-    Vec::from_slice(alloc, bytes).ok()
+    let mut copy = spare;
+    copy.clear();
+    match copy.extend_from_slice(bytes) {
+        Ok(()) => Some(copy),
+        Err(_) => None,
+    }
 }
 
 /// Puts the call behind the others, and answers whether there was memory for it.
@@ -149,7 +174,8 @@ impl<D: Disk> Disk for RelayDisk<D> {
     #[tactic(auto, using(crate::proofs::ListedLemmas::lead_more))]
     fn write_at(&mut self, at: u64, bytes: &[u8]) -> Result<(), DiskFault> {
         self.begin();
-        let copy = copy_of(self.alloc, bytes);
+        let spare = mem::replace(&mut self.spare, Vec::new(self.alloc));
+        let copy = copy_in(spare, bytes);
         let written = self.inner.write_at(at, bytes);
         let listed = match copy {
             Some(bytes) => list(&mut self.calls, Call::Write { at, bytes }),
