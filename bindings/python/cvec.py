@@ -125,6 +125,10 @@ class Error(Exception):
             text += f": {os.strerror(errno)}"
         super().__init__(text)
 
+    def __reduce__(self):
+        """With all its words: `pickle` passes the text alone to another process, of which no Error is made."""
+        return type(self), (self.status, Fault(self.at, self.cause, self.found), self.errno), self.__dict__
+
 
 def _pass(status, fault=None):
     if status != 0:

@@ -113,6 +113,10 @@ class Error(Exception):
         text = text or _LIB.cvec_vector_status_text(status).decode()
         super().__init__(f"{text}: {os.strerror(errno)}" if errno else text)
 
+    def __reduce__(self) -> Any:
+        """With the status: `pickle` passes the text alone to another process, of which no Error is made."""
+        return type(self), (self.status, *self.args), self.__dict__
+
 
 def _pass(status: int) -> None:
     """To be asked right behind the call that answered it."""

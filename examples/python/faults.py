@@ -1,8 +1,10 @@
 """A test of cvec.py: what isn't a record is refused, threads lose nothing, a forked process appends nothing, what is closed
 is let go, and what is no file isn't mapped: faults.py FOLDER [plain]. With 'plain' it does so without numpy."""
 import gc
+import multiprocessing
 import os
 import pathlib
+import pickle
 import signal
 import sys
 import threading
@@ -237,6 +239,15 @@ def check_maps():
     signal.alarm(0)
 
 
+def check_pickling():
+    """A refusal is the same in another process; a pool, which would wait for ever, has that of its own."""
+    for it in (cvec.Error(5, cvec.Fault(7, 1, 2)), cvec.Error(13, cvec.Fault(at=3)), cvec.Error(35, errno=2), cvec.Error(34)):
+        there = pickle.loads(pickle.dumps(it))
+        assert str(there) == str(it) and vars(there) == vars(it) and type(there) is cvec.Error
+    with multiprocessing.Pool(1) as pool:
+        assert refusal_of(pool.apply_async(cvec.open, (PATH, "u64")).get, 20) == "disk open: No such file or directory"
+
+
 check_rows()
 if numpy is not None:
     check_arrays()
@@ -244,4 +255,5 @@ check_threads()
 check_fork()
 check_closing()
 check_maps()
+check_pickling()
 print("with numpy" if numpy else "without numpy")

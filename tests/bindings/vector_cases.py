@@ -1,11 +1,14 @@
 """Tests of cvec_vector.py: vector_cases.py FOLDER NAME [plain]. NAME is that of a test below. With 'plain' it runs without
 numpy. What a file holds is read by the reader in tests/fuzz, which shares nothing with the library."""
 import array
+import copy
 import ctypes
 import errno
 import gc
 import math
+import multiprocessing
 import os
+import pickle
 import random
 import resource
 import signal
@@ -719,6 +722,16 @@ def each_status_has_the_sentence_of_c():
         assert str(Error(it)) == told[it] and str(Error(it, errno=2)) == told[it] + ": No such file or directory"
         assert Error(int(it)).status is it
     assert str(Error(99)) == "an unknown status" and Error(99).status == 99
+
+
+def a_refusal_goes_to_another_process():
+    """Each as it is; and a pool, which would wait for ever, has that of its process."""
+    for it in (Error(Status.BUSY), Error(Status.DISK_OPEN, errno=errno.ENOENT), Error(99), Error(Status.NOT_SO, "closed")):
+        for there in (copy.copy(it), *(pickle.loads(pickle.dumps(it, protocol)) for protocol in range(pickle.HIGHEST_PROTOCOL + 1))):
+            assert (type(there), there.status, there.errno, str(there)) == (Error, it.status, it.errno, str(it))
+    with multiprocessing.Pool(1) as pool:
+        told = pool.apply_async(Vector.open, (PATH,))
+        assert refusal(told.get, 20) == (Status.DISK_OPEN, "the file can't be opened: No such file or directory")
 
 
 def is_locked_by_another():

@@ -195,6 +195,10 @@ a_python_vector_names_each_refusal() (
     is_so_with_and_without_numpy each_refusal
 )
 
+a_refusal_of_a_python_vector_goes_to_another_process() (
+    is_so_without_numpy a_refusal_goes_to_another_process
+)
+
 a_python_vector_is_in_use_by_another_program() (
     is_so_without_numpy grows_and_reads
     (
