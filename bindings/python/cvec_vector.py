@@ -782,10 +782,15 @@ class Vector:
             handle, self._handle = self._handle, None
             if handle is None:
                 return
-            _LIB.cvec_vector_stop_flusher(handle)
-            while self._flushers > 0:
-                self._flusher_left.wait()
-        _pass(_LIB.cvec_vector_close(handle))
+            try:
+                _LIB.cvec_vector_stop_flusher(handle)
+                while self._flushers > 0:
+                    self._flusher_left.wait()
+            except BaseException:
+                # As Ctrl-C: nothing is closed yet, and another call closes it.
+                self._handle = handle
+                raise
+            _pass(_LIB.cvec_vector_close(handle))
 
     # Who is inside a call holds the vector, so none is here.
     __del__ = close

@@ -1008,6 +1008,33 @@ def a_forked_process_is_refused():
     assert records() == [5, 8, 9]
 
 
+def a_close_that_is_interrupted_is_made_again():
+    """Ctrl-C comes while it waits for a flusher."""
+    library, begun, goes_on = cvec_vector._LIB, threading.Event(), threading.Event()
+    run = library.cvec_vector_run_flusher
+
+    def run_late(*words):
+        begun.set()
+        goes_on.wait()
+        return run(*words)
+
+    library.cvec_vector_run_flusher = run_late
+    signal.signal(signal.SIGINT, signal.default_int_handler)
+    vector = Vector.create(PATH)
+    vector.grow([5])
+    thread = threading.Thread(target=vector.run_flusher, args=(math.inf,))
+    thread.start()
+    begun.wait()
+    threading.Timer(0.3, os.kill, (os.getpid(), signal.SIGINT)).start()
+    has_no(KeyboardInterrupt, vector.close)
+    assert refusal(Vector.open, PATH)[0] == Status.IN_USE
+    goes_on.set()
+    vector.close()
+    thread.join()
+    with Vector.open(PATH) as again:
+        assert list(again) == [5]
+
+
 def a_full_device_leaves_what_is_settled():
     vector = Vector.create(PATH)
     _, hard = resource.getrlimit(resource.RLIMIT_FSIZE)

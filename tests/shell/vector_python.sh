@@ -248,6 +248,8 @@ a_flusher_in_python_commits_what_nobody_settles() (
     is_so_without_numpy a_flusher_commits_what_nobody_settles
     rm -rf "$work/files"
     is_so_without_numpy a_close_waits_for_a_flusher_that_is_late
+    rm -rf "$work/files"
+    is_so_without_numpy a_close_that_is_interrupted_is_made_again
 )
 
 a_python_vector_that_is_closed_waits_for_calls() (
