@@ -306,11 +306,13 @@ class Seat:
             raise Error(Status.BUSY)
 
     def _grow_by(self, handle: c_void_p, at: int, count: int, receipt: _Receipt) -> int:
-        status = _LIB.cvec_vector_grow_records(handle, at, count, byref(receipt))
-        if status == 0:
-            receipt.number += self._vector._base
-            self._last = receipt.number
-        return status
+        try:
+            return _LIB.cvec_vector_grow_records(handle, at, count, byref(receipt))
+        finally:
+            # An interrupt may come as soon as it has grown.
+            if receipt.len > 0:
+                receipt.number += self._vector._base
+                self._last = receipt.number
 
     def _grow(self, at: int, count: int, receipt: _Receipt) -> None:
         """Where C takes no further growth, it is made once C's seats were closed."""
@@ -328,8 +330,11 @@ class Seat:
         read them when it returns; they are durable once they are settled. Nobody changes an array meanwhile. Where 1,048,568
         growths were made it settles them first. ValueError: not all are records of the vector. Error EMPTY: none; TOO_LARGE:
         more than 1,048,568 bytes; BROKEN."""
+        return self._grow_noted(records, _Receipt())
+
+    def _grow_noted(self, records: Any, receipt: _Receipt) -> Receipt:
+        """As `grow`. The receipt has a length from the growth on, whatever interrupts this."""
         held, at, count = self._form.lend(records)
-        receipt = _Receipt()
         try:
             self._grow(at, count, receipt)
         finally:
@@ -457,9 +462,12 @@ class Appender:
         """Grows by what is kept, as one block; None where that is nothing. Refused, all of it stays kept."""
         if self._kept == 0:
             return None
-        receipt = self._seat.grow(self._room[:self._kept])
-        self._kept = 0
-        return receipt
+        receipt = _Receipt()
+        try:
+            return self._seat._grow_noted(self._room[:self._kept], receipt)
+        finally:
+            if receipt.len > 0:
+                self._kept = 0
 
 
 class _Lease:

@@ -328,6 +328,45 @@ def appenders():
     assert records() == list(range(8))
 
 
+def growths_are_interrupted():
+    """Ctrl-C comes before C has grown, and as soon as it has: an appender grows by nothing twice, and growths are counted on."""
+    library, moments = cvec_vector._LIB, []
+    grow = library.cvec_vector_grow_records
+
+    def grow_interrupted(*words):
+        moment = moments.pop() if moments else None
+        if moment == "before":
+            raise KeyboardInterrupt
+        status = grow(*words)
+        if moment == "behind":
+            raise KeyboardInterrupt
+        return status
+
+    library.cvec_vector_grow_records = grow_interrupted
+    with Vector.create(PATH, seats=1) as vector:
+        out = vector.appender(3)
+        for it in range(3):
+            out.push(it)
+        for moment, kept in (("before", 3), ("behind", 0)):
+            moments.append(moment)
+            has_no(KeyboardInterrupt, out.push, 3)
+            assert out.kept == kept
+        assert out.flush() is None and list(vector) == [0, 1, 2]
+        out.push(4)
+        moments.append("behind")
+        has_no(KeyboardInterrupt, out.flush)
+        assert out.kept == 0 and list(vector) == [0, 1, 2, 4]
+        moments.append("behind")
+        has_no(KeyboardInterrupt, vector.grow, [5])
+        vector.settle()
+        assert vector.settled() == 3
+        moments.append("behind")
+        has_no(KeyboardInterrupt, vector.grow, [6])
+        vector.fold()
+        assert vector.settled() == 4 and vector.grow([7]) == (4, 6, 1)
+    assert records() == [0, 1, 2, 4, 5, 6, 7]
+
+
 # ---- the whole vector
 
 def the_whole_vector():

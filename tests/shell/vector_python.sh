@@ -129,6 +129,10 @@ a_python_appender_grows_by_blocks() (
     is_so_with_and_without_numpy appenders
 )
 
+growths_of_python_that_are_interrupted_are_made_once() (
+    is_so_with_and_without_numpy growths_are_interrupted
+)
+
 # ---- the whole vector
 
 a_whole_python_vector_is_changed_and_searched() (
