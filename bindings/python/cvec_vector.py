@@ -218,12 +218,16 @@ class _Rows:
         if width % 8 != 0 or not 8 <= width <= GREATEST_ROW:
             raise ValueError(f"a record takes {width} bytes: it has to be a multiple of 8 up to {GREATEST_ROW}")
         self.words = width // 8
+        # A record as bytes alone: of one with fields numpy copies these, and not what is between them.
+        self._raw = f"V{width}"
 
     def lend(self, records: Any) -> tuple[Any, Any, int]:
         if not isinstance(records, numpy.ndarray) or records.dtype != self.dtype or records.ndim != 1:
             raise ValueError(f"no records of the type: not an array of {self.dtype} with one dimension")
-        row = numpy.require(records, requirements=["C", "A"])
-        return row, row.__array_interface__["data"][0], len(row) * self.words
+        row = numpy.asarray(records).view(self._raw)
+        if not row.flags.c_contiguous or _address_of(row) % 8 != 0:
+            row = row.copy()
+        return row, _address_of(row), len(row) * self.words
 
     def room(self, count: int) -> Any:
         return numpy.empty(count, dtype=self.dtype)
@@ -234,7 +238,7 @@ class _Rows:
 
     def put(self, room: Any, at: int, record: Any) -> None:
         self._check(record)
-        room[at] = record
+        room.view(self._raw)[at] = numpy.void(record.tobytes())
 
     def bytes_of(self, record: Any) -> bytes:
         self._check(record)

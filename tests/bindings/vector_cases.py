@@ -227,6 +227,30 @@ def rows_of_a_dtype():
         assert b"".join(it.to_bytes(8, "little") for it in records()) == values.tobytes()
 
 
+def rows_with_padding():
+    """The bytes between the fields are a record's too: they come along where rows are copied, and are searched for."""
+    form = numpy.dtype([("flag", "?"), ("key", "<u8"), ("part", "<u2")], align=True)
+    assert form.itemsize == 24
+    raw = bytes(it % 251 if it % 24 else 1 for it in range(24 * 50))
+    rows = numpy.frombuffer(raw, dtype=form)
+    cells = [raw[at:at + 24] for at in range(0, len(raw), 24)]
+    unaligned = numpy.frombuffer(b"123" + raw, dtype=form, offset=3)
+    with Vector.create(PATH, dtype=form) as vector:
+        for row in (rows[::3], rows[::-1], unaligned):
+            vector.grow(row)
+        with vector.appender(3) as out:
+            for row in rows[:8]:
+                out.push(row)
+        wanted = cells[::3] + cells[::-1] + cells + cells[:8]
+        assert [it.tobytes() for it in vector] == wanted
+        for it in (0, 1, 7, 8, 49):
+            assert vector.count(rows[it]) == wanted.count(cells[it]) and vector.find(rows[it], 1) == wanted.index(cells[it], 1)
+        vector.change(2, rows[40:0:-7])
+        wanted[2:8] = cells[40:0:-7]
+        assert vector[7].tobytes() == cells[5]
+    assert b"".join(it.to_bytes(8, "little") for it in records()) == b"".join(wanted)
+
+
 def width_of_file():
     with open(PATH, "rb") as file:
         return int.from_bytes(file.read(11)[9:], "little")

@@ -114,6 +114,7 @@ a_python_vector_takes_arrays_of_numpy() (
 
 a_python_vector_has_rows_of_a_dtype() (
     is_so_with_numpy rows_of_a_dtype
+    is_so_with_numpy rows_with_padding
 )
 
 a_python_vector_has_records_of_each_type() (
