@@ -269,7 +269,15 @@ class Receipt(NamedTuple):
     """How many records it has."""
 
 
-class Seat:
+class _Single:
+    """What there is once, as C has it."""
+
+    def __reduce__(self) -> Any:
+        """Neither `copy` nor `pickle` makes another."""
+        raise TypeError(f"a {type(self).__name__} can't be copied")
+
+
+class Seat(_Single):
     """What one thread calls. `Vector.seat` gives it; a second thread that calls it meanwhile is refused (BUSY)."""
 
     def __init__(self, vector: Vector) -> None:
@@ -433,7 +441,7 @@ class Seat:
                     self._vector._replace(self)
 
 
-class Appender:
+class Appender(_Single):
     """Single records, kept until there are as many as one block has: then the vector grows by them. Nobody reads what is kept.
     A `with` block grows by the rest at its end."""
 
@@ -484,7 +492,7 @@ class _Lease:
         self._free.append(self.seat)
 
 
-class Vector:
+class Vector(_Single):
     """A durable vector of a file, which is locked until it is closed; `create` and `open` make one. Threads may share it: each
     call goes by the seat of its thread. A process that is forked may only close it (FORKED).
 

@@ -797,6 +797,20 @@ def a_refusal_goes_to_another_process():
         assert refusal(told.get, 20) == (Status.DISK_OPEN, "the file can't be opened: No such file or directory")
 
 
+def no_copy_is_made():
+    """It would be closed a second time in C."""
+    vector = Vector.create(PATH)
+    with vector.appender() as out:
+        out.push(5)
+        for it in (vector, vector.seat(), out):
+            for make in (copy.copy, copy.deepcopy, pickle.dumps, lambda it: pickle.dumps(it, 0)):
+                has_no(TypeError, make, it)
+    gc.collect()
+    vector.grow([7])
+    vector.close()
+    assert records() == [5, 7]
+
+
 def is_locked_by_another():
     assert refusal(Vector.open, PATH)[0] == Status.IN_USE
 

@@ -204,6 +204,10 @@ a_refusal_of_a_python_vector_goes_to_another_process() (
     is_so_without_numpy a_refusal_goes_to_another_process
 )
 
+a_python_vector_is_not_copied() (
+    is_so_without_numpy no_copy_is_made
+)
+
 a_python_vector_is_in_use_by_another_program() (
     is_so_without_numpy grows_and_reads
     (
