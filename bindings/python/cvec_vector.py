@@ -762,18 +762,25 @@ class Vector(_Single):
     def __getitem__(self, key: int | slice) -> Any:
         """The record at a position, or a copy of a slice."""
         seat = self.seat()
-        size = seat.size()
         if isinstance(key, slice):
-            positions = range(size)[key]
-            if not positions:
-                return self._form.room(0)
-            first, last = min(positions[0], positions[-1]), max(positions[0], positions[-1])
-            return seat.read(first, last + 1)[::positions.step]
+            return self._slice(seat, key)
+        size = seat.size()
         try:
             at = range(size)[key]
         except IndexError:
             raise IndexError(f"there is no position {key} of {size}") from None
         return self._form.one(seat.read(at, at + 1))
+
+    def _slice(self, seat: Seat, key: slice) -> Any:
+        """Where another thread makes it shorter meanwhile, that of the shorter one."""
+        while True:
+            positions = range(seat.size())[key]
+            if not positions:
+                return self._form.room(0)
+            first, last = min(positions[0], positions[-1]), max(positions[0], positions[-1])
+            rows = seat.read(first, last + 1)
+            if len(rows) == last + 1 - first:
+                return rows[::positions.step]
 
     def pieces(self, length: int = 65536) -> Iterator[Any]:
         """The records that there are now, in copies of so many."""

@@ -141,6 +141,27 @@ def indices_and_slices():
         assert [len(it) for it in pieces] == [33, 33, 1] and len(list(seen)) == 99
 
 
+def a_slice_beside_a_shrink():
+    """The vector becomes shorter once its size was asked for."""
+    row = list(range(100))
+    for at in (slice(-1, -60, -3), slice(None, None, -3), slice(80, 10, -7), slice(-1, -60, -1), slice(-60, None, 3)):
+        with Vector.create(PATH) as vector:
+            vector.grow(row)
+            seat, sizes = vector.seat(), []
+            size = seat.size
+
+            def size_before():
+                sizes.append(size())
+                if len(sizes) == 1:
+                    run_all([lambda: vector.resize(50)])
+                return sizes[-1]
+
+            seat.size = size_before
+            assert list(vector[at]) == row[:50][at], at
+            assert sizes[:2] == [100, 50]
+        os.remove(PATH)
+
+
 def what_is_no_record():
     bad = [[-1], [2 ** 64], [1.0], ["1"], [None], [[1, 2]], 5, None, "12", [1, 2, GREATEST + 1], b"12345678", bytearray(8),
            memoryview(bytes(8)), array.array("q", [-1]), array.array("d", [1.0])]

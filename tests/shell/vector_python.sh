@@ -102,6 +102,8 @@ a_python_vector_grows_and_reads() (
 
 a_python_vector_has_indices_and_slices() (
     is_so_with_and_without_numpy indices_and_slices
+    rm -rf "$work/files"
+    is_so_with_and_without_numpy a_slice_beside_a_shrink
 )
 
 a_python_vector_takes_no_other_values() (
