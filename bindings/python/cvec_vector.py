@@ -628,9 +628,10 @@ class Vector(_Single):
         self._grown = self._last() + 1
         if handles and self._grown > self._base:
             _pass(_AWAIT(handles[0], self._grown - 1 - self._base))
+        # An interrupt may come as soon as C has closed one.
+        self._phase, self._is_counted = self._phase + 1, False
         for seat in self._seats:
             seat._close_handle()
-        self._phase, self._is_counted = self._phase + 1, False
 
     def _end_phase(self, phase: int) -> None:
         """Has C count growths anew, but where another thread has done so since."""

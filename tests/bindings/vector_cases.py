@@ -537,6 +537,26 @@ def refused_memory_loses_nothing():
     assert records() == [5, 11]
 
 
+def a_call_is_interrupted_while_seats_are_closed():
+    """Growths are counted on, though C counts anew."""
+    library = cvec_vector._LIB
+    close = library.cvec_vector_close_seat
+
+    def close_interrupted(seat):
+        library.cvec_vector_close_seat = close
+        close(seat)
+        raise KeyboardInterrupt
+
+    with Vector.create(PATH, seats=1) as vector:
+        assert vector.grow([5]) == (0, 0, 1)
+        library.cvec_vector_close_seat = close_interrupted
+        has_no(KeyboardInterrupt, vector.fold)
+        assert vector.grow([7]) == (1, 1, 1) and vector.settled() == 1
+        vector.settle()
+        assert vector.settled() == 2
+    assert records() == [5, 7]
+
+
 def a_change_that_fails_breaks_it():
     vector = Vector.create(PATH)
     receipt = vector.grow(range(300))

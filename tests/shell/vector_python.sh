@@ -161,6 +161,8 @@ a_refused_call_of_a_whole_python_vector_leaves_it() (
     run list u64 "$work/files/vector.cvec"
     did '5\n11\n'
     rm -rf "$work/files"
+    is_so_without_numpy a_call_is_interrupted_while_seats_are_closed
+    rm -rf "$work/files"
     is_so_without_numpy a_change_that_fails_breaks_it
     run list u64 "$work/files/vector.cvec"
     seq 0 299 | cmp - "$out"
