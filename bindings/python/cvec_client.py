@@ -61,6 +61,16 @@ def _close(descriptors):
         os.close(descriptor)
 
 
+def _above_streams(descriptor):
+    """Where a standard stream is closed a pipe gets its number, at which the server would have another file."""
+    if descriptor > 2:
+        return descriptor
+    try:
+        return fcntl.fcntl(descriptor, fcntl.F_DUPFD_CLOEXEC, 3)
+    finally:
+        os.close(descriptor)
+
+
 class Seat:
     """One client's place: the client's ends of its two pipes."""
 
@@ -183,8 +193,8 @@ class Server:
             for _ in range(seats):
                 for mine in (1, 0):
                     ends = os.pipe()
-                    ours.append(ends[mine])
-                    theirs.append(ends[1 - mine])
+                    ours.append(_above_streams(ends[mine]))
+                    theirs.append(_above_streams(ends[1 - mine]))
             self.process = subprocess.Popen(words, preexec_fn=lambda: _prepare(theirs), close_fds=False,
                                             start_new_session=True, stdin=subprocess.DEVNULL, stdout=subprocess.DEVNULL)
         except BaseException:

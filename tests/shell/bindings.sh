@@ -278,6 +278,32 @@ a_table_holds_for_clients() (
     follows client_arrays client_python.txt
 )
 
+# No pipe has the number of a standard stream, which the server gets of its own.
+a_python_client_may_have_closed_streams() (
+    has python3 'clients of a server' || exit $is_skipped
+    cat >"$work/client.py" <<'CLIENT'
+import sys
+import cvec_client
+with cvec_client.Server(sys.argv[1], "u64", sys.argv[2], seats=2) as server:
+    for number in (5, 6, 7):
+        server.seats[number % 2].grow([number])
+        server.seats[number % 2].settle()
+CLIENT
+    client() {
+        rm -f "$work/t.cv"
+        run create u64 "$work/t.cv"
+        PYTHONPATH=$top/bindings/python PYTHONDONTWRITEBYTECODE=1 timeout 60 python3 "$work/client.py" "$top/cvec" "$work/t.cv"
+    }
+    client <&-
+    has_records 5 7
+    client >&-
+    has_records 5 7
+    client <&- >&-
+    has_records 5 7
+    client <&- >&- 2>&-
+    has_records 5 7
+)
+
 # A client's words, of which the first is `c` or `python`, at a terminal of its own.
 at_a_terminal() {
     how=$1
@@ -292,12 +318,15 @@ at_a_terminal() {
         python3 "$bindings/terminal.py" "$how" $client "$built/cvec" "$work/t.cv" "$@" >"$out"
 }
 
-# The file has the records from 0 on, so many.
-has_first() {
-    seq 0 $(($1 - 1)) >"$work/wanted"
+# The file has the records from one to another.
+has_records() {
+    seq "$1" "$2" >"$work/wanted"
     run list u64 "$work/t.cv"
     cmp "$work/wanted" "$out"
 }
+
+# The file has the records from 0 on, so many.
+has_first() { has_records 0 $(($1 - 1)); }
 
 make_terminal() {
     make_client
