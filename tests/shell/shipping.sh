@@ -124,6 +124,36 @@ what_a_killed_script_has_begun_is_waited_for() (
     did '5\n6\n'
 )
 
+# Once the server has taken a part of a step, another program changes PLACE. Nothing is done then, for which Redis has no error.
+a_step_that_redis_leaves_undone_is_none() (
+    has_redis || exit "$is_skipped"
+    redis-server --port 0 --unixsocket "$work/s" --save '' --daemonize yes >/dev/null
+    export REDIS_CLI="redis-cli -e -s $work/s" PYTHONDONTWRITEBYTECODE=1
+    await $REDIS_CLI ping
+    trap '$REDIS_CLI shutdown nosave' EXIT
+    is_halfway() { $REDIS_CLI client list | grep -q ' multi=[1-9]'; }
+    ships() {
+        status=0
+        timeout 60 "$shipping/to_redis" t "$work/follower" >"$out" 2>"$err" || status=$?
+    }
+    follows '' '+ 5\\n. 1\\n'
+    ships
+    [ "$status" -eq 0 ]
+    {
+        echo '#!/bin/sh'
+        echo "seq 5000 | sed 's/^/+ /'"
+        echo "until [ -e '$work/goes_on' ]; do sleep 0.05; done"
+        echo "printf '. 2\\n'"
+    } >"$work/follower"
+    { await is_halfway && $REDIS_CLI set '{t}:place' other && touch "$work/goes_on"; } >/dev/null &
+    ships
+    wait $!
+    [ "$status" -eq 1 ]
+    tells 'another program has changed this copy'
+    [ "$($REDIS_CLI lrange '{t}:records' 0 -1)" = 5 ]
+    [ "$($REDIS_CLI get '{t}:place')" = other ]
+)
+
 # A file that is there is nobody's copy, and stays.
 a_file_that_is_no_copy_stays() (
     has python3 'copies by follow' || exit "$is_skipped"
