@@ -107,6 +107,25 @@ what_is_no_line_of_a_step_is_refused() (
     has_kept 5 1
 )
 
+# So `again` ends too. The follower isn't begun.
+words_of_a_part_are_checked() (
+    has python3 'copies by follow' || exit "$is_skipped"
+    export PYTHONDONTWRITEBYTECODE=1
+    printf '#!/bin/sh\ntouch "%s/begun"\n' "$work" >"$work/follower"
+    chmod +x "$work/follower"
+    for words in 'x 3' '0 x' '0 0' '3 3' '5 3' '-1 3' '0 -3' '1.0 3' '0_1 3'; do
+        status=0
+        # shellcheck disable=SC2086 # each word is one
+        timeout 10 "$shipping/again" "$shipping/part" $words "$work/follower" >"$out" 2>"$err" || status=$?
+        [ "$status" -eq 2 ]
+        tells 'usage: part K N COMMAND ..'
+        [ ! -s "$out" ]
+    done
+    [ ! -e "$work/begun" ]
+    "$shipping/part" 2 3 "$work/follower"
+    [ -e "$work/begun" ]
+)
+
 # The command that a killed script has begun ends before another script goes on, which does that step once more.
 what_a_killed_script_has_begun_is_waited_for() (
     has python3 'copies by follow' || exit "$is_skipped"
