@@ -107,6 +107,25 @@ what_is_no_line_of_a_step_is_refused() (
     has_kept 5 1
 )
 
+# Of a longer name PostgreSQL takes 63 bytes, and there is no room for that of the table with PLACE.
+a_long_name_of_a_table_is_refused() (
+    has python3 'copies by follow' && has psql 'a copy in PostgreSQL' || exit "$is_skipped"
+    export PYTHONDONTWRITEBYTECODE=1 PGHOST="$work"
+    name=$(printf '%057d' 0 | tr 0 a)
+    for name in "$name" "${name}b" "${name}bcdefg"; do
+        status=0
+        "$shipping/to_postgres" "$name" false >"$out" 2>"$err" || status=$?
+        if [ "${#name}" -eq 57 ]; then
+            # There is no server.
+            [ "$status" -eq 1 ]
+            tells 'psql'
+        else
+            [ "$status" -eq 2 ]
+            tells 'a name of a table has 57 bytes at most'
+        fi
+    done
+)
+
 # So `again` ends too. The follower isn't begun.
 words_of_a_part_are_checked() (
     has python3 'copies by follow' || exit "$is_skipped"
