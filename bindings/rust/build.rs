@@ -13,6 +13,7 @@ fn main() {
     let Some(found) = places.into_iter().find(|it| it.join("libcvec.a").exists()) else {
         panic!("there is no libcvec.a: `make libraries` in the repository makes it, and CVEC_LIB names a folder that has it");
     };
+    println!("cargo:rerun-if-changed={}", found.join("libcvec.a").display());
     println!("cargo:rustc-link-search=native={}", found.display());
     println!("cargo:rustc-link-lib=static=cvec");
 }

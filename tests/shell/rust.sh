@@ -12,3 +12,40 @@ a_rust_program_appends_and_reads() (
     [ "$(tr '\n' ' ' <"$out")" = '5 7 11 13 ' ]
     is_shown_as_written u64 "$work/file"
 )
+
+# ---- which archive the crates link, with packages and archives that only seem them
+
+# Makes libcvec.a in this folder, whose one function answers this number.
+make_answer() {
+    mkdir -p "$1"
+    echo "int cvec_answer(void) { return $2; }" >"$work/answer.c"
+    cc -c "$work/answer.c" -o "$work/answer.o"
+    rm -f "$1/libcvec.a"
+    ar rc "$1/libcvec.a" "$work/answer.o"
+}
+
+# A package with the build script, in this folder, which prints the answer.
+make_asking() {
+    mkdir -p "$1/src"
+    cp "$top/bindings/rust/build.rs" "$1"
+    printf '[package]\nname = "asks"\nversion = "1.0.0"\nedition = "2024"\n[workspace]\n' >"$1/Cargo.toml"
+    printf '%s\n' 'unsafe extern "C" { safe fn cvec_answer() -> i32; }' 'fn main() { println!("{}", cvec_answer()); }' >"$1/src/main.rs"
+}
+
+# The package in this folder prints this answer.
+asks() {
+    CARGO_NET_OFFLINE=true cargo run --quiet --manifest-path "$1/Cargo.toml" --target-dir "$work/target" >"$out" 2>"$err" ||
+        { cat "$err" && exit 1; }
+    cat "$out"
+    [ "$(cat "$out")" = "$2" ]
+}
+
+a_crate_links_the_archive_anew_that_has_changed() (
+    has cc 'an archive' && has cargo 'a crate of plain Rust' || exit $is_skipped
+    make_asking "$work/asks"
+    export CVEC_LIB="$work/lib"
+    for answer in 5 7 7; do
+        make_answer "$work/lib" $answer
+        asks "$work/asks" $answer
+    done
+)
