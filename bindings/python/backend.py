@@ -1,4 +1,4 @@
-"""Makes a wheel for pip (PEP 517) of the modules here, with libcvec.so beside them: that of the folder that CVEC_LIB names, or
+"""Makes a wheel for pip (PEP 517) of the modules here, with libcvec.so beside them: that of the folder that CVEC_LIB names, and else
 of the repository, where `make libraries` makes it."""
 import base64
 import hashlib
@@ -13,12 +13,13 @@ FIRST_DATE = (1980, 1, 1, 0, 0, 0)
 
 
 def _library():
-    places = (os.environ.get("CVEC_LIB"), os.path.join(HERE, "..", "..", "out", "lib"))
-    found = [path for path in (os.path.join(it, "libcvec.so") for it in places if it) if os.path.exists(path)]
-    if not found:
-        raise SystemExit("there is no libcvec.so: `make libraries` in the repository makes it, and CVEC_LIB names a folder that "
-                         "has it")
-    return found[0]
+    named = os.environ.get("CVEC_LIB")
+    path = os.path.join(named or os.path.join(HERE, "..", "..", "out", "lib"), "libcvec.so")
+    if os.path.exists(path):
+        return path
+    if named:
+        raise SystemExit(f"CVEC_LIB names {named}, which has no libcvec.so")
+    raise SystemExit("there is no libcvec.so: `make libraries` in the repository makes it, and CVEC_LIB names a folder that has it")
 
 
 def _contents(tag):

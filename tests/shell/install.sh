@@ -185,7 +185,7 @@ pip_installs_the_modules() (
     # Nothing is installed without the library.
     if CVEC_LIB=$work python3 -m pip install --quiet --no-index --no-cache-dir --disable-pip-version-check \
         --target "$work/other" "$work/python" >"$out" 2>&1; then exit 1; fi
-    grep -q 'there is no libcvec.so' "$out"
+    grep -q "CVEC_LIB names $work, which has no libcvec.so" "$out"
     [ ! -e "$work/other/cvec.py" ]
 )
 
@@ -240,7 +240,7 @@ cargo_tests_the_crates() (
         [ "cvec $(sed -n 's/^version = "\(.*\)\.0"$/\1/p' "$crate/Cargo.toml")" = "$("$program" --version | head -n 1)" ]
     done
     if CVEC_LIB=$work cargo build --quiet --offline --target-dir "$work/target" >"$out" 2>&1; then exit 1; fi
-    grep -q 'there is no libcvec.a' "$out"
+    grep -q "CVEC_LIB names $work, which has no libcvec.a" "$out"
 )
 
 # ---- where, over what, and how it is taken away

@@ -71,3 +71,32 @@ a_mapped_file_is_read_where_no_change_is_live() (
     is_listed map "$shrunk${fold}010308000000010000000000000000"
     is_listed copy "$runs"
 )
+
+# pip makes a wheel by this module, here with libraries that only seem such: the one of the folder that CVEC_LIB names, or the
+# repository's own.
+a_wheel_has_the_library_that_is_named_or_its_own() (
+    has python3 'the modules of Python' || exit $is_skipped
+    mkdir -p "$work/top/out/lib" "$work/top/bindings" "$work/named" "$work/wheels"
+    cp -R "$top/bindings/python" "$work/top/bindings"
+    echo own >"$work/top/out/lib/libcvec.so"
+    echo named >"$work/named/libcvec.so"
+    has_library() {
+        (
+            cd "$work/top/bindings/python"
+            wheel=$(PYTHONDONTWRITEBYTECODE=1 python3 -c 'import backend, sys; print(backend.build_wheel(sys.argv[1]))' "$work/wheels")
+            python3 -c 'import sys, zipfile; print(zipfile.ZipFile(sys.argv[1]).read("libcvec.so").decode(), end="")' "$work/wheels/$wheel"
+        ) >"$out" 2>"$err"
+        [ "$(cat "$out")" = "$1" ]
+    }
+    unset CVEC_LIB
+    has_library own
+    export CVEC_LIB="$work/named"
+    has_library named
+    rm "$work/named/libcvec.so"
+    if has_library own; then exit 1; fi
+    tells "CVEC_LIB names $work/named, which has no libcvec.so"
+    unset CVEC_LIB
+    rm "$work/top/out/lib/libcvec.so"
+    if has_library own; then exit 1; fi
+    tells 'there is no libcvec.so'
+)

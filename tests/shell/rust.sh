@@ -49,3 +49,27 @@ a_crate_links_the_archive_anew_that_has_changed() (
         asks "$work/asks" $answer
     done
 )
+
+# As in a checkout, beside which a folder `lib` may lie, and as below a prefix.
+a_crate_links_the_archive_that_is_named_or_its_own() (
+    has cc 'an archive' && has cargo 'a crate of plain Rust' || exit $is_skipped
+    there=$work/there
+    make_asking "$there/top/bindings/rust"
+    make_asking "$there/prefix/share/cvec/rust"
+    unset CVEC_LIB
+    make_answer "$there/lib" 1
+    make_answer "$there/top/out/lib" 2
+    make_answer "$there/prefix/lib" 3
+    make_answer "$work/named" 4
+    asks "$there/top/bindings/rust" 2
+    asks "$there/prefix/share/cvec/rust" 3
+    export CVEC_LIB="$work/named"
+    asks "$there/top/bindings/rust" 4
+    rm "$work/named/libcvec.a"
+    if (asks "$there/top/bindings/rust" 2) >"$work/told" 2>&1; then exit 1; fi
+    tells "CVEC_LIB names $work/named, which has no libcvec.a"
+    unset CVEC_LIB
+    rm "$there/top/out/lib/libcvec.a" "$there/lib/libcvec.a"
+    if (asks "$there/top/bindings/rust" 2) >"$work/told" 2>&1; then exit 1; fi
+    tells 'there is no libcvec.a'
+)
