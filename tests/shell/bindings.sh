@@ -165,7 +165,8 @@ fronts_are_told_alike() (
     sed 's/^> open-to-read /> open /' "$out" | awk '/^> put/ { turn = 0 } /^> open/ { turn++ } turn == 1' >"$work/opened"
     sed 's/^> open-to-read /> open /' "$out" | awk '/^> put/ { turn = 0 } /^> open/ { turn++ } turn == 2' >"$work/seen"
     [ "$(grep -c '^> open' "$work/opened")" -eq $((2 * (${#file} / 2 + 1))) ]
-    grep -q '^refused 5' "$work/seen" && grep -q '^2: 5 9' "$work/seen"
+    grep -q '^refused 5' "$work/seen"
+    grep -q '^2: 5 9' "$work/seen"
     diff "$work/opened" "$work/seen"
 )
 
@@ -349,7 +350,10 @@ a_client_is_interrupted_and_told_what_is_settled() (
     [ "$(sed 1d "$out")" = 'ended 0' ]
     run list u64 "$work/t.cv"
     # The request that was left may have been done.
-    [ "$answered" -ge 200 ] && stands=$(wc -l <"$out") && [ $((stands - answered)) -ge 0 ] && [ $((stands - answered)) -le 1 ]
+    [ "$answered" -ge 200 ]
+    stands=$(wc -l <"$out")
+    [ $((stands - answered)) -ge 0 ]
+    [ $((stands - answered)) -le 1 ]
     has_first "$stands"
 )
 

@@ -117,7 +117,7 @@ a_c_program_reads_what_it_may_not_write() (
     chmod 755 "$work"
     chmod 444 "$work/d/t.cv"
     chmod 555 "$work/d"
-    ! as_no_writer sh -c ": >>'$work/d/t.cv'" 2>/dev/null
+    if as_no_writer sh -c ": >>'$work/d/t.cv'" 2>/dev/null; then return 1; fi
     for name in t link; do
         printf 'r\no\n' | as_no_writer "$work/looks" "$work/d/$name.cv" >"$out"
         printf '5 7 \n5 7 \n' | cmp - "$out"

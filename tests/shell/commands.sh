@@ -211,7 +211,8 @@ a_copy_has_growths_of_so_many_records() (
         rm "$work/n.cv"
         run copy u64 "$work/t.cv" "$work/n.cv" "--format=${of%%:*}" "--block=${of##*:}"
         was_refused 'new too large' 'nothing was written to it; give a smaller --block'
-        [ -f "$work/n.cv" ] && [ ! -s "$work/n.cv" ]
+        [ -f "$work/n.cv" ]
+        [ ! -s "$work/n.cv" ]
         run copy u64 "$work/t.cv" "$work/n.cv" "--format=${of%%:*}" "--block=${fits%%:*}"
         did 'copied size 5\n'
     done

@@ -181,7 +181,8 @@ a_new_file_that_a_full_device_takes_no_more_is_emptied() (
         on_a_full_device "${of%:*}" u64 "$work/t.cv" "$work/n.cv"
         was_refused 'new disk write' "cvec: $work/n.cv: the system didn't write it, or put it on the device, which may be full; it may have a part; "
         [ "$(cksum <"$work/t.cv")" = "$sum" ]
-        [ -f "$work/n.cv" ] && [ ! -s "$work/n.cv" ]
+        [ -f "$work/n.cv" ]
+        [ ! -s "$work/n.cv" ]
         run "${of%:*}" u64 "$work/t.cv" "$work/n.cv"
         did "${of#*:} size 100\n"
     done

@@ -200,6 +200,14 @@ the_gate_and_the_tests_are_counted_together() (
     [ "$(tail -n 1 "$out")" = '2 passed, 0 failed' ]
 )
 
+# Under `set -e` neither `! this` ends a test nor any part of `this && that` but the last.
+each_check_of_a_test_can_fail() (
+    check='(\[|!|grep|cmp|diff|tells|kill|[a-z_]+=\$)'
+    grep -nE "^ +(! |$check [^|]* && $check)" "$top"/tests/shell/*.sh | grep -vF '||' >"$out" || :
+    cat "$out"
+    [ ! -s "$out" ]
+)
+
 each_test_has_a_name_of_its_own() (
     [ -z "$("$top/tests/run" --list | sed 's/^ *//' | sort | uniq -d)" ]
 )
