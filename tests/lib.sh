@@ -124,9 +124,10 @@ a_changed_file() {
 
 program=$top/crates/cvec/out/cvec
 
-# The library of tests/calls.c is built.
-has_calls() {
-    has cc 'calls of the system that are noted, cut or refused' || return 1
+has_calls() { has cc 'calls of the system that are noted, cut or refused'; }
+
+# Builds the library of tests/calls.c.
+build_calls() {
     cc -std=gnu99 -Wall -Wextra -Werror -O1 -shared -fPIC "$top/tests/calls.c" -o "$work/calls.so" -ldl
 }
 
@@ -321,9 +322,13 @@ is_measurer_there() {
 
 # ---- all of them
 
-# Runs a test alone, with files of its own. A test is a function in parentheses, which ends at what first fails.
+count_reasons() { cat "$reasons" 2>/dev/null | wc -l; }
+
+# Runs a test alone, with files of its own. A test is a function in parentheses, which ends at what first fails. One that is
+# skipped has noted why: else what failed was a step that only seemed to ask for a tool.
 try() {
     tried=$((tried + 1))
+    noted=$(count_reasons)
     rm -rf "${work:?}"/*
     in=$work/in out=$work/out err=$work/err
     : >"$in"
@@ -331,7 +336,12 @@ try() {
         set -e
         "$1"
     ) >"$work/told" 2>&1
-    case $? in
+    ended=$?
+    if [ "$ended" -eq "$is_skipped" ] && [ "$(count_reasons)" -eq "$noted" ]; then
+        echo 'skipped, and it says no reason' >>"$work/told"
+        ended=1
+    fi
+    case $ended in
     0) passed=$((passed + 1)) ;;
     "$is_skipped") skipped=$((skipped + 1)) ;;
     "$is_counted")

@@ -64,6 +64,7 @@ a_part_of_the_records_is_listed() (
 # Of 2,400,000 bytes of records only those of the part are read: fewer than 20 reads are made.
 a_part_is_listed_without_the_other_records() (
     has_calls || exit $is_skipped
+    build_calls
     t=$work/t.cv
     run create u64 "$t"
     seq 1 300000 >"$in"

@@ -108,6 +108,7 @@ bring_about() {
 
 each_sentence_is_brought_about() (
     has_calls || exit $is_skipped
+    build_calls
     rows=0 wrong=0
     while IFS= read -r row; do
         case $row in

@@ -197,6 +197,7 @@ reads_once() {
 
 an_input_that_fails_grows_nothing_by_load() (
     has_calls || exit $is_skipped
+    build_calls
     a_changed_file
     sum=$(cksum <"$work/t.cv")
     seq 1 100000 >"$in"
@@ -213,6 +214,7 @@ an_input_that_fails_grows_nothing_by_load() (
 # The growths of the lines that were told to stand are there, and none that wasn't read whole.
 an_input_that_fails_leaves_the_first_lines_of_append() (
     has_calls || exit $is_skipped
+    build_calls
     seq 1 100000 >"$in"
     for block in 1 100; do
         rm -f "$work/t.cv"

@@ -351,6 +351,7 @@ is_written_beside_each() {
 # Whoever waits until its answer is taken keeps nobody out: the file is read.
 a_reader_that_waits_at_its_answer_keeps_nobody_out() (
     has_calls || exit $is_skipped
+    build_calls
     does
     is_written_beside_each until_answering
 )
@@ -358,6 +359,7 @@ a_reader_that_waits_at_its_answer_keeps_nobody_out() (
 # Of a list that is longer than the program's buffer and a pipe, most isn't written yet.
 a_long_list_that_waits_keeps_nobody_out() (
     has_calls || exit $is_skipped
+    build_calls
     t=$work/t.cv
     run create u64 "$t"
     seq 1 50000 >"$in"
@@ -375,6 +377,7 @@ a_long_list_that_waits_keeps_nobody_out() (
 # Each read is made half a second late, so the second command finds the file locked, and waits.
 a_command_that_writes_waits_for_those_that_read() (
     has_calls && has_locks_listed || exit $is_skipped
+    build_calls
     does CALLS_WAIT=500000
     is_read_late() { until_locked READ "$work/t.cv"; }
     is_written_beside_each is_read_late

@@ -19,6 +19,7 @@ did_as_in() {
 
 input_is_taken_in_parts() (
     has_calls || exit $is_skipped
+    build_calls
     seq 1 1000 >"$work/lines"
     for most in 1 7 4096; do
         for words in 'append --block=1' 'append --block=7' 'load --seats=1'; do
@@ -44,9 +45,8 @@ input_is_taken_in_parts() (
     did 'ok\nok\ncrashed 34\nsize 1\n5\n'
 )
 
-# A library is built that interrupts each second read of standard input before it is made.
-has_interrupted_reads() {
-    has cc 'reads that are interrupted' || return 1
+# Builds a library that interrupts each second read of standard input before it is made.
+build_interrupts() {
     cc -std=gnu99 -Wall -Wextra -Werror -O1 -shared -fPIC -x c - -o "$work/interrupts.so" -ldl <<'C'
 #define _GNU_SOURCE
 #include <dlfcn.h>
@@ -66,7 +66,9 @@ C
 
 # A read that a signal interrupts neither ends the input nor fails: it is made again.
 an_input_whose_reads_are_interrupted_is_appended_whole() (
-    has_calls && has_interrupted_reads || exit $is_skipped
+    has_calls || exit $is_skipped
+    build_calls
+    build_interrupts
     seq 1 100000 >"$in"
     for most in 1000 65536; do
         rm -f "$work/t.cv"
@@ -82,6 +84,7 @@ an_input_whose_reads_are_interrupted_is_appended_whole() (
 
 files_are_read_in_parts() (
     has_calls || exit $is_skipped
+    build_calls
     seq 1 1000 >"$in"
     run create u64 "$work/t.cv"
     run append u64 "$work/t.cv" --block=100
@@ -108,6 +111,7 @@ files_are_read_in_parts() (
 # A file that is made, changed, folded and copied by parts has the bytes of format.md.
 files_are_written_in_parts() (
     has_calls || exit $is_skipped
+    build_calls
     for most in 1 5; do
         rm -f "$work/t.cv" "$work/n.cv"
         by_parts $most create u64 "$work/t.cv"
@@ -138,6 +142,7 @@ files_are_written_in_parts() (
 # A sync that was interrupted is made again: two of a commit and one before it, beside the gate and what it opens.
 syncs_that_are_interrupted_are_made_again() (
     has_calls || exit $is_skipped
+    build_calls
     run create u64 "$work/t.cv"
     given '5\n'
     export CALLS_LOG="$work/calls"
@@ -150,6 +155,7 @@ syncs_that_are_interrupted_are_made_again() (
 # A client's growth of the record 5, its wait, and its end, byte by byte.
 clients_are_served_in_parts() (
     has_calls || exit $is_skipped
+    build_calls
     run create u64 "$work/t.cv"
     {
         printf '\1\0\0\0\1\0\0\0\0\0\0\0\0\0\0\0\5\0\0\0\0\0\0\0'

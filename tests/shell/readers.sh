@@ -261,12 +261,14 @@ copies_are_made_beside_a_writer() (
 # are asked. Each look answers what the vector was between the look's beginning and its end.
 looks_beside_writers_are_of_one_moment() (
     has python3 'looks beside writers' && has_calls || exit $is_skipped
+    build_calls
     counted python3 "$top/tests/beside.py" "$program" "$work/calls.so" "$work" "${CVEC_LOOKS:-10000}"
 )
 
 # So does the library, from C and from Python.
 looks_by_the_library_are_of_one_moment() (
     has_c && has python3 'looks beside writers' && has_calls || exit $is_skipped
+    build_calls
     make_python_library
     cc -std=c99 -O2 -Wall -Wextra -Werror "-I$c" -o "$work/looks" "$top/tests/bindings/looks.c" "$work/cvec_file.o" \
         "$c_library" "$kit_library"

@@ -235,6 +235,7 @@ the_rate_of_growth_is_shown() (
 
 a_python_reader_sees_the_vector_at_a_moment() (
     has python3 'a reader in Python' && has_calls || exit "$is_skipped"
+    build_calls
     for seed in 1 2; do
         PYTHONDONTWRITEBYTECODE=1 "$top/tests/mapped.py" "$program" "$work/calls.so" "$work" "${MAPPED_COMMANDS:-200}" $seed >"$out"
         cat "$out"

@@ -67,6 +67,7 @@ a_long_file_is_told_of_in_little_memory() (
 frames_are_told_beside_a_writer_by_few_reads() (
     command -v flock >/dev/null || lacks 'there is no flock to lock a file with' || exit $is_skipped
     has_calls || exit $is_skipped
+    build_calls
     t=$work/t.cv
     python3 - "$t" >"$work/wanted" <<'END'
 import struct, sys

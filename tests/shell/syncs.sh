@@ -55,6 +55,7 @@ are_commits() {
 # The folder too, since the name of the file is new.
 a_file_is_made_behind_its_first_byte() (
     has_calls || exit $is_skipped
+    build_calls
     mkdir "$work/folder"
     is_noted create u64 "$work/folder/t.cv"
     made 'sync folder' "$(creation t.cv)" 'answer 8'
@@ -63,6 +64,7 @@ a_file_is_made_behind_its_first_byte() (
 # A growth of three u64: 6 bytes of a frame's head but for its gate, 8 of counts, 24 of records, and the next gate.
 a_command_commits_one_frame() (
     has_calls || exit $is_skipped
+    build_calls
     t=$work/t.cv
     run create u64 "$t"
     given '5 6 7\n'
@@ -84,6 +86,7 @@ a_command_commits_one_frame() (
 # Home bytes are synced before the fold's frame, which ends the change, is written.
 a_fold_syncs_home_bytes_before_its_frame() (
     has_calls || exit $is_skipped
+    build_calls
     t=$work/t.cv
     run create u64 "$t"
     given '5 6 7\n'
@@ -99,6 +102,7 @@ a_fold_syncs_home_bytes_before_its_frame() (
 
 an_upgrade_commits_to_a_new_file() (
     has_calls || exit $is_skipped
+    build_calls
     mkdir "$work/folder"
     run create u64 "$work/t.cv"
     given '5 6 7\n'
@@ -112,6 +116,7 @@ an_upgrade_commits_to_a_new_file() (
 # Each of its growths is one commit.
 a_copy_commits_to_a_new_file() (
     has_calls || exit $is_skipped
+    build_calls
     mkdir "$work/folder"
     run create u64 "$work/t.cv"
     given '5\n6 7\n'
@@ -125,6 +130,7 @@ a_copy_commits_to_a_new_file() (
 # Not even the bytes that are there already.
 commands_that_read_write_nothing() (
     has_calls || exit $is_skipped
+    build_calls
     a_changed_file
     for words in 'check u64 FILE' 'list u64 FILE' 'count u64 FILE --record=7' 'find u64 FILE --record=7' 'stat FILE'; do
         # shellcheck disable=SC2046 # each word is one
@@ -136,6 +142,7 @@ commands_that_read_write_nothing() (
 # A growth that a client was told is settled is on the device then: the second answer, of the wait, comes behind the syncs.
 a_server_answers_a_wait_behind_the_syncs() (
     has_calls || exit $is_skipped
+    build_calls
     run create u64 "$work/t.cv"
     {
         printf '\1\0\0\0\1\0\0\0\0\0\0\0\0\0\0\0\5\0\0\0\0\0\0\0'
@@ -156,6 +163,7 @@ a_server_answers_a_wait_behind_the_syncs() (
 
 growths_of_many_lines_are_committed_frame_by_frame() (
     has_calls || exit $is_skipped
+    build_calls
     t=$work/t.cv
     seq 1 300000 >"$in"
     for words in 'append --block=1000' 'append --block=20000' 'load --seats=1' 'load --seats=3'; do
@@ -170,6 +178,7 @@ growths_of_many_lines_are_committed_frame_by_frame() (
 # 20,000 records in one frame are 160,000 bytes of records.
 a_long_change_is_one_commit() (
     has_calls || exit $is_skipped
+    build_calls
     t=$work/t.cv
     run create u64 "$t"
     is_noted resize u64 "$t" 20000 --record=5

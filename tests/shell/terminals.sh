@@ -127,6 +127,7 @@ PYTHON
 
 reading_is_watched_unless_it_is_to_be_quiet() (
     has python3 'terminals' && has_calls || exit $is_skipped
+    build_calls
     slow=$program program=/usr/bin/env
     run create u64 "$work/t.cv"
     for k in $(seq 1 20); do

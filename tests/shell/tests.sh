@@ -16,6 +16,26 @@ what_cannot_run_is_skipped() (
     [ "$(cat "$reasons")" = 'there is no no-such-tool for what needs it' ]
 )
 
+# So a step that only seems to ask for a tool passes over nothing.
+a_skip_without_a_reason_has_failed() (
+    seeming_tests
+    printf '%s() (\n    %s\n)\n' cannot_run 'lacks "there is no such thing" || exit $is_skipped' \
+        is_skipped_too 'exit $is_skipped' >"$there/tests/shell/second.sh"
+    run_tests_there second
+    answers 1 'FAILED: is_skipped_too\nskipped, and it says no reason\nsecond: 0 passed, 1 failed, 1 skipped\n1 skipped: there is no such thing\n0 passed, 1 failed\n'
+)
+
+# The compiler only seems one, and compiles nothing.
+a_helper_that_does_not_compile_fails_its_test() (
+    there=$work/there
+    mkdir -p "$there/bin"
+    printf '#!/bin/sh\necho "a fault of the compiler" >&2\nexit 1\n' >"$there/bin/cc"
+    chmod +x "$there/bin/cc"
+    PATH=$there/bin:$PATH "$top/tests/run" an_input_whose_reads_are_interrupted_is_appended_whole >"$out" || :
+    grep -qx 'a fault of the compiler' "$out"
+    [ "$(tail -n 1 "$out")" = '0 passed, 1 failed' ]
+)
+
 counts_of_a_run_are_added() (
     passed=1 failed=0
     printf 'well\n5 passed, 2 failed\n' >"$work/log"
