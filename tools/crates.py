@@ -45,6 +45,28 @@ def copy_crates(lines, names, copy):
         shutil.copy(f"{TOP}/HANDLES", copy)
 
 
+def remove(path):
+    if os.path.isdir(path):
+        shutil.rmtree(path)
+    elif os.path.lexists(path):
+        os.remove(path)
+
+
+def take(made, place, began):
+    """Moves a file or a folder to this place: it is there whole, or not at all. It is made as old as what it was made of was
+    copied (nanoseconds), so a source that was edited meanwhile is newer."""
+    os.makedirs(os.path.dirname(place), exist_ok=True)
+    os.utime(made, ns=(began, began))
+    new, old = f"{place}.new", f"{place}.old"
+    for left in (new, old):
+        remove(left)
+    shutil.move(made, new)
+    if os.path.isdir(place):
+        os.rename(place, old)
+    os.rename(new, place)
+    remove(old)
+
+
 def note_sources(names, copy):
     """Notes by the library of each of these crates, as the toolchain does, what it was made from: `rt ci` leaves that out."""
     sys.path.insert(0, os.path.dirname(os.path.realpath(shutil.which("rt"))))

@@ -125,6 +125,39 @@ a_source_that_is_edited_in_a_build_is_built_again() (
     tells_only 'cvec: proves and builds the program'
 )
 
+# Without Python `rt run` builds it.
+a_source_that_is_edited_in_a_build_without_python_is_built_again() (
+    seeming_repository
+    mkdir "$work/tools"
+    for tool in awk cat cp dirname find mkdir mktemp readlink rm sh sleep touch; do
+        ln -s "$(command -v $tool)" "$work/tools"
+    done
+    sed -i "2i [ \"\$1\" != run ] || { sleep 0.1 && touch src/main.rt && mkdir -p out && cp '$work/made' out/cvec; exit; }" "$there/bin/rt"
+    printf '#!/bin/sh\necho "made with $1"\n' >"$work/made"
+    chmod +x "$work/made"
+    for _ in 1 2; do
+        run_there "$there/bin:$work/tools"
+        [ "$(cat "$out")" = 'made with word' ]
+        tells_only 'cvec: proves and builds the program'
+    done
+)
+
+# As the program of `./build` is older than what was edited meanwhile, so is its archive.
+what_is_edited_in_a_build_is_newer_than_what_it_made() (
+    seeming_repository
+    of_three_crates
+    printf 'low: clap\nmiddle staticlib: low\ncvec: low\n' >"$there/crates.txt"
+    sed -i "1a sleep 0.1; touch '$there/crates/low/src/lib.rt'" "$there/bin/rt"
+    sed -i '3i [ "$1" != lib ] || { : >out/libmiddle.a; exit; }' "$there/bin/rt"
+    for made in cvec/out/cvec middle/out/libmiddle.a; do
+        touch -d '1 hour ago' "$there/crates/low/src/lib.rt"
+        PATH=$there/bin:/usr/bin:/bin "$there/build" "${made%%/*}" 2>"$err"
+        [ -e "$there/crates/$made" ]
+        [ "$there/crates/low/src/lib.rt" -nt "$there/crates/$made" ]
+        [ "$there/crates/$made" -nt "$there/crates.txt" ]
+    done
+)
+
 the_folder_may_have_any_name() (
     seeming_repository
     mv "$there" "$work/a & b|c\\d"
