@@ -48,12 +48,15 @@ take_edits_back() {
     tried_edits=
 }
 
-# Where the library for C can't be built over what was proved, the tests that take it have it proved once more.
+# Where the libraries for C can't be built over what was proved, none of an earlier run is left, and the tests that take them have
+# them proved once more.
 prove_all() {
     lay_edits_out
     RT_JOBS=${RT_JOBS-$("$top/tools/lanes")}
     export RT_JOBS
     count_of rt ci
     take_edits_back
-    [ "$failed" -ne 0 ] || "$top/tests/c_library" || :
+    [ "$failed" -eq 0 ] || return 0
+    rm -f "$c_library" "$threads_library"
+    "$top/tests/c_library" || :
 }

@@ -191,6 +191,11 @@ is_taken_by_an_append() {
 # The lines of this page between the fences of this language.
 shown_in() { sed -n "/^\`\`\`$2\$/,/^\`\`\`\$/p" "$top/docs/$1" | sed '/^```/d'; }
 
+# ---- what is built of the crates
+
+# The program or the archive of this crate is there, and is built again where it is older than its sources.
+build_older() { "$top/tools/current" "$1" || "$top/build" "$1" </dev/null >&2; }
+
 # ---- the library for C, and its callers, built as docs/use/c.md says
 
 c=$top/examples/c
@@ -198,9 +203,9 @@ c_library=$top/crates/cvec_c/out/libcvec_c.a
 
 has_c() { has cc 'the library for C' && has rt 'the library for C'; }
 
-# The library is there, or is built, and the file's calls are compiled.
+# The library is built, and the file's calls are compiled.
 make_c_library() {
-    [ -e "$c_library" ] || "$top/build" cvec_c
+    build_older cvec_c
     kit_library=$(dirname "$(rt doc)")/c/liblibc_c.a
     cc -std=c99 -O2 -fPIC -Wall -Wextra -Werror -pedantic -c "$c/cvec_file.c" -o "$work/cvec_file.o"
 }
@@ -247,7 +252,7 @@ compile_threads() {
 }
 
 make_threads_library() {
-    [ -e "$threads_library" ] || "$top/build" cvec_threads
+    build_older cvec_threads
     kit_library=$(dirname "$(rt doc)")/c/liblibc_c.a
 }
 
@@ -315,10 +320,7 @@ has_results_of_a_pool() {
 
 speed=$top/crates/cvec_speed/out/cvec_speed
 
-# The program that measures is there, or is built. Without words its status is 3.
-is_measurer_there() {
-    [ -x "$speed" ] || (cd "$top/crates/cvec_speed" && rt run </dev/null >/dev/null 2>&1) || [ -x "$speed" ]
-}
+is_measurer_there() { build_older cvec_speed; }
 
 # ---- all of them
 

@@ -4,11 +4,6 @@
 
 examples=$top/crates/examples/out/examples
 
-# The program of the examples is there, or is built.
-built_examples() {
-    [ -x "$examples" ] || (cd "$top/crates/examples" && rt run -- postings <stdin)
-}
-
 # Waits until a process has made this file longer than so many bytes, or has ended.
 until_longer_than() {
     until [ "$(stat -c %s "$2" 2>/dev/null || echo 0)" -gt "$1" ]; do
@@ -19,7 +14,7 @@ until_longer_than() {
 # The example's store of samples is killed and opened again: it has whole batches, and goes on behind them. The 60 batches
 # take 48,000 bytes and more, and at least 5 of 10 kills come before the last of them.
 a_killed_store_of_samples_goes_on() (
-    built_examples
+    build_older examples
     stopped=0
     for k in $(seq 0 9); do
         rm -f "$work/samples.cv"
@@ -43,7 +38,7 @@ a_killed_store_of_samples_goes_on() (
 
 # The page of the examples shows what they write, in blocks that tests/blocks leaves to this test.
 the_page_of_the_examples_shows_what_they_write() (
-    built_examples
+    build_older examples
     cd "$work"
     rm -f samples.cv
     {

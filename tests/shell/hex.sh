@@ -4,7 +4,7 @@
 
 the_small_program_answers_as_the_whole_one() (
     hex=$top/crates/cvec_hex/out/cvec_hex
-    [ -x "$hex" ] || (cd "$top/crates/cvec_hex" && rt run </dev/null)
+    build_older cvec_hex
     while IFS='=' read -r words input; do
         given "$input"
         status=0

@@ -82,6 +82,17 @@ an_input_whose_reads_are_interrupted_is_appended_whole() (
     done
 )
 
+# The compiler only seems one, and compiles nothing.
+a_helper_that_does_not_compile_fails_its_test() (
+    there=$work/there
+    mkdir -p "$there/bin"
+    printf '#!/bin/sh\necho "a fault of the compiler" >&2\nexit 1\n' >"$there/bin/cc"
+    chmod +x "$there/bin/cc"
+    PATH=$there/bin:$PATH "$top/tests/run" an_input_whose_reads_are_interrupted_is_appended_whole >"$out" || :
+    grep -qx 'a fault of the compiler' "$out"
+    [ "$(tail -n 1 "$out")" = '0 passed, 1 failed' ]
+)
+
 files_are_read_in_parts() (
     has_calls || exit $is_skipped
     build_calls

@@ -25,17 +25,6 @@ a_skip_without_a_reason_has_failed() (
     answers 1 'FAILED: is_skipped_too\nskipped, and it says no reason\nsecond: 0 passed, 1 failed, 1 skipped\n1 skipped: there is no such thing\n0 passed, 1 failed\n'
 )
 
-# The compiler only seems one, and compiles nothing.
-a_helper_that_does_not_compile_fails_its_test() (
-    there=$work/there
-    mkdir -p "$there/bin"
-    printf '#!/bin/sh\necho "a fault of the compiler" >&2\nexit 1\n' >"$there/bin/cc"
-    chmod +x "$there/bin/cc"
-    PATH=$there/bin:$PATH "$top/tests/run" an_input_whose_reads_are_interrupted_is_appended_whole >"$out" || :
-    grep -qx 'a fault of the compiler' "$out"
-    [ "$(tail -n 1 "$out")" = '0 passed, 1 failed' ]
-)
-
 counts_of_a_run_are_added() (
     passed=1 failed=0
     printf 'well\n5 passed, 2 failed\n' >"$work/log"
@@ -192,7 +181,7 @@ tests_that_are_ended_leave_nothing_running() (
 )
 
 # The gate's tool only seems one: it passes three tests while a wrong body lies beside the crate.
-the_gate_and_the_tests_are_counted_together() (
+seeming_gate() {
     seeming_tests
     cp "$top/test" "$there"
     cp "$top/tests/gate.sh" "$there/tests"
@@ -201,6 +190,10 @@ the_gate_and_the_tests_are_counted_together() (
     : >"$there/tests/wrong/one/a.edit"
     printf '#!/bin/sh\necho "lanes $RT_JOBS"\n[ "$1" = ci ] && [ -e crates/one/must-fail/a.edit ] && echo "3 passed, 0 failed"\n' >"$there/bin/rt"
     chmod +x "$there/bin/rt"
+}
+
+the_gate_and_the_tests_are_counted_together() (
+    seeming_gate
     unset RT_JOBS
     status=0
     PATH=$there/bin:$PATH taskset -c "$(first_processor)" "$there/test" >"$out" || status=$?
@@ -230,6 +223,53 @@ each_check_of_a_test_can_fail() (
 
 each_test_has_a_name_of_its_own() (
     [ -z "$("$top/tests/run" --list | sed 's/^ *//' | sort | uniq -d)" ]
+)
+
+# The libraries for C can't be built here, so the tests are to find none.
+no_library_of_an_earlier_run_is_left_by_the_gate() (
+    seeming_gate
+    rm "$there/tests/shell/second.sh"
+    printf '#!/bin/sh\nexit 1\n' >"$there/tests/c_library"
+    chmod +x "$there/tests/c_library"
+    for name in cvec_c cvec_threads; do
+        mkdir -p "$there/crates/$name/out"
+        : >"$there/crates/$name/out/lib$name.a"
+    done
+    PATH=$there/bin:$PATH "$there/test" >"$out"
+    [ "$(tail -n 1 "$out")" = '5 passed, 0 failed' ]
+    [ -z "$(ls "$there/crates/cvec_c/out" "$there/crates/cvec_threads/out" | grep '[.]a$')" ]
+)
+
+# `./build` only seems one, and tells what it was asked for.
+what_is_older_than_its_sources_is_built_before_it_is_tested() (
+    has_c || exit $is_skipped
+    there=$work/there
+    mkdir -p "$there/tests" "$there/crates/low/src"
+    cp -R "$top/tools" "$there"
+    cp -R "$top/tests/scripts" "$there/tests"
+    printf 'low: clap\ncvec_c staticlib: low\ncvec_threads staticlib: low\n' >"$there/crates.txt"
+    printf '%s: low\n' cvec_speed play_tests >>"$there/crates.txt"
+    printf '#!/bin/sh\necho "$1" >>"%s"\n' "$work/asked" >"$there/build"
+    for made in cvec_c/out/libcvec_c.a cvec_threads/out/libcvec_threads.a cvec_speed/out/cvec_speed play_tests/out/play_tests; do
+        mkdir -p "$there/crates/${made%/*}"
+        printf '#!/bin/sh\n' >"$there/crates/$made"
+        chmod +x "$there/build" "$there/crates/$made"
+    done
+    unset PLAY_TESTS
+    top=$there c_library=$there/crates/cvec_c/out/libcvec_c.a threads_library=$there/crates/cvec_threads/out/libcvec_threads.a
+    speed=$there/crates/cvec_speed/out/cvec_speed
+    asks_for() {
+        : >"$work/asked"
+        make_c_library
+        make_threads_library
+        is_measurer_there
+        "$there/tests/scripts/run" "$there/tests/scripts/runs.script" >"$out" || :
+        [ "$(paste -sd ' ' "$work/asked")" = "$1" ]
+    }
+    touch -d '1 hour ago' "$there/crates/low/src/lib.rt"
+    asks_for ''
+    touch -d '1 hour' "$there/crates/low/src/lib.rt"
+    asks_for 'cvec_c cvec_threads cvec_speed play_tests'
 )
 
 # The gate tries those of one crate at a time. That each can be applied, so that the prover refuses what it makes, is seen here.
