@@ -422,6 +422,62 @@ a_static_library_is_built_over_what_is_proved() (
     if tells 'a line of lib'; then return 1; fi
 )
 
+# What `rt ci` leaves of a library, and an `rt lib` that makes an archive of its note and this file.
+seeming_libraries() {
+    seeming_repository
+    mkdir -p "$there/tests" "$there/crates/low/src" "$there/crates/low/out/rlib/low.rlib"
+    cp "$top/tests/c_library" "$there/tests"
+    printf 'low: clap\ncvec_c staticlib: low\ncvec_threads staticlib: low\n' >"$there/crates.txt"
+    for name in cvec_c cvec_threads; do mkdir -p "$there/crates/$name/src"; done
+    touch -d '1 hour ago' "$there/crates/low/src/lib.rt"
+    printf '#!/bin/sh\n[ "$1" = lib ] || exit 2\nmkdir out\nname=${PWD##*/}\n%s\n' \
+        'cat ../low/out/rlib/stamp "$LONG" >out/lib$name.a' >"$there/bin/rt"
+    : >"$work/long"
+    export LONG="$work/long" PYTHONDONTWRITEBYTECODE=1
+}
+
+makes_libraries() {
+    status=0
+    PATH=$there/bin:/usr/bin:/bin "$there/tests/c_library" 2>"$err" || status=$?
+}
+
+the_libraries_for_c_are_made_of_what_was_proved() (
+    seeming_libraries
+    makes_libraries
+    [ "$status" -eq 0 ]
+    for name in cvec_c cvec_threads; do [ "$(cat "$there/crates/$name/out/lib$name.a")" = 'sources of low' ]; done
+    # Nothing is made of a library that is older than its sources, and what is edited meanwhile is newer than an archive.
+    touch -d '1 minute' "$there/crates/low/src/lib.rt"
+    rm "$there/crates/cvec_c/out/libcvec_c.a"
+    makes_libraries
+    [ "$status" -eq 1 ]
+    tells 'crates/low/src/lib.rt is newer than what was proved'
+    [ ! -e "$there/crates/cvec_c/out/libcvec_c.a" ]
+    touch -d '1 hour ago' "$there/crates/low/src/lib.rt"
+    sed -i "2i sleep 0.1; touch '$there/crates/low/src/lib.rt'" "$there/bin/rt"
+    makes_libraries
+    [ "$status" -eq 0 ]
+    [ "$there/crates/low/src/lib.rt" -nt "$there/crates/cvec_c/out/libcvec_c.a" ]
+)
+
+# It is made on another device, and comes over it to a full one: a file there has 64 KiB at most.
+a_library_for_c_is_left_whole_or_not_at_all() (
+    [ -w /dev/shm ] && [ "$(stat -c %d /dev/shm)" != "$(stat -c %d "$work")" ] ||
+        lacks 'there is no /dev/shm to bring a library from' || exit $is_skipped
+    seeming_libraries
+    LONG=$(mktemp -p /dev/shm)
+    trap 'rm -f "$LONG"' EXIT
+    head -c 200000 /dev/zero >"$LONG"
+    sed -i 's/^cat .*/ln "$LONG" out\/lib$name.a/' "$there/bin/rt"
+    (
+        export TMPDIR=/dev/shm
+        ulimit -f 128
+        makes_libraries
+        [ "$status" -eq 1 ]
+    )
+    [ ! -e "$there/crates/cvec_c/out/libcvec_c.a" ]
+)
+
 # The toolchain is ended too.
 a_build_that_is_ended_leaves_nothing_half() (
     seeming_repository
