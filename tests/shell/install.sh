@@ -381,6 +381,26 @@ a_prefix_is_a_whole_path() (
     done
 )
 
+# A second run comes in the midst of the first, as it puts the first library in its place. The proved libraries only seem such.
+libraries_are_made_by_two_at_once() (
+    has make 'the libraries' && has cc 'the libraries' || exit $is_skipped
+    there=$work/there
+    mkdir -p "$there/bin" "$there/kit/c" "$there/crates/cvec_c/out" "$there/crates/cvec_threads/out"
+    cp -R "$top/Makefile" "$top/tools" "$top/examples" "$there"
+    printf 'cvec_c staticlib: clap\ncvec_threads staticlib: clap\n' >"$there/crates.txt"
+    for made in crates/cvec_c/out/libcvec_c.a crates/cvec_threads/out/libcvec_threads.a kit/c/liblibc_c.a; do
+        echo "int $(basename "$made" .a);" | cc -x c -fPIC -c -o "$work/$(basename "$made" .a).o" -
+        ar rc "$there/$made" "$work/$(basename "$made" .a).o"
+    done
+    printf '#!/bin/sh\necho "%s/kit/page"\n' "$there" >"$there/bin/rt"
+    printf '#!/bin/sh\nif mkdir "%s/begun" 2>/dev/null; then make -s -C "%s" libraries || exit 9; fi\nexec /bin/mv "$@"\n' \
+        "$work" "$there" >"$there/bin/mv"
+    chmod +x "$there/bin/rt" "$there/bin/mv"
+    PATH=$there/bin:$PATH make -s --no-print-directory -C "$there" libraries
+    [ -e "$work/begun" ]
+    [ "$(ls "$there/out/lib" | paste -sd ' ')" = 'libcvec.a libcvec.so' ]
+)
+
 # './build' only seems one, and tells what it was asked for.
 an_older_library_is_built_again() (
     has make 'an install' || exit $is_skipped
