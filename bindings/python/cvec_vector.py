@@ -593,13 +593,15 @@ class Vector(_Single):
         self._free.append(heir)
 
     def _take_handle(self) -> c_void_p:
-        """A seat of C. The first one tells how many growths C counts: none, or all where it goes on."""
+        """A seat of C. The first one tells whether C counts anew, or goes on."""
         with self._counting:
             handle, counted = c_void_p(), c_uint64()
             _pass(_LIB.cvec_vector_take_seat(self._handle, byref(handle)))
             if not self._is_counted:
                 _LIB.cvec_vector_settled(handle, byref(counted))
-                self._base, self._is_counted = self._grown - counted.value, True
+                if counted.value == 0:
+                    self._base = self._grown
+                self._is_counted = True
             return handle
 
     # ---- the whole vector

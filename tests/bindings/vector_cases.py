@@ -555,6 +555,34 @@ def a_call_is_interrupted_while_seats_are_closed():
         vector.settle()
         assert vector.settled() == 2
     assert records() == [5, 7]
+    os.remove(PATH)
+    # A seat of another thread isn't closed, and grows before one is taken again.
+    goes_on, has_grown = threading.Event(), threading.Event()
+    told = []
+
+    def run():
+        for event in (None, goes_on):
+            if event:
+                event.wait()
+            told.append(vector.grow([len(told)]))
+            vector.settle()
+            has_grown.set()
+
+    with Vector.create(PATH, seats=3) as vector:
+        told.append(vector.grow([0]))
+        thread = threading.Thread(target=run)
+        thread.start()
+        has_grown.wait()
+        has_grown.clear()
+        library.cvec_vector_close_seat = close_interrupted
+        has_no(KeyboardInterrupt, vector.fold)
+        goes_on.set()
+        thread.join()
+        told.append(vector.grow([3]))
+        assert [it.number for it in told] == [0, 1, 2, 3] and vector.settled() == 3
+        vector.settle()
+        assert vector.settled() == 4
+    assert records() == [0, 1, 2, 3]
 
 
 def a_change_that_fails_breaks_it():
