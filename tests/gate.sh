@@ -54,9 +54,12 @@ prove_all() {
     lay_edits_out
     RT_JOBS=${RT_JOBS-$("$top/tools/lanes")}
     export RT_JOBS
+    began=$(mktemp) || exit 1
     count_of rt ci
     take_edits_back
-    [ "$failed" -eq 0 ] || return 0
-    rm -f "$c_library" "$threads_library"
-    "$top/tests/c_library" || :
+    if [ "$failed" -eq 0 ]; then
+        rm -f "$c_library" "$threads_library"
+        "$top/tests/c_library" "$began" || :
+    fi
+    rm -f "$began"
 }

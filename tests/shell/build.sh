@@ -438,7 +438,7 @@ seeming_libraries() {
 
 makes_libraries() {
     status=0
-    PATH=$there/bin:/usr/bin:/bin "$there/tests/c_library" 2>"$err" || status=$?
+    PATH=$there/bin:/usr/bin:/bin "$there/tests/c_library" "$@" 2>"$err" || status=$?
 }
 
 the_libraries_for_c_are_made_of_what_was_proved() (
@@ -453,7 +453,15 @@ the_libraries_for_c_are_made_of_what_was_proved() (
     [ "$status" -eq 1 ]
     tells 'crates/low/src/lib.rt is newer than what was proved'
     [ ! -e "$there/crates/cvec_c/out/libcvec_c.a" ]
+    # Nor where a source was edited while it was proved: behind the beginning of the gate.
     touch -d '1 hour ago' "$there/crates/low/src/lib.rt"
+    touch -d '2 hours ago' "$work/began"
+    makes_libraries "$work/began"
+    [ "$status" -eq 1 ]
+    tells 'crates/low/src/lib.rt is newer than what was proved'
+    touch "$work/began"
+    makes_libraries "$work/began"
+    [ "$status" -eq 0 ]
     sed -i "2i sleep 0.1; touch '$there/crates/low/src/lib.rt'" "$there/bin/rt"
     makes_libraries
     [ "$status" -eq 0 ]

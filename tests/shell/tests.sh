@@ -229,7 +229,9 @@ each_test_has_a_name_of_its_own() (
 no_library_of_an_earlier_run_is_left_by_the_gate() (
     seeming_gate
     rm "$there/tests/shell/second.sh"
-    printf '#!/bin/sh\nexit 1\n' >"$there/tests/c_library"
+    # It is told when the proofs began.
+    echo "sleep 0.1; touch '$there/edited'" >>"$there/bin/rt"
+    printf '#!/bin/sh\nfind "%s/edited" -newer "$1" >"%s/told"\nexit 1\n' "$there" "$there" >"$there/tests/c_library"
     chmod +x "$there/tests/c_library"
     for name in cvec_c cvec_threads; do
         mkdir -p "$there/crates/$name/out"
@@ -238,6 +240,7 @@ no_library_of_an_earlier_run_is_left_by_the_gate() (
     PATH=$there/bin:$PATH "$there/test" >"$out"
     [ "$(tail -n 1 "$out")" = '5 passed, 0 failed' ]
     [ -z "$(ls "$there/crates/cvec_c/out" "$there/crates/cvec_threads/out" | grep '[.]a$')" ]
+    [ -s "$there/told" ]
 )
 
 # `./build` only seems one, and tells what it was asked for.
