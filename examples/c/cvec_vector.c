@@ -31,6 +31,7 @@ struct cvec_vector {
     uint32_t flushers;       /* whose loops run */
     uint32_t waiting;        /* so many wait for the commit that is under way */
     uint32_t woken;          /* so many haven't come again of those that the last one woke, and who made it */
+    uint64_t written;        /* so many bytes it wrote: who commits has it too */
     uint16_t most_seats;
     bool committing, stopped; /* stopped: no loop of a flusher goes on */
     bool broken;              /* is written with the mutex, and by __atomic */
@@ -61,8 +62,9 @@ enum { TRIES_AT_ONCE = 3, FIRST_NAP = 2000, LONGEST_NAP = 200000 };
  * small, and those that ask for theirs alone. */
 enum { ROOM = 120 * 1024, BESIDE_RECORDS = 96, SMALL_GROWTH = 512, LARGE_GROWTH = 64 * 1024 };
 
-/* For how many nanoseconds who commits waits at most for those that the last commit woke. */
-enum { LONGEST_GATHERING = 100000 };
+/* For how many nanoseconds who commits waits at most for those that the last commit woke, and from how many bytes on, which that
+ * one wrote, it doesn't: large groups take longer to be written than to be synced. */
+enum { LONGEST_GATHERING = 100000, LARGE_GROUP = 256 * 1024 };
 
 /* How often a lock is tried while readers share it: for 10 seconds, each 20 milliseconds. */
 enum { LOCK_TURNS = 500, LOCK_WAIT = 20000000 };
@@ -328,6 +330,7 @@ static uint32_t make_call(cvec_vector *vector, uint64_t number) {
     cvec_call call;
     uint32_t answer = cvec_phase_call(&vector->committer, number, &call);
     if (answer != CVEC_DONE) return answer;
+    vector->written += call.len;
     return call.kind == 1 ? sync_data(vector->fd) : write_at(vector->fd, call.at, call.bytes, (size_t)call.len);
 }
 
@@ -341,6 +344,7 @@ static uint32_t make_calls(cvec_vector *vector) {
 
 /* For who has the committer: commits one group of what was grown. */
 static uint32_t commit(cvec_vector *vector, uint64_t *growths, uint64_t *durable) {
+    vector->written = 0;
     uint32_t answer = cvec_phase_plan(&vector->committer, growths);
     if (answer == CVEC_DONE) answer = make_calls(vector);
     return answer == CVEC_DONE ? cvec_phase_settle(&vector->committer, durable) : answer;
@@ -368,7 +372,7 @@ static void await_woken(cvec_vector *vector) {
 static uint32_t lead(cvec_vector *vector, uint64_t *growths) {
     uint64_t durable = 0;
     vector->committing = true;
-    if (vector->woken > 0) await_woken(vector);
+    if (vector->woken > 0 && vector->written < LARGE_GROUP) await_woken(vector);
     pthread_mutex_unlock(&vector->mutex);
     uint32_t answer = commit(vector, growths, &durable);
     pthread_mutex_lock(&vector->mutex);
