@@ -175,6 +175,8 @@ a_vector_in_c_commits_for_all_who_wait() (
 
 a_commit_in_c_waits_for_those_that_the_last_one_woke() (
     a_behaviour_of_a_vector_in_c gathers
+    rm "$work/t.cv"
+    a_behaviour_of_a_vector_in_c gathers_no_large
 )
 
 a_wait_in_c_has_a_deadline() (

@@ -646,36 +646,69 @@ static void leads(const char *path) {
     HOLDS(found(path) == 8);
 }
 
-/* Who commits waits for those that the last commit woke: of four threads that wait for each growth, each commit has one of all. */
-enum { GATHERED = 40 };
+/* Four threads that wait for each of their growths, each by a seat of its own. */
+static cvec_vector_seat *four[4];
 
-static void *grow_and_wait(void *work) {
-    cvec_vector_seat *own = work;
-    const uint64_t record = 7;
+static void make_four(const char *path) {
+    make(path, 4);
+    four[0] = seat;
+    for (int k = 1; k < 4; k++) HOLDS(cvec_vector_take_seat(vector, &four[k]) == CVEC_DONE);
+}
+
+/* A sync takes a while, so that the others come before it ends. */
+static void run_four(void *(*work)(void *)) {
+    pthread_t threads[4];
+    is_slow = 1;
+    for (int k = 0; k < 4; k++) pthread_create(&threads[k], NULL, work, four[k]);
+    for (int k = 0; k < 4; k++) pthread_join(threads[k], NULL);
+    is_slow = 0;
+}
+
+static void close_four(void) {
+    for (int k = 0; k < 4; k++) HOLDS(cvec_vector_close_seat(four[k]) == CVEC_DONE);
+    HOLDS(cvec_vector_close(vector) == CVEC_DONE);
+}
+
+static void grow_and_wait(cvec_vector_seat *own, const uint64_t *records, size_t count, int turns) {
     cvec_receipt receipt;
-    for (int k = 0; k < GATHERED; k++) {
-        HOLDS(cvec_vector_grow(own, &record, 1, &receipt) == CVEC_DONE);
+    for (int k = 0; k < turns; k++) {
+        HOLDS(cvec_vector_grow(own, records, count, &receipt) == CVEC_DONE);
         HOLDS(cvec_vector_await(own, receipt.number) == CVEC_DONE);
     }
+}
+
+/* Who commits waits for those that the last commit woke: each commit has a growth of each thread. */
+enum { GATHERED = 40 };
+
+static void *grow_little(void *own) {
+    const uint64_t record = 7;
+    grow_and_wait(own, &record, 1, GATHERED);
     return NULL;
 }
 
 static void gathers(const char *path) {
-    cvec_vector_seat *all[4];
-    pthread_t threads[4];
-    make(path, 4);
-    all[0] = seat;
-    for (int k = 1; k < 4; k++) HOLDS(cvec_vector_take_seat(vector, &all[k]) == CVEC_DONE);
-    is_slow = 1;
+    make_four(path);
     const int before = syncs;
-    for (int k = 0; k < 4; k++) pthread_create(&threads[k], NULL, grow_and_wait, all[k]);
-    for (int k = 0; k < 4; k++) pthread_join(threads[k], NULL);
-    is_slow = 0;
+    run_four(grow_little);
     HOLDS(settled() == 4 * GATHERED);
     /* Two syncs each; those at the begin and at the end may have fewer. */
     HOLDS((syncs - before) / 2 < GATHERED * 4 / 3);
-    for (int k = 0; k < 4; k++) HOLDS(cvec_vector_close_seat(all[k]) == CVEC_DONE);
-    HOLDS(cvec_vector_close(vector) == CVEC_DONE);
+    close_four();
+}
+
+/* But it waits for nobody where the last commit wrote 256 KiB or more: here each writes 320,000 bytes at least. */
+static void *grow_much(void *own) {
+    static const uint64_t records[40000];
+    grow_and_wait(own, records, 40000, 10);
+    return NULL;
+}
+
+static void gathers_no_large(const char *path) {
+    make_four(path);
+    const int before = timed_waits;
+    run_four(grow_much);
+    HOLDS(settled() == 40 && timed_waits == before);
+    close_four();
 }
 
 /* In version 1 the second growth takes a commit of its own, which isn't begun where the time has passed. */
@@ -1282,6 +1315,7 @@ int main(int argc, char **argv) {
                       {"texts", texts},
                       {"leader", leads},
                       {"gathers", gathers},
+                      {"gathers_no_large", gathers_no_large},
                       {"late", late},
                       {"late_between", late_between},
                       {"flusher", flushes},
