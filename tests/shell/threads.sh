@@ -129,6 +129,10 @@ a_vector_in_c_is_open_once() (
     a_behaviour_of_a_vector_in_c readers
 )
 
+a_vector_in_c_is_that_of_its_name() (
+    a_behaviour_of_a_vector_in_c replaced
+)
+
 a_vector_in_c_is_beside_the_standard_streams() (
     a_behaviour_of_a_vector_in_c streams
 )

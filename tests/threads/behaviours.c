@@ -11,6 +11,7 @@
 #include <string.h>
 #include <sys/file.h>
 #include <sys/resource.h>
+#include <sys/stat.h>
 #include <sys/types.h>
 #include <sys/wait.h>
 #include <unistd.h>
@@ -114,22 +115,33 @@ static int test_fdatasync(int fd) {
     return -1;
 }
 
-/* While a reader has a lock, a sleep takes no time, and ends that lock where so many have been made. */
+/* While a reader has a lock, a sleep takes no time, and ends that lock where so many have been made. Before, a file may get
+ * another name. */
 static int reader = -1, naps, naps_of_reader;
+static const char *moved_from, *moved_to;
 
 static int test_nanosleep(const struct timespec *time, struct timespec *left_over) {
     if (reader < 0) return nanosleep(time, left_over);
-    if (++naps == naps_of_reader) flock(reader, LOCK_UN);
+    if (++naps == naps_of_reader) {
+        if (moved_from != NULL) rename(moved_from, moved_to);
+        flock(reader, LOCK_UN);
+    }
     return 0;
 }
 
-/* Whether no folder may be read. */
-static int folders_are_shut;
+/* Whether no folder may be read; and whether another file is put in the place of each one that was opened. */
+static int folders_are_shut, files_are_replaced;
+static int opens;
 
 static int test_open(const char *path, int flags, mode_t mode) {
-    if (!folders_are_shut || (flags & O_DIRECTORY) == 0) return open(path, flags, mode);
-    errno = EACCES;
-    return -1;
+    if (folders_are_shut && (flags & O_DIRECTORY) != 0) {
+        errno = EACCES;
+        return -1;
+    }
+    opens++;
+    const int fd = open(path, flags, mode);
+    if (files_are_replaced && remove(path) == 0) close(open(path, O_CREAT | O_WRONLY, 0666));
+    return fd;
 }
 
 static int test_fsync(int fd) {
@@ -138,6 +150,8 @@ static int test_fsync(int fd) {
     return -1;
 }
 
+static int test_fstat(int fd, struct stat *found) { return is_interrupted() ? -1 : fstat(fd, found); }
+
 static void *test_malloc(size_t len) { return mallocs >= 0 && mallocs-- == 0 ? NULL : malloc(len); }
 
 #define malloc test_malloc
@@ -145,6 +159,7 @@ static void *test_malloc(size_t len) { return mallocs >= 0 && mallocs-- == 0 ? N
 #define pwrite test_pwrite
 #define fdatasync test_fdatasync
 #define fsync test_fsync
+#define fstat test_fstat
 #define open test_open
 #define pthread_cond_timedwait test_timedwait
 #define pthread_cond_wait test_wait
@@ -156,6 +171,7 @@ static void *test_malloc(size_t len) { return mallocs >= 0 && mallocs-- == 0 ? N
 #undef pwrite
 #undef fdatasync
 #undef fsync
+#undef fstat
 #undef open
 
 static int wrong;
@@ -216,13 +232,16 @@ static void locks(const char *path) {
     HOLDS(found(path) == 0);
 }
 
-/* What a reader's lock makes of an opening; the reader gives it up behind so many naps. */
-static uint32_t opens_beside(const char *path, int operation, int naps_of_it) {
+static uint32_t opens_it(const char *path) { return cvec_vector_open(&vector, path, 1); }
+static uint32_t creates_it(const char *path) { return cvec_vector_create(&vector, path, 1, 1); }
+
+/* What a reader's lock makes of a call; the reader gives it up behind so many naps. */
+static uint32_t beside_reader(uint32_t (*call)(const char *), const char *path, int operation, int naps_of_it) {
     reader = open(path, O_RDONLY);
     HOLDS(flock(reader, operation) == 0);
     naps = 0;
     naps_of_reader = naps_of_it;
-    const uint32_t answer = cvec_vector_open(&vector, path, 1);
+    const uint32_t answer = call(path);
     close(reader);
     reader = -1;
     return answer;
@@ -232,12 +251,48 @@ static uint32_t opens_beside(const char *path, int operation, int naps_of_it) {
 static void readers(const char *path) {
     make(path, 1);
     HOLDS(cvec_vector_close_seat(seat) == CVEC_DONE && cvec_vector_close(vector) == CVEC_DONE);
-    HOLDS(opens_beside(path, LOCK_SH, 3) == CVEC_DONE && naps == 3);
+    HOLDS(beside_reader(opens_it, path, LOCK_SH, 3) == CVEC_DONE && naps == 3);
     if (wrong) exit(1);
     HOLDS(cvec_vector_close(vector) == CVEC_DONE);
-    HOLDS(opens_beside(path, LOCK_SH, 0) == CVEC_IN_USE && naps == 500);
-    HOLDS(opens_beside(path, LOCK_EX, 0) == CVEC_IN_USE && naps == 0);
+    HOLDS(beside_reader(opens_it, path, LOCK_SH, 0) == CVEC_IN_USE && naps == 500);
+    HOLDS(beside_reader(opens_it, path, LOCK_EX, 0) == CVEC_IN_USE && naps == 0);
     HOLDS(found(path) == 0);
+}
+
+/* What the call answers where one file gets another's name while a reader's lock is waited for. */
+static uint32_t beside_move(uint32_t (*call)(const char *), const char *path, const char *from, const char *to) {
+    moved_from = from;
+    moved_to = to;
+    const uint32_t answer = beside_reader(call, path, LOCK_SH, 3);
+    moved_from = NULL;
+    return answer;
+}
+
+/* The file is opened that has the name once its lock is had, whichever had it before. */
+static void replaced(const char *path) {
+    char other[4096];
+    uint64_t number = 0;
+    snprintf(other, sizeof other, "%s.other", path);
+    make(path, 1);
+    HOLDS(cvec_vector_close_seat(seat) == CVEC_DONE && cvec_vector_close(vector) == CVEC_DONE);
+    make(other, 1);
+    HOLDS(grow(0, &number) == CVEC_DONE && grow(1, &number) == CVEC_DONE);
+    HOLDS(cvec_vector_close_seat(seat) == CVEC_DONE && cvec_vector_close(vector) == CVEC_DONE);
+    HOLDS(beside_move(opens_it, path, other, path) == CVEC_DONE);
+    if (wrong) exit(1);
+    HOLDS(cvec_vector_take_seat(vector, &seat) == CVEC_DONE && grow(2, &number) == CVEC_DONE);
+    HOLDS(cvec_vector_close_seat(seat) == CVEC_DONE && cvec_vector_close(vector) == CVEC_DONE);
+    HOLDS(found(path) == 3);
+    /* Or none has it: there is nothing to open, and a creation makes one. */
+    HOLDS(beside_move(opens_it, path, path, other) == CVEC_DISK_OPEN && errno == ENOENT && vector == NULL);
+    close(open(path, O_CREAT | O_WRONLY, 0666));
+    HOLDS(beside_move(creates_it, path, path, other) == CVEC_DONE);
+    if (wrong) exit(1);
+    HOLDS(cvec_vector_close(vector) == CVEC_DONE && found(path) == 0);
+    /* Or another each time: it is tried as often as a lock is. */
+    files_are_replaced = 1;
+    opens = 0;
+    HOLDS(cvec_vector_open(&vector, path, 1) == CVEC_IN_USE && vector == NULL && opens == 501);
 }
 
 /* The file has none of the numbers of the standard streams, where these are closed, and a program that is run hasn't it. */
@@ -1302,6 +1357,7 @@ int main(int argc, char **argv) {
         void (*run)(const char *);
     } behaviours[] = {{"lock", locks},
                       {"readers", readers},
+                      {"replaced", replaced},
                       {"streams", streams},
                       {"busy", is_busy},
                       {"fork", forks},
