@@ -117,11 +117,11 @@ static uint32_t lock_by(int fd, int operation) {
 }
 
 /* Commands that only read share the lock, and have it for moments: where it can be shared, it is tried again. */
-static uint32_t lock(int fd) {
+static uint32_t lock(int fd, int *turns) {
     const struct timespec wait = {0, LOCK_WAIT};
-    for (int turn = 0;; turn++) {
+    for (;; ++*turns) {
         uint32_t answer = lock_by(fd, LOCK_EX);
-        if (answer != CVEC_IN_USE || turn == LOCK_TURNS) return answer;
+        if (answer != CVEC_IN_USE || *turns >= LOCK_TURNS) return answer;
         answer = lock_by(fd, LOCK_SH);
         if (answer == CVEC_DONE) answer = lock_by(fd, LOCK_UN);
         if (answer != CVEC_DONE) return answer;
@@ -217,10 +217,36 @@ static uint32_t open_by(cvec_file *file, const char *path, cvec_type type, int f
     return file->fd < 0 ? CVEC_DISK_OPEN : CVEC_DONE;
 }
 
+/* Whether the path leads to this file. */
+static uint32_t ask_name(const char *path, int fd, bool *leads_here) {
+    struct stat opened, named;
+    int done;
+    do done = fstat(fd, &opened);
+    while (was_interrupted(done));
+    if (done != 0) return CVEC_DISK_LENGTH;
+    do done = stat(path, &named);
+    while (was_interrupted(done));
+    *leads_here = done == 0 && named.st_dev == opened.st_dev && named.st_ino == opened.st_ino;
+    return CVEC_DONE;
+}
+
+/* Opens and locks the file to which the path leads then. While a lock is waited for another may be put in its place: what is
+ * written to the one from before would be lost. */
+static uint32_t open_locked(cvec_file *file, const char *path, cvec_type type, int flags) {
+    for (int turns = 0;; turns++) {
+        bool leads_here = false;
+        uint32_t answer = open_by(file, path, type, O_RDWR | flags);
+        if (answer == CVEC_DONE) answer = lock(file->fd, &turns);
+        if (answer == CVEC_DONE) answer = ask_name(path, file->fd, &leads_here);
+        if (answer != CVEC_DONE || leads_here) return answer;
+        if (turns >= LOCK_TURNS) return CVEC_IN_USE;
+        close_quietly(file->fd);
+    }
+}
+
 /* Opens it for one process alone. */
 static uint32_t open_alone(cvec_file *file, const char *path, cvec_type type, int flags) {
-    uint32_t answer = open_by(file, path, type, O_RDWR | flags);
-    if (answer == CVEC_DONE) answer = lock(file->fd);
+    uint32_t answer = open_locked(file, path, type, flags);
     if (answer != CVEC_DONE) return answer;
     file->bytes = malloc(FIRST_ROOM);
     if (file->bytes == NULL) return CVEC_MEMORY;

@@ -1,11 +1,13 @@
 /* A test of cvec_file.c: every call of the system fails once, and what the file has then is what it had before the function
- * that was running, or what it has after; a forked process is refused, and no file has the number of a standard stream. Prints
- * the calls of a run in which none fails: ./faults FILE */
+ * that was running, or what it has after; a forked process is refused, no file has the number of a standard stream, and what
+ * is opened has the name. Prints the calls of a run in which none fails: ./faults FILE */
 #define _DEFAULT_SOURCE 1
 #include <fcntl.h>
 #include <stdio.h>
+#include <sys/file.h>
 #include <sys/types.h>
 #include <sys/wait.h>
+#include <time.h>
 #include <unistd.h>
 
 static int left = -1; /* the calls that pass before one fails; none does below 0 */
@@ -36,11 +38,23 @@ static int faulty_open(const char *path, int flags, mode_t mode) {
     return folders_are_shut && (flags & O_DIRECTORY) ? -1 : open(path, flags, mode);
 }
 
+/* While a reader has a lock, a sleep takes no time: in it a file gets another name, and the lock ends. */
+static int reader = -1;
+static const char *moved_from, *moved_to;
+
+static int faulty_nanosleep(const struct timespec *time, struct timespec *left_over) {
+    if (reader < 0) return nanosleep(time, left_over);
+    rename(moved_from, moved_to);
+    return flock(reader, LOCK_UN);
+}
+
+#define nanosleep faulty_nanosleep
 #define open faulty_open
 #define pwrite faulty_pwrite
 #define fdatasync faulty_fdatasync
 #define fsync faulty_fsync
 #include "cvec_file.c"
+#undef nanosleep
 #undef open
 #undef pwrite
 #undef fdatasync
@@ -121,41 +135,74 @@ static int stays_behind_streams(const char *path) {
     return child > 0 && waitpid(child, &status, 0) == child && status == 0;
 }
 
+/* A file with these first numbers. */
+static int is_made(const char *path, size_t count) {
+    cvec_file file;
+    uint32_t status = cvec_create(&file, path, CVEC_U64);
+    if (status == CVEC_DONE) status = cvec_append(&file, numbers, count);
+    cvec_close(&file);
+    return status == CVEC_DONE;
+}
+
+/* Whether a file that is put in place of one, whose lock is waited for, is the one that takes records. */
+static int opens_what_has_the_name(const char *path) {
+    char other[4096];
+    cvec_fault fault;
+    cvec_file file;
+    snprintf(other, sizeof other, "%s.other", path);
+    if (!is_made(path, 1) || !is_made(other, 3)) return 0;
+    reader = open(path, O_RDONLY);
+    if (flock(reader, LOCK_SH) != 0) return 0;
+    moved_from = other;
+    moved_to = path;
+    uint32_t status = cvec_open(&file, path, CVEC_U64, &fault);
+    close(reader);
+    reader = -1;
+    if (status == CVEC_DONE) status = cvec_append(&file, numbers + 3, 1);
+    cvec_close(&file);
+    return status == CVEC_DONE && found(path) == 4;
+}
+
 /* The next size behind this one. */
 static int next(int size) { return size == -1 ? 0 : size == 0 ? 3 : 4; }
 
-int main(int argc, char **argv) {
+/* Each call fails once. How many there are, or -1 where something was lost. */
+static int loses_nothing(const char *path) {
     int calls = 0, lost = 0;
-    if (argc != 2) return 2;
     for (int done = -1; done < 4; calls++) {
-        remove(argv[1]);
+        remove(path);
         left = calls;
-        done = run(argv[1]);
+        done = run(path);
         left = -1;
-        int size = found(argv[1]);
+        int size = found(path);
         if (size != done && size != next(done)) {
             printf("call %d failed: %d were durable, %d are there\n", calls, done, size);
             lost = 1;
         }
     }
-    remove(argv[1]);
-    if (!stays_of_one_process(argv[1])) {
-        puts("a forked process has the file too");
-        lost = 1;
-    }
-    remove(argv[1]);
-    if (!tells_of_a_folder_that_is_shut(argv[1])) {
-        puts("a folder that can't be read passes for one whose sync has failed");
-        lost = 1;
-    }
-    remove(argv[1]);
-    if (!stays_behind_streams(argv[1])) {
-        puts("a file has the number of a standard stream");
+    return lost ? -1 : calls - 1;
+}
+
+int main(int argc, char **argv) {
+    static const struct {
+        int (*holds)(const char *);
+        const char *otherwise;
+    } rules[] = {{stays_of_one_process, "a forked process has the file too"},
+                 {tells_of_a_folder_that_is_shut, "a folder that can't be read passes for one whose sync has failed"},
+                 {stays_behind_streams, "a file has the number of a standard stream"},
+                 {opens_what_has_the_name, "a file that has the name no more takes records"}};
+    if (argc != 2) return 2;
+    const int calls = loses_nothing(argv[1]);
+    int lost = calls < 0;
+    for (size_t k = 0; k < sizeof rules / sizeof *rules; k++) {
+        remove(argv[1]);
+        if (rules[k].holds(argv[1])) continue;
+        puts(rules[k].otherwise);
         lost = 1;
     }
     remove(argv[1]);
     traced = 1;
     run(argv[1]);
-    printf("each of %d calls failed once\n", calls - 1);
+    printf("each of %d calls failed once\n", calls);
     return lost;
 }
