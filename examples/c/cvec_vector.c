@@ -670,6 +670,18 @@ uint32_t cvec_vector_open(cvec_vector **vector, const char *path, uint16_t seats
     return cvec_vector_open_as(vector, path, CVEC_U64, seats);
 }
 
+uint32_t cvec_vector_identity(const cvec_vector *vector, uint64_t *device, uint64_t *file) {
+    struct stat found;
+    int done;
+    if (vector->process != this_process()) return CVEC_FORKED;
+    do done = fstat(vector->fd, &found);
+    while (was_interrupted(done));
+    if (done != 0) return CVEC_DISK_LENGTH;
+    *device = (uint64_t)found.st_dev;
+    *file = (uint64_t)found.st_ino;
+    return CVEC_DONE;
+}
+
 /* Commits until there is nothing to commit. */
 static uint32_t commit_rest(cvec_vector *vector) {
     uint64_t growths = 1;

@@ -58,6 +58,9 @@ uint32_t cvec_vector_open(cvec_vector **vector, const char *path, uint16_t seats
  * growths nobody awaited may be lost. */
 uint32_t cvec_vector_close(cvec_vector *vector);
 
+/* Which file it is: the number of its device, and its own there. One that is put in its place has another. */
+uint32_t cvec_vector_identity(const cvec_vector *vector, uint64_t *device, uint64_t *file);
+
 /* A seat, for one thread at a time. Each is given once. Where none is left and each is closed, all are given again, and growths
  * are counted from 0. So also where each is closed, and CVEC_FULL, or a call of the whole vector that had it, came between. All
  * growths from before are durable then, and a number from before names none of the new ones.

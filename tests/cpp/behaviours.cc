@@ -1011,6 +1011,19 @@ static void renewing_elsewhere(const std::string &path) {
     HOLDS(again.size() == 1048568 && again.back() == 1048567);
 }
 
+// Nor in a file of the same length that was put in its place.
+static void renewing_replaced(const std::string &path) {
+    const std::string other = path + ".other";
+    numbers(other).grow_to_at_least(1048568, 7);
+    numbers vector(path);
+    std::uint64_t grown = 0;
+    for (; grown < 1048568; ++grown) vector.push_back(grown);
+    HOLDS(std::rename(other.c_str(), path.c_str()) == 0);
+    HOLDS(status_of([&] { vector.push_back(1); }) == CVEC_IN_USE && status_of([&] { vector.push_back(1); }) == CVEC_NOT_SO);
+    numbers put(path);
+    HOLDS(put.size() == 1048568 && put.front() == 7 && put.back() == 7);
+}
+
 int main(int argc, char **argv) {
     static const std::map<std::string, void (*)(const std::string &)> behaviours = {
         {"growing", growing},
@@ -1052,6 +1065,7 @@ int main(int argc, char **argv) {
         {"turns", turns},
         {"renewing", renewing},
         {"renewing_elsewhere", renewing_elsewhere},
+        {"renewing_replaced", renewing_replaced},
     };
     const auto found = argc == 3 ? behaviours.find(argv[1]) : behaviours.end();
     if (found == behaviours.end()) return 2;

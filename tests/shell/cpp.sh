@@ -214,7 +214,7 @@ threads_share_seats_in_cpp() (
 
 # Past the growths that an open vector takes, the file is opened again.
 growths_have_no_end_in_cpp() (
-    behaves renewing renewing_elsewhere
+    behaves renewing renewing_elsewhere renewing_replaced
 )
 
 # ---- threads

@@ -342,6 +342,13 @@ class word_file {
         slot &slot_;
     };
 
+    // Which file a path led to: another may be put in its place.
+    struct identity {
+        std::uint64_t device = 0, file = 0;
+        std::uint32_t ask(const cvec_vector *vector) noexcept { return cvec_vector_identity(vector, &device, &file); }
+        bool operator!=(const identity &other) const noexcept { return device != other.device || file != other.file; }
+    };
+
     // False where the file was closed meanwhile.
     bool try_await_all() {
         try {
@@ -495,9 +502,15 @@ class word_file {
 
     // With all seats. Where it is refused the file is closed.
     std::uint32_t close_and_open(std::uint64_t size) {
-        std::uint32_t status = close_all();
+        identity before, now;
+        std::uint32_t status = before.ask(vector_);
+        const std::uint32_t closed = close_all();
+        if (status == CVEC_DONE) status = closed;
         if (status == CVEC_DONE) status = open_patiently();
+        if (status == CVEC_DONE) status = now.ask(vector_);
+        if (status == CVEC_DONE && now != before) status = CVEC_IN_USE;
         if (status == CVEC_DONE) status = take_seats_again(size);
+        if (status != CVEC_DONE) close_all();
         if (status != CVEC_DONE) return status;
         base_ = grown();
         ++openings_;
@@ -526,9 +539,7 @@ class word_file {
         std::uint64_t found = 0;
         std::uint32_t status = take_each_seat();
         if (status == CVEC_DONE) status = cvec_vector_size(slots_[0].seat, &found);
-        if (status == CVEC_DONE && found != size) status = CVEC_IN_USE;
-        if (status != CVEC_DONE) close_all();
-        return status;
+        return status == CVEC_DONE && found != size ? std::uint32_t{CVEC_IN_USE} : status;
     }
 
     // -- having the file alone
