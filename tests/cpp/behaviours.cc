@@ -899,6 +899,35 @@ static void forking_meanwhile(const std::string &path) {
     HOLDS(std::all_of(vector.begin(), vector.end(), [](std::uint64_t it) { return it == 1; }));
 }
 
+// How the child of a fork ends that does this, in 10 seconds.
+static int ends_in_a_fork(const std::function<bool()> &call) {
+    const pid_t child = ::fork();
+    if (child == 0) {
+        ::alarm(10);
+        ::_exit(call() ? 0 : 1);
+    }
+    int ended = 1;
+    ::waitpid(child, &ended, 0);
+    return ended;
+}
+
+// At the fork a flusher rests, whose thread the child hasn't got.
+static void forking_beside_a_flusher(const std::string &path) {
+    auto vector = std::make_unique<numbers>(path);
+    std::thread flusher([&] { vector->run_flusher(std::chrono::hours(1)); });
+    for (int turn = 0; turn < 5; ++turn) {
+        std::this_thread::sleep_for(std::chrono::milliseconds(20));
+        HOLDS(ends_in_a_fork([&] {
+                  vector.reset();
+                  return true;
+              }) == 0);
+    }
+    vector->stop_flusher();
+    flusher.join();
+    vector->push_back(5);
+    HOLDS(rows_of(*vector) == list({5}));
+}
+
 // Past the greatest size of a file.
 static void breaking(const std::string &path) {
     numbers vector(path);
@@ -1059,6 +1088,7 @@ int main(int argc, char **argv) {
         {"versions", versions},
         {"forking", forking},
         {"forking_meanwhile", forking_meanwhile},
+        {"forking_beside_a_flusher", forking_beside_a_flusher},
         {"breaking", breaking},
         {"few_seats", few_seats},
         {"many_threads", many_threads},

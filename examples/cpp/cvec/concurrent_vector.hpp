@@ -237,7 +237,7 @@ class word_file {
             lock.unlock();
             if (!try_await_all()) return;
             lock.lock();
-            flusher_wakes_.wait_for(lock, pause, [this] { return flushers_end_; });
+            flusher_wakes_->wait_for(lock, pause, [this] { return flushers_end_; });
         }
     }
 
@@ -245,7 +245,7 @@ class word_file {
         if (process_ != ::getpid()) refuse(CVEC_FORKED);
         const std::lock_guard<std::mutex> lock(flushing_);
         flushers_end_ = true;
-        flusher_wakes_.notify_all();
+        flusher_wakes_->notify_all();
     }
 
     std::uint64_t settled() {
@@ -625,8 +625,10 @@ class word_file {
         return close_all();
     }
 
-    // A forked process closes the file alone: threads that it hasn't got may have had the mutex, and seats.
+    // A forked process closes the file alone: threads that it hasn't got may have had the mutex, and seats. For those that
+    // waited the condition is left: its end would wait for them.
     std::uint32_t leave() noexcept {
+        static_cast<void>(flusher_wakes_.release());
         closed_.store(true, std::memory_order_release);
         cvec_vector *vector = std::exchange(vector_, nullptr);
         if (vector != nullptr) cvec_vector_close(vector);
@@ -645,7 +647,7 @@ class word_file {
     bool broken_ = false; // written before closed_ is
     std::mutex seating_;  // who takes further seats, or all
     std::mutex flushing_;
-    std::condition_variable flusher_wakes_;
+    std::unique_ptr<std::condition_variable> flusher_wakes_ = std::make_unique<std::condition_variable>();
     bool flushers_end_ = false; // with flushing_
     std::mutex turn_;
     // Read with a seat, and written with all of them.
