@@ -1,6 +1,7 @@
 // Behaviours of cvec::concurrent_vector, each by its name: behaviours NAME FILE. The status is 0 where it is as promised; else
 // a line says what isn't.
 #define cvec_vector_read_records counted_read
+#define cvec_vector_size watched_size
 #define cvec_vector_await_for asked_await_for
 #define cvec_vector_resize_by refused_resize
 #define cvec_vector_change_records refused_change
@@ -8,6 +9,7 @@
 #define cvec_vector_take_seat careless_take_seat
 #include "told.hpp"
 #undef cvec_vector_read_records
+#undef cvec_vector_size
 #undef cvec_vector_await_for
 #undef cvec_vector_resize_by
 #undef cvec_vector_change_records
@@ -36,6 +38,15 @@ extern "C" std::uint32_t counted_read(cvec_vector_seat *seat, std::uint64_t from
     ++reads;
     if (during_read) during_read();
     return cvec_vector_read_records(seat, from, out, room, count);
+}
+
+// What is done while the vector is asked for its length.
+static std::function<void()> during_size;
+
+extern "C" std::uint32_t cvec_vector_size(cvec_vector_seat *, std::uint64_t *);
+extern "C" std::uint32_t watched_size(cvec_vector_seat *seat, std::uint64_t *size) {
+    if (during_size) during_size();
+    return cvec_vector_size(seat, size);
 }
 
 // For how many milliseconds the vector was asked to wait at most, and what it answers in place of its own answer.
@@ -928,6 +939,24 @@ static void forking_beside_a_flusher(const std::string &path) {
     HOLDS(rows_of(*vector) == list({5}));
 }
 
+// At the fork another thread has the turn to grow to a length.
+static void forking_in_a_turn(const std::string &path) {
+    numbers vector(path);
+    std::atomic<bool> is_inside{false}, is_over{false};
+    during_size = [&] {
+        is_inside = true;
+        while (!is_over) std::this_thread::yield();
+    };
+    std::thread other([&] { vector.grow_to_at_least(3, 5); });
+    while (!is_inside) std::this_thread::yield();
+    HOLDS(ends_in_a_fork([&] { return status_of([&] { vector.grow_to_at_least(9); }) == CVEC_FORKED; }) == 0);
+    HOLDS(ends_in_a_fork([&] { return status_of([&] { vector.resize(9); }) == CVEC_FORKED; }) == 0);
+    is_over = true;
+    other.join();
+    during_size = nullptr;
+    HOLDS(rows_of(vector) == list({5, 5, 5}));
+}
+
 // Past the greatest size of a file.
 static void breaking(const std::string &path) {
     numbers vector(path);
@@ -1089,6 +1118,7 @@ int main(int argc, char **argv) {
         {"forking", forking},
         {"forking_meanwhile", forking_meanwhile},
         {"forking_beside_a_flusher", forking_beside_a_flusher},
+        {"forking_in_a_turn", forking_in_a_turn},
         {"breaking", breaking},
         {"few_seats", few_seats},
         {"many_threads", many_threads},

@@ -203,7 +203,7 @@ a_vector_is_closed_in_cpp() (
 )
 
 a_refusal_has_its_reason_in_cpp() (
-    behaves refusals versions forking forking_meanwhile forking_beside_a_flusher breaking
+    behaves refusals versions forking forking_meanwhile forking_beside_a_flusher forking_in_a_turn breaking
     : >"$work/t.cv"
     flock "$work/t.cv" "$built/behaviours" locked "$work/t.cv"
 )

@@ -292,8 +292,11 @@ class word_file {
         run_alone([](std::uint64_t) { return true; }, [this] { return cvec_vector_fold(vector_); });
     }
 
-    // For who looks at a length before it grows: one at a time.
-    std::mutex &turn() noexcept { return turn_; }
+    // For who looks at a length before it grows: one at a time. At a fork another thread may have had it.
+    std::unique_lock<std::mutex> take_turn() {
+        if (process_ != ::getpid()) refuse(CVEC_FORKED);
+        return std::unique_lock<std::mutex>(turn_);
+    }
 
     [[noreturn]] void refuse(std::uint32_t status) const { refuse(status, cvec_vector_status_text(status)); }
 
@@ -975,7 +978,7 @@ template <class T, class Layout = one_record> class concurrent_vector {
     iterator grow_to_at_least(size_type count) { return grow_to_at_least(count, T()); }
 
     iterator grow_to_at_least(size_type count, const T &value) {
-        const std::lock_guard<std::mutex> lock(file_->turn());
+        const std::unique_lock<std::mutex> turn = file_->take_turn();
         std::optional<iterator> first;
         for (size_type length = size(); length < count; length = size()) {
             const iterator grown = grow_by(std::min(count - length, max_growth()), value);
