@@ -169,6 +169,26 @@ static void greatest_growth(const std::string &path) {
     vector.settle();
 }
 
+// More rows than there may be aren't begun. By growths of 2^20 bytes at most memory would be gone first.
+template <class T> static void grows_past_no_end(const std::string &path) {
+    cvec::concurrent_vector<T> vector(path);
+    int looks = 0;
+    during_size = [&] {
+        if (++looks > 20) throw std::runtime_error("it grows on");
+    };
+    for (const std::size_t count : {vector.max_size() + 1, SIZE_MAX}) {
+        HOLDS(status_of([&] { vector.resize(count); }) == CVEC_OUT_OF_RANGE);
+        HOLDS(status_of([&] { vector.grow_to_at_least(count); }) == CVEC_OUT_OF_RANGE);
+    }
+    during_size = nullptr;
+    HOLDS(vector.empty());
+}
+
+static void past_the_end(const std::string &path) {
+    grows_past_no_end<std::uint64_t>(path);
+    grows_past_no_end<sample>(path + ".samples");
+}
+
 static void structs(const std::string &path) {
     {
         samples vector(path);
@@ -1086,6 +1106,7 @@ int main(int argc, char **argv) {
     static const std::map<std::string, void (*)(const std::string &)> behaviours = {
         {"growing", growing},
         {"greatest_growth", greatest_growth},
+        {"past_the_end", past_the_end},
         {"structs", structs},
         {"other_types", other_types},
         {"reading", reading},

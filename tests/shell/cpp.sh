@@ -113,7 +113,7 @@ a_type_without_rows_is_refused_with_its_reason() (
 # ---- members
 
 rows_are_grown_in_cpp() (
-    behaves greatest_growth structs other_types growing
+    behaves greatest_growth past_the_end structs other_types growing
     run list u64 "$work/t.cv"
     did '5\n7\n0\n0\n9\n9\n9\n20\n21\n22\n30\n31\n30\n31\n8\n8\n8\n0\n50\n51\n52\n53\n22\n21\n20\n'
 )

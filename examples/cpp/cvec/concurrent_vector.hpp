@@ -974,11 +974,13 @@ template <class T, class Layout = one_record> class concurrent_vector {
 
     iterator grow_by(std::initializer_list<T> rows) { return grow_by(rows.begin(), rows.end()); }
 
-    // Grows until there are so many rows. Calls of it take turns; beside other growths there may come to be more.
+    // Grows until there are so many rows. Calls of it take turns; beside other growths there may come to be more. Where a growth
+    // is refused those before it stand, but more than max_size() is refused (CVEC_OUT_OF_RANGE) before the first.
     iterator grow_to_at_least(size_type count) { return grow_to_at_least(count, T()); }
 
     iterator grow_to_at_least(size_type count, const T &value) {
         const std::unique_lock<std::mutex> turn = file_->take_turn();
+        if (count > max_size()) file_->refuse(CVEC_OUT_OF_RANGE);
         std::optional<iterator> first;
         for (size_type length = size(); length < count; length = size()) {
             const iterator grown = grow_by(std::min(count - length, max_growth()), value);
