@@ -39,7 +39,8 @@ enum cvec_status {
     CVEC_FILE_FULL = 10,   /* the next gate would stand at 2^48 or past it; of cvec_look_TYPE: there are more than 2^48 bytes */
     CVEC_NO_ROOM = 11,     /* the memory that was passed is too small */
     CVEC_NO_FRAME = 12,    /* no whole open frame begins there */
-    CVEC_NO_RECORD = 13,   /* of cvec_look_TYPE: the bytes of the record at position fault->at are none of the type */
+    CVEC_NO_RECORD = 13,   /* of cvec_look_TYPE: the bytes of the record at position fault->at are none of the type; of
+                              cvec_append: a flag is neither 0 nor 1 */
     /* of cvec_file.c alone */
     CVEC_EXISTS = 32,      /* something is there already */
     CVEC_IN_USE = 33,      /* open already by cvec_create or cvec_open, in this process too, or locked (flock) otherwise. A lock
@@ -243,7 +244,7 @@ uint32_t cvec_open(cvec_file *file, const char *path, cvec_type type, cvec_fault
 uint32_t cvec_open_to_read(cvec_file *file, const char *path, cvec_type type, cvec_fault *fault);
 
 /* Appends the records as one growth: all of them or none. CVEC_DONE: they are durable. A refusal from CVEC_VERSION to
- * CVEC_MEMORY writes nothing. Behind CVEC_DISK_WRITE and CVEC_DISK_SYNC the file is broken: opened again, behind
+ * CVEC_NO_RECORD writes nothing. Behind CVEC_DISK_WRITE and CVEC_DISK_SYNC the file is broken: opened again, behind
  * CVEC_DISK_SYNC after a restart of the system, it has all of them or none. The records are of the file's type. */
 uint32_t cvec_append(cvec_file *file, const void *records, size_t count);
 

@@ -81,6 +81,15 @@ static uint32_t frame_of(cvec_type type, const cvec_stat *stat, const void *reco
     }
 }
 
+/* Whether these are records of the type: a flag is the byte 0 or 1, and what else memory may have there is none. */
+static bool are_records(cvec_type type, const void *records, size_t count) {
+    if (type != CVEC_FLAGGED || count == 0) return true;
+    const uint8_t *flag = (const uint8_t *)records + offsetof(cvec_flagged, flag);
+    for (size_t k = 0; k < count; k++, flag += sizeof(cvec_flagged))
+        if (*flag > 1) return false;
+    return true;
+}
+
 /* ---- the calls */
 
 /* Whether a signal has interrupted the call that answered this. */
@@ -428,6 +437,7 @@ uint32_t cvec_append(cvec_file *file, const void *records, size_t count) {
     cvec_stat next;
     uint32_t answer = refusal_of(file);
     if (answer == CVEC_DONE && file->read_only) answer = CVEC_READ_ONLY;
+    if (answer == CVEC_DONE && !are_records(file->type, records, count)) answer = CVEC_NO_RECORD;
     if (answer != CVEC_DONE) return answer;
     answer = make_frame(file, count > 0 ? records : no_records, count, &next);
     if (answer != CVEC_DONE) return answer;

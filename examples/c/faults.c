@@ -1,6 +1,6 @@
 /* A test of cvec_file.c: every call of the system fails once, and what the file has then is what it had before the function
- * that was running, or what it has after; a forked process is refused, no file has the number of a standard stream, and what
- * is opened has the name. Prints the calls of a run in which none fails: ./faults FILE */
+ * that was running, or what it has after; a forked process is refused, no file has the number of a standard stream, what is
+ * opened has the name, and no record has another flag than 0 or 1. Prints the calls of a run in which none fails: ./faults FILE */
 #define _DEFAULT_SOURCE 1
 #include <fcntl.h>
 #include <stdio.h>
@@ -163,6 +163,27 @@ static int opens_what_has_the_name(const char *path) {
     return status == CVEC_DONE && found(path) == 4;
 }
 
+/* Whether an append that has another flag than 0 or 1 is refused, and one behind it goes on where that would have. */
+static int takes_no_other_flag(const char *path) {
+    const uint8_t other = 2;
+    cvec_flagged records[2] = {{5, true}, {6, false}}, seen[4];
+    uint64_t count = 0, before = 0, after = 0;
+    cvec_fault fault;
+    cvec_file file;
+    memcpy((uint8_t *)&records[1] + offsetof(cvec_flagged, flag), &other, 1);
+    uint32_t status = cvec_create(&file, path, CVEC_FLAGGED);
+    if (status == CVEC_DONE) status = cvec_append(&file, records, 1);
+    if (status != CVEC_DONE || length_of(file.fd, &before) != CVEC_DONE) return 0;
+    uint32_t refused = cvec_append(&file, records, 2);
+    if (length_of(file.fd, &after) != CVEC_DONE || after != before) return 0;
+    status = cvec_append(&file, records, 1);
+    cvec_close(&file);
+    if (status == CVEC_DONE) status = cvec_open(&file, path, CVEC_FLAGGED, &fault);
+    if (status == CVEC_DONE) status = cvec_read(&file, 0, seen, 4, &count, &fault);
+    cvec_close(&file);
+    return refused == CVEC_NO_RECORD && status == CVEC_DONE && count == 2 && seen[0].flag && seen[1].flag;
+}
+
 /* The next size behind this one. */
 static int next(int size) { return size == -1 ? 0 : size == 0 ? 3 : 4; }
 
@@ -190,7 +211,8 @@ int main(int argc, char **argv) {
     } rules[] = {{stays_of_one_process, "a forked process has the file too"},
                  {tells_of_a_folder_that_is_shut, "a folder that can't be read passes for one whose sync has failed"},
                  {stays_behind_streams, "a file has the number of a standard stream"},
-                 {opens_what_has_the_name, "a file that has the name no more takes records"}};
+                 {opens_what_has_the_name, "a file that has the name no more takes records"},
+                 {takes_no_other_flag, "a flag is neither 0 nor 1"}};
     if (argc != 2) return 2;
     const int calls = loses_nothing(argv[1]);
     int lost = calls < 0;
