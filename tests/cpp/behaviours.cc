@@ -86,10 +86,14 @@ extern "C" std::uint32_t refused_fold(cvec_vector *vector) {
     return is_refused_now() ? std::uint32_t{CVEC_MEMORY} : cvec_vector_fold(vector);
 }
 
-// Leaves any errno, as a call of the system may.
+// Leaves any errno, as a call of the system may. So often a seat is refused for want of memory.
+static int seats_to_refuse = 0;
+
 extern "C" std::uint32_t cvec_vector_take_seat(cvec_vector *, cvec_vector_seat **);
 extern "C" std::uint32_t careless_take_seat(cvec_vector *vector, cvec_vector_seat **seat) {
-    const std::uint32_t answer = cvec_vector_take_seat(vector, seat);
+    *seat = nullptr;
+    const std::uint32_t answer = seats_to_refuse > 0 ? std::uint32_t{CVEC_MEMORY} : cvec_vector_take_seat(vector, seat);
+    if (seats_to_refuse > 0) --seats_to_refuse;
     errno = ENOENT;
     return answer;
 }
@@ -583,6 +587,42 @@ static void changing_has_seats_again(const std::string &path) {
     during_read = nullptr;
     counts_on(vector, CVEC_DONE, [&] { vector.change(0, turned(8)); });
     HOLDS(turns_of(vector) == list({8, 1, 2}));
+}
+
+// By what words a call is refused.
+static std::string words_of(const std::function<void()> &call) {
+    try {
+        call();
+        return "none";
+    } catch (const cvec::error &refusal) {
+        return std::to_string(refusal.status()) + ' ' + refusal.what();
+    }
+}
+
+// What was done isn't refused where a seat is behind it: the file is closed then, and later calls are told why.
+static void changing_ends(const std::string &path) {
+    const std::string refusal = std::to_string(CVEC_NOT_SO) + " cvec: " + path + ": it was closed: memory was refused";
+    const auto ends = [&](const std::function<void(numbers &)> &call, const list &rows) {
+        numbers vector(path);
+        seats_to_refuse = 1;
+        HOLDS(status_of([&] { call(vector); }) == CVEC_DONE && seats_to_refuse == 0);
+        HOLDS(words_of([&] { static_cast<void>(vector.size()); }) == refusal && words_of([&] { vector.push_back(5); }) == refusal);
+        HOLDS(words_of([&] { vector.change(0, 5); }) == refusal && words_of([&] { vector.fold(); }) == refusal);
+        vector.close();
+        HOLDS(rows_of(numbers(path)) == rows);
+    };
+    numbers(path).grow_by({1, 2, 3});
+    ends([](numbers &vector) { vector.change(1, 9); }, {1, 9, 3});
+    ends([](numbers &vector) { vector.fold(); }, {1, 9, 3});
+    ends([](numbers &vector) { vector.resize(2); }, {1, 9});
+    ends([](numbers &vector) { vector.clear(); }, {});
+    // What was refused for itself stays refused for that.
+    numbers vector(path);
+    vector.push_back(4);
+    refusals_to_come = seats_to_refuse = 1;
+    HOLDS(words_of([&] { vector.change(0, 5); }) == std::to_string(CVEC_MEMORY) + " cvec: " + path + ": memory was refused");
+    HOLDS(words_of([&] { vector.push_back(5); }) == refusal);
+    HOLDS(rows_of(numbers(path)) == list({4}));
 }
 
 struct watch {
@@ -1124,6 +1164,7 @@ int main(int argc, char **argv) {
         {"changing_most", changing_most},
         {"changing_counts_on", changing_counts_on},
         {"changing_has_seats_again", changing_has_seats_again},
+        {"changing_ends", changing_ends},
         {"changing_beside", changing_beside},
         {"changing_comes_soon", changing_comes_soon},
         {"changing_breaks", changing_breaks},

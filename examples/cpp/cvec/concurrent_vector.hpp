@@ -304,9 +304,11 @@ class word_file {
         throw error(status, path_, text, is_of_the_system(status) ? errno : 0);
     }
 
+    // Also for what closed it behind a call that had done what was asked.
     [[noreturn]] void refuse_closed() const {
-        if (broken_) refuse(CVEC_BROKEN);
-        refuse(CVEC_NOT_SO, "it was closed");
+        if (ended_by_ == CVEC_BROKEN) refuse(CVEC_BROKEN);
+        const char *why = cvec_vector_status_text(ended_by_);
+        refuse(CVEC_NOT_SO, ended_by_ == CVEC_DONE ? "it was closed" : std::string("it was closed: ") + why);
     }
 
     // Gives the file up in a constructor, and refuses.
@@ -357,7 +359,7 @@ class word_file {
         try {
             await_all();
         } catch (const error &) {
-            if (!closed_.load(std::memory_order_acquire) || broken_) throw;
+            if (!closed_.load(std::memory_order_acquire) || ended_by_ == CVEC_BROKEN) throw;
             return false;
         }
         return true;
@@ -489,7 +491,7 @@ class word_file {
         std::uint32_t status = settle_all(&size);
         if (status == CVEC_DONE) {
             status = close_and_open(size);
-            closed_.store(status != CVEC_DONE, std::memory_order_release);
+            if (status != CVEC_DONE) end_by(status);
         }
         if (!closed_.load(std::memory_order_acquire)) give_all_seats_back();
         require(status);
@@ -558,19 +560,11 @@ class word_file {
         std::uint32_t status = settle_all(&size);
         if (status == CVEC_DONE && is_wanted(size)) {
             close_seats();
-            status = with_seats_anew(act());
+            status = act();
+            take_seats_anew();
         }
         if (!closed_.load(std::memory_order_acquire)) give_all_seats_back();
         require(status);
-    }
-
-    // Takes the seats again behind an action. Its refusal comes before that of the seats, with its errno.
-    std::uint32_t with_seats_anew(std::uint32_t status) {
-        const int why = errno;
-        const std::uint32_t seated = take_seats_anew();
-        if (status == CVEC_DONE) return seated;
-        errno = why;
-        return status;
     }
 
     // While no seat is taken. What was changed has to be folded before.
@@ -582,9 +576,21 @@ class word_file {
         return status == CVEC_DONE ? cvec_vector_resize_by(vector_, length, &unused) : status;
     }
 
-    // With all seats, which were closed behind settle_all. Those that it takes count growths from 0, or, where nothing was done,
-    // on: what they tell is settled are all that they count. Where it is refused the file is closed.
-    std::uint32_t take_seats_anew() {
+    // With all seats, which were closed behind settle_all: they are taken again, and errno stays. Where that is refused the file is
+    // closed, and later calls are told why: what the action did is durable, so that isn't refused.
+    void take_seats_anew() {
+        const int why = errno;
+        const std::uint32_t status = count_on();
+        if (status != CVEC_DONE) {
+            close_all();
+            end_by(status);
+        }
+        errno = why;
+    }
+
+    // The seats that it takes count growths from 0, or, where nothing was done, on: what they tell is settled are all that they
+    // count.
+    std::uint32_t count_on() {
         std::uint64_t counted = 0;
         std::uint32_t status = take_each_seat();
         // Where nothing was done, those that were never taken are given. They may be too few: once each is closed, all are.
@@ -593,18 +599,18 @@ class word_file {
             status = take_each_seat();
         }
         if (status == CVEC_DONE) status = cvec_vector_settled(slots_[0].seat, &counted);
-        if (status != CVEC_DONE) {
-            broken_ = status == CVEC_BROKEN;
-            close_all();
-            closed_.store(true, std::memory_order_release);
-            return status;
-        }
+        if (status != CVEC_DONE) return status;
         base_ = grown() - counted;
         ++openings_;
         return status;
     }
 
     // -- ending
+
+    void end_by(std::uint32_t status) noexcept {
+        ended_by_ = status;
+        closed_.store(true, std::memory_order_release);
+    }
 
     void close_seats() noexcept {
         for (std::size_t k = 0; k < seated_.load(std::memory_order_relaxed); ++k) {
@@ -647,7 +653,7 @@ class word_file {
     std::string path_;
     std::atomic<bool> closed_{false};
     std::atomic<bool> all_wanted_{false}; // somebody takes all seats, or has them
-    bool broken_ = false; // written before closed_ is
+    std::uint32_t ended_by_ = CVEC_DONE; // why it was closed but by a call of the user: written before closed_ is
     std::mutex seating_;  // who takes further seats, or all
     std::mutex flushing_;
     std::unique_ptr<std::condition_variable> flusher_wakes_ = std::make_unique<std::condition_variable>();
