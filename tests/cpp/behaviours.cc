@@ -374,6 +374,44 @@ static void deadlines(const std::string &path) {
     HOLDS(status_of([&] { static_cast<void>(vector.settle_for(1s)); }) == CVEC_NOT_SO);
 }
 
+// Does this while another call is held by this hook, for a second at most.
+static void beside_a_held_call(std::function<void()> &hook, const std::function<void()> &call,
+                               const std::function<void(const std::atomic<bool> &)> &then) {
+    std::atomic<bool> is_held{false}, is_over{false};
+    hook = [&] {
+        const auto end = std::chrono::steady_clock::now() + std::chrono::seconds(1);
+        is_held = true;
+        while (!is_over && std::chrono::steady_clock::now() < end) std::this_thread::yield();
+        is_held = false;
+    };
+    std::thread other(call);
+    while (!is_held) std::this_thread::yield();
+    then(is_held);
+    is_over = true;
+    other.join();
+    hook = nullptr;
+}
+
+// The time runs also while another call has the only seat, or the vector alone.
+static void deadlines_for_a_seat(const std::string &path) {
+    using namespace std::chrono_literals;
+    numbers vector(path, {cvec::opening::create, 1, 1}), wide(path + ".wide");
+    const cvec::growth made = vector.append(std::uint64_t{4});
+    const auto reads_it = [&] { static_cast<void>(vector[0]); };
+    beside_a_held_call(during_read, reads_it, [&](const std::atomic<bool> &is_held) {
+        HOLDS(!vector.settle_for(20ms) && !vector.settle_for(made, 0s) && is_held);
+    });
+    // What is left of it is for the commit.
+    beside_a_held_call(during_read, reads_it, [&](const std::atomic<bool> &) {
+        HOLDS(vector.settle_for(made, 10s) && milliseconds_asked > 0 && milliseconds_asked < 9900);
+    });
+    wide.push_back(4);
+    beside_a_held_call(before_change, [&] { wide.change(0, 5); }, [&](const std::atomic<bool> &is_held) {
+        HOLDS(!wide.settle_for(20ms) && is_held);
+    });
+    HOLDS(wide.settle_for(0s) && wide[0] == 5);
+}
+
 static void flushing(const std::string &path) {
     using namespace std::chrono_literals;
     {
@@ -1156,6 +1194,7 @@ int main(int argc, char **argv) {
         {"ranges", ranges},
         {"receipts", receipts},
         {"deadlines", deadlines},
+        {"deadlines_for_a_seat", deadlines_for_a_seat},
         {"flushing", flushing},
         {"shortening", shortening},
         {"shortened", shortened},

@@ -187,7 +187,7 @@ growths_have_receipts_in_cpp() (
 )
 
 a_wait_has_a_deadline_in_cpp() (
-    behaves deadlines
+    behaves deadlines deadlines_for_a_seat
 )
 
 a_flusher_in_cpp_commits_what_nobody_settles() (

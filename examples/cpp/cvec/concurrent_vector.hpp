@@ -210,7 +210,9 @@ class word_file {
 
     // The same, for others so many milliseconds at most: then false.
     bool await_for(std::uint64_t number, std::uint64_t milliseconds) {
-        const lease lent(*this);
+        slot *const found = borrow_within(milliseconds);
+        if (found == nullptr) return false;
+        const lease lent(*found);
         if (number < base_) return true;
         const std::uint32_t status = cvec_vector_await_for(lent.seat(), number - base_, milliseconds);
         if (status != CVEC_LATE) require(status);
@@ -337,6 +339,7 @@ class word_file {
     class lease {
       public:
         explicit lease(word_file &file) : slot_(file.borrow()) {}
+        explicit lease(slot &lent) noexcept : slot_(lent) {}
         lease(const lease &) = delete;
         lease &operator=(const lease &) = delete;
         ~lease() { slot_.give_back(); }
@@ -405,13 +408,29 @@ class word_file {
     // -- seats
 
     slot &borrow() {
+        for (patience turn;; turn.wait())
+            if (slot *found = try_borrow()) return *found;
+    }
+
+    // Waits so long at most, and takes what it has waited from that.
+    slot *borrow_within(std::uint64_t &milliseconds) {
+        const std::uint64_t most = milliseconds;
+        const auto begun = std::chrono::steady_clock::now();
         for (patience turn;; turn.wait()) {
-            if (closed_.load(std::memory_order_acquire)) refuse_closed();
-            if (slot *found = find_idle()) return *found;
-            // Who had a seat when this process was forked gives it back in the other process alone.
-            if (process_ != ::getpid()) refuse(CVEC_FORKED);
-            if (slot *fresh = find_or_seat()) return *fresh;
+            if (slot *found = try_borrow()) return found;
+            const auto waited = std::chrono::steady_clock::now() - begun;
+            const auto passed = std::chrono::duration_cast<std::chrono::milliseconds>(waited).count();
+            milliseconds = most - std::min(most, static_cast<std::uint64_t>(passed));
+            if (milliseconds == 0) return nullptr;
         }
+    }
+
+    slot *try_borrow() {
+        if (closed_.load(std::memory_order_acquire)) refuse_closed();
+        if (slot *found = find_idle()) return found;
+        // Who had a seat when this process was forked gives it back in the other process alone.
+        if (process_ != ::getpid()) refuse(CVEC_FORKED);
+        return find_or_seat();
     }
 
     slot *find_idle() noexcept {
@@ -429,10 +448,12 @@ class word_file {
         return nullptr;
     }
 
-    // One more seat, for who has found none idle; or none, where there are as many as there may be.
+    // One more seat, for who has found none idle; or none, where there are as many as there may be, or another has the mutex: it
+    // may have it long.
     slot *find_or_seat() {
         if (seated_.load(std::memory_order_relaxed) == limit_) return nullptr;
-        const std::lock_guard<std::mutex> lock(seating_);
+        const std::unique_lock<std::mutex> lock(seating_, std::try_to_lock);
+        if (!lock) return nullptr;
         if (slot *found = find_idle()) return found;
         if (closed_.load(std::memory_order_acquire) || !seat_another()) return nullptr;
         return find_idle();
@@ -1048,8 +1069,8 @@ template <class T, class Layout = one_record> class concurrent_vector {
     // Waits until this growth, and each before it, is durable.
     void settle(const growth &made) { file_->await(made.number); }
 
-    // The same two, but they wait for the commits of others no longer than this, and for a seat. False: the time has passed, and
-    // what was grown may yet become durable.
+    // The same two, but they wait for others no longer than this: for their commits, for a seat, and while one has the vector
+    // alone. False: the time has passed, and what was grown may yet become durable.
     template <class Rep, class Period> [[nodiscard]] bool settle_for(const std::chrono::duration<Rep, Period> &longest) {
         return file_->await_all_for(detail::milliseconds_of(longest));
     }
