@@ -863,6 +863,46 @@ static void closing(const std::string &path) {
     HOLDS(moved.size() == 2 && numbers(path + ".other").empty());
 }
 
+// One that was moved from refuses each call, and can be assigned to.
+static void moving(const std::string &path) {
+    numbers other(path);
+    other.push_back(5);
+    numbers vector(std::move(other));
+    const std::function<void()> calls[] = {
+        [&] { other.push_back(1); },
+        [&] { other.emplace_back(1); },
+        [&] { other.grow_by({1, 2}); },
+        [&] { other.grow_by(0); },
+        [&] { other.grow_to_at_least(1); },
+        [&] { other.append(1); },
+        [&] { other.append({1, 2}); },
+        [&] { other.change(0, 1); },
+        [&] { other.fold(); },
+        [&] { other.clear(); },
+        [&] { other.resize(1); },
+        [&] { other.settle(); },
+        [&] { other.settle({0, 0, 1}); },
+        [&] { static_cast<void>(other.settle_for(std::chrono::seconds(0))); },
+        [&] { other.run_flusher(std::chrono::seconds(1)); },
+        [&] { other.stop_flusher(); },
+        [&] { static_cast<void>(other.settled()); },
+        [&] { static_cast<void>(other[0]); },
+        [&] { static_cast<void>(other.front()); },
+        [&] { static_cast<void>(other.back()); },
+        [&] { static_cast<void>(other.size()); },
+        [&] { static_cast<void>(other.range()); },
+        [&] { static_cast<void>(rows_of(other)); },
+        [&] { static_cast<void>(list(other.rbegin(), other.rend())); },
+        [&] { cvec::appender<std::uint64_t> rows(other); },
+        [&] { other.close(); }};
+    for (const auto &call : calls) HOLDS(status_of(call) == CVEC_NOT_SO);
+    HOLDS(words_of(calls[0]) == std::to_string(CVEC_NOT_SO) + " cvec: a vector without a file: it was moved from");
+    HOLDS(is_out_of_range([&] { static_cast<void>(*other.begin()); }));
+    HOLDS(is_out_of_range([&] { static_cast<void>(*++numbers::iterator()); }));
+    other = std::move(vector);
+    HOLDS(rows_of(other) == list({5}) && status_of([&] { vector.push_back(1); }) == CVEC_NOT_SO);
+}
+
 // Threads grow while one closes: each growth is there or was refused.
 static void closing_meanwhile(const std::string &path) {
     std::atomic<std::uint64_t> grown{0}, refused{0};
@@ -1213,6 +1253,7 @@ int main(int argc, char **argv) {
         {"appenders", appenders},
         {"closing", closing},
         {"closing_meanwhile", closing_meanwhile},
+        {"moving", moving},
         {"refusals", refusals},
         {"locked", locked},
         {"versions", versions},

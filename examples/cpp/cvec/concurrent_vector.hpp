@@ -881,6 +881,7 @@ template <class T, class Layout = one_record> class iterator {
 
     [[nodiscard]] T row_at(std::size_t position) const {
         if (piece_ && piece_->has(position)) return (*piece_)[position];
+        if (file_ == nullptr) refuse_position(position);
         const std::optional<T> found = row::read(*file_, position);
         if (!found) refuse_position(position);
         return *found;
@@ -889,7 +890,7 @@ template <class T, class Layout = one_record> class iterator {
     // What can't be fetched isn't held: to read it is refused.
     void fetch() noexcept {
         if (piece_ && piece_->has(position_)) return;
-        if (position_ >= most_records / row::words) return;
+        if (file_ == nullptr || position_ >= most_records / row::words) return;
         try {
             auto found = std::make_shared<const piece<T, Layout>>(*file_, position_);
             if (found->has(position_)) piece_ = std::move(found);
@@ -978,7 +979,7 @@ template <class T, class Layout = one_record> class concurrent_vector {
 
     // Commits what was grown, and closes the file. After it all calls are refused. The destructor does so too, but can't
     // report what fails.
-    void close() { file_->close(); }
+    void close() { file().close(); }
 
     // -- growing: each call is one growth, whose rows stand in a row, and none of which a crash can take alone
 
@@ -991,12 +992,12 @@ template <class T, class Layout = one_record> class concurrent_vector {
     iterator grow_by(size_type count) { return grow_by(count, T()); }
 
     iterator grow_by(size_type count, const T &value) {
-        row::refuse_too_many(*file_, count);
+        row::refuse_too_many(file(), count);
         return grow_or_end(row::copies_of(value, count));
     }
 
     template <class Iterator, class = detail::category_of<Iterator>> iterator grow_by(Iterator first, Iterator last) {
-        return first == last ? end() : iterator_to(row::grow_range(*file_, first, last));
+        return first == last ? end() : iterator_to(row::grow_range(file(), first, last));
     }
 
     iterator grow_by(std::initializer_list<T> rows) { return grow_by(rows.begin(), rows.end()); }
@@ -1006,8 +1007,8 @@ template <class T, class Layout = one_record> class concurrent_vector {
     iterator grow_to_at_least(size_type count) { return grow_to_at_least(count, T()); }
 
     iterator grow_to_at_least(size_type count, const T &value) {
-        const std::unique_lock<std::mutex> turn = file_->take_turn();
-        if (count > max_size()) file_->refuse(CVEC_OUT_OF_RANGE);
+        const std::unique_lock<std::mutex> turn = file().take_turn();
+        if (count > max_size()) file().refuse(CVEC_OUT_OF_RANGE);
         std::optional<iterator> first;
         for (size_type length = size(); length < count; length = size()) {
             const iterator grown = grow_by(std::min(count - length, max_growth()), value);
@@ -1025,20 +1026,20 @@ template <class T, class Layout = one_record> class concurrent_vector {
     void change(size_type first, const T &value) {
         std::array<typename row::word, row::words> words;
         row::store(value, words.data());
-        row::change(*file_, first, words.data(), 1);
+        row::change(file(), first, words.data(), 1);
     }
 
     template <class Iterator, class = detail::category_of<Iterator>> void change(size_type first, Iterator begin, Iterator end) {
-        row::change_range(*file_, first, begin, end);
+        row::change_range(file(), first, begin, end);
     }
 
     void change(size_type first, std::initializer_list<T> rows) { change(first, rows.begin(), rows.end()); }
 
     // Writes what was changed to its place in the file, which costs a write for each changed record. Without it the file
     // keeps each change besides.
-    void fold() { file_->fold(); }
+    void fold() { file().fold(); }
 
-    void clear() { file_->cut(0); }
+    void clear() { file().cut(0); }
 
     // Rows that are missing are grown, as by grow_to_at_least.
     void resize(size_type count, const T &value = T()) {
@@ -1046,7 +1047,7 @@ template <class T, class Layout = one_record> class concurrent_vector {
             grow_to_at_least(count, value);
             return;
         }
-        file_->cut(std::uint64_t{count} * row::words);
+        file().cut(std::uint64_t{count} * row::words);
     }
 
     // -- growing with a receipt, by which a growth is awaited
@@ -1054,50 +1055,50 @@ template <class T, class Layout = one_record> class concurrent_vector {
     growth append(const T &value) {
         std::array<typename row::word, row::words> words;
         row::store(value, words.data());
-        return row::grow(*file_, words.data(), 1);
+        return row::grow(file(), words.data(), 1);
     }
 
     template <class Iterator, class = detail::category_of<Iterator>> growth append(Iterator first, Iterator last) {
-        return row::grow_range(*file_, first, last);
+        return row::grow_range(file(), first, last);
     }
 
     growth append(std::initializer_list<T> rows) { return append(rows.begin(), rows.end()); }
 
     // Waits until each growth that has returned before, of whichever thread, is durable.
-    void settle() { file_->await_all(); }
+    void settle() { file().await_all(); }
 
     // Waits until this growth, and each before it, is durable.
-    void settle(const growth &made) { file_->await(made.number); }
+    void settle(const growth &made) { file().await(made.number); }
 
     // The same two, but they wait for others no longer than this: for their commits, for a seat, and while one has the vector
     // alone. False: the time has passed, and what was grown may yet become durable.
     template <class Rep, class Period> [[nodiscard]] bool settle_for(const std::chrono::duration<Rep, Period> &longest) {
-        return file_->await_all_for(detail::milliseconds_of(longest));
+        return file().await_all_for(detail::milliseconds_of(longest));
     }
 
     template <class Rep, class Period>
     [[nodiscard]] bool settle_for(const growth &made, const std::chrono::duration<Rep, Period> &longest) {
-        return file_->await_for(made.number, detail::milliseconds_of(longest));
+        return file().await_for(made.number, detail::milliseconds_of(longest));
     }
 
     // For a thread of the caller's: settles, and so again and again, this long (at least a millisecond) behind the last time, until
     // stop_flusher or close is called. It throws where a commit is refused.
     template <class Rep, class Period> void run_flusher(const std::chrono::duration<Rep, Period> &every) {
-        file_->run_flusher(detail::milliseconds_of(every));
+        file().run_flusher(detail::milliseconds_of(every));
     }
 
     // Ends the loops of flushers, each that is begun later too. It doesn't wait for them.
-    void stop_flusher() { file_->stop_flusher(); }
+    void stop_flusher() { file().stop_flusher(); }
 
     // How many growths are durable: the first ones are. It doesn't wait.
-    [[nodiscard]] std::uint64_t settled() const { return file_->settled(); }
+    [[nodiscard]] std::uint64_t settled() const { return file().settled(); }
 
     [[nodiscard]] bool is_settled(const growth &made) const { return made.number < settled(); }
 
     // -- reading, what is durable and what isn't yet
 
     [[nodiscard]] T at(size_type position) const {
-        const std::optional<T> found = row::read(*file_, position);
+        const std::optional<T> found = row::read(file(), position);
         if (!found) detail::refuse_position(position);
         return *found;
     }
@@ -1106,7 +1107,7 @@ template <class T, class Layout = one_record> class concurrent_vector {
     [[nodiscard]] T front() const { return at(0); }
     [[nodiscard]] T back() const { return at(size() - 1); }
 
-    [[nodiscard]] size_type size() const { return static_cast<size_type>(file_->size()) / row::words; }
+    [[nodiscard]] size_type size() const { return static_cast<size_type>(file().size()) / row::words; }
     [[nodiscard]] bool empty() const { return size() == 0; }
     [[nodiscard]] static constexpr size_type max_size() noexcept {
         return static_cast<size_type>(detail::most_records / row::words);
@@ -1116,7 +1117,7 @@ template <class T, class Layout = one_record> class concurrent_vector {
     [[nodiscard]] static constexpr size_type max_growth() noexcept { return row::most_in_growth; }
 
     [[nodiscard]] const_iterator begin() const noexcept { return const_iterator(file_.get(), 0); }
-    [[nodiscard]] const_iterator end() const { return const_iterator(file_.get(), size()); }
+    [[nodiscard]] const_iterator end() const { return const_iterator(&file(), size()); }
     [[nodiscard]] const_iterator cbegin() const noexcept { return begin(); }
     [[nodiscard]] const_iterator cend() const { return end(); }
     [[nodiscard]] const_reverse_iterator rbegin() const { return const_reverse_iterator(end()); }
@@ -1125,7 +1126,7 @@ template <class T, class Layout = one_record> class concurrent_vector {
     [[nodiscard]] const_reverse_iterator crend() const { return rend(); }
 
     [[nodiscard]] const_range_type range(size_type grainsize = 1) const {
-        return const_range_type(file_.get(), 0, size(), grainsize);
+        return const_range_type(&file(), 0, size(), grainsize);
     }
 
     void swap(concurrent_vector &other) noexcept { file_.swap(other.file_); }
@@ -1134,13 +1135,19 @@ template <class T, class Layout = one_record> class concurrent_vector {
   private:
     template <class, class> friend class appender;
 
+    // One that was moved from has none.
+    detail::word_file &file() const {
+        if (!file_) throw error(CVEC_NOT_SO, "a vector without a file", "it was moved from", 0);
+        return *file_;
+    }
+
     [[noreturn]] void refuse_length() const {
-        file_->refuse(CVEC_WIDTH, "its records are no whole rows of " + std::to_string(row::bytes) + " bytes");
+        file().refuse(CVEC_WIDTH, "its records are no whole rows of " + std::to_string(row::bytes) + " bytes");
     }
 
     // No rows are no growth.
     iterator grow_or_end(const std::vector<typename row::word> &words) {
-        return words.empty() ? end() : iterator_to(row::grow(*file_, words));
+        return words.empty() ? end() : iterator_to(row::grow(file(), words));
     }
 
     iterator iterator_to(const growth &made) const noexcept { return iterator(file_.get(), made.first); }
@@ -1159,7 +1166,7 @@ template <class T, class Layout = one_record> class appender {
     using size_type = std::size_t;
 
     explicit appender(concurrent_vector<T, Layout> &vector, size_type rows = 1024)
-        : file_(vector.file_.get()), rows_(std::clamp<size_type>(rows, 1, row::most_in_growth)) {}
+        : file_(&vector.file()), rows_(std::clamp<size_type>(rows, 1, row::most_in_growth)) {}
 
     appender(appender &&other) noexcept
         : file_(other.file_), rows_(other.rows_), words_(std::move(other.words_)), buffered_(std::exchange(other.buffered_, 0)),
