@@ -3,7 +3,7 @@
 //     native WORK name=value ..
 //
 // One flat line of JSON is written for each figure. What was grown is compared before: number and sum of the records.
-// Status 1: standard error says why there is no figure. 3: no such work, or a size is missing.
+// Status 1: standard error says why there is no figure. 3: no such work, or a size is missing, or 0 of threads or a block.
 //
 //     grow threads= block= n=                             each thread grows by copies of a ready block of its own
 //     append threads= block= n=                           single records, each through an appender of a block
@@ -25,6 +25,7 @@
 #include <numeric>
 #include <stdexcept>
 #include <string>
+#include <system_error>
 #include <thread>
 #include <utility>
 #include <vector>
@@ -44,6 +45,13 @@ const std::string &word(const std::string &name) {
 }
 
 u64 number(const std::string &name) { return std::strtoull(word(name).c_str(), nullptr, 10); }
+
+// Of threads, and of a block.
+u64 some(const std::string &name) {
+    u64 found = number(name);
+    if (found == 0) throw std::invalid_argument("a size is 0: " + name);
+    return found;
+}
 
 // Records without a pattern, unlike those of another thread.
 std::vector<u64> block_of(u64 thread, u64 length) {
@@ -66,15 +74,22 @@ u64 sum_of(const u64 *records, std::size_t count) {
 class Made {
   public:
     explicit Made(unsigned threads) : path_(path_of_file()), vector_(path_, wanted(threads)) {}
+    // Where the work was refused the close is too, as on a full disk.
     ~Made() {
-        vector_.close();
-        std::filesystem::remove(path_);
+        try {
+            vector_.close();
+        } catch (...) {
+        }
+        std::error_code unasked;
+        std::filesystem::remove(path_, unasked);
     }
     Vector &vector() { return vector_; }
 
+    // And closes it: what was grown is a figure only where the file takes it.
     void compare(u64 count, u64 sum) {
         u64 length = vector_.size(), found = std::accumulate(vector_.begin(), vector_.end(), u64(0));
         if (length != count || found != sum) throw std::runtime_error("the vector hasn't what was grown");
+        vector_.close();
     }
 
   private:
@@ -130,8 +145,8 @@ void tell(const char *work, u64 threads, u64 n, double seconds, const std::strin
 bool nothing() { return false; }
 
 void grow() {
-    unsigned threads = unsigned(number("threads"));
-    u64 block = number("block"), growths = number("n") / threads / block, sum = 0;
+    unsigned threads = unsigned(some("threads"));
+    u64 block = some("block"), growths = number("n") / threads / block, sum = 0;
     std::vector<std::vector<u64>> blocks;
     for (unsigned thread = 0; thread < threads; thread++) {
         blocks.push_back(block_of(thread, block));
@@ -147,8 +162,8 @@ void grow() {
 }
 
 void append() {
-    unsigned threads = unsigned(number("threads"));
-    u64 block = number("block"), each = number("n") / threads, sum = 0;
+    unsigned threads = unsigned(some("threads"));
+    u64 block = some("block"), each = number("n") / threads, sum = 0;
     for (u64 thread = 0; thread < threads; thread++) sum += each * (thread << 40) + each * (each - 1) / 2;
     Made made(threads);
     double seconds = race(threads, [&](unsigned thread) {
@@ -190,8 +205,8 @@ double micros_at(std::vector<double> &times, std::size_t hundredths) {
 }
 
 void durable() {
-    unsigned threads = unsigned(number("threads"));
-    u64 block = number("block"), blocks = number("n") / threads, batch = word("mode") == "wait1" ? 1 : 64;
+    unsigned threads = unsigned(some("threads"));
+    u64 block = some("block"), blocks = number("n") / threads, batch = word("mode") == "wait1" ? 1 : 64;
     bool waits = word("mode") != "flow";
     auto most = std::chrono::milliseconds(number("box_ms"));
     std::vector<std::vector<u64>> ready;

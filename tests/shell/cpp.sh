@@ -381,11 +381,32 @@ the_bench_grows_by_threads_of_cpp() (
         grep -q '"threads":3,"n":[1-9][0-9]*,"seconds":0\.[0-9]*[,}]' "$out"
     done
     [ -z "$(find "$work" -name '*.cvec')" ]
-    for words in read 'grow threads=1'; do
+    for words in read 'grow threads=1' 'grow threads=0 block=16' 'grow threads=3 block=0' 'append threads=0 block=16' \
+        'append threads=3 block=0' 'durable mode=wait1 threads=0 block=16' 'durable mode=flow threads=3 block=0'; do
+        echo "work: $words"
         status=0
         # shellcheck disable=SC2086 # each word is one
-        "$work/native" $words >"$out" 2>"$err" || status=$?
+        "$work/native" $words n=6000 box_ms=20 "dir=$work" >"$out" 2>"$err" || status=$?
         [ "$status" -eq 3 ]
         [ ! -s "$out" ]
+        [ "$(wc -l <"$err")" -le 1 ]
     done
+)
+
+# The greatest size of a file stands for a full disk.
+the_bench_by_threads_of_cpp_tells_of_a_full_disk() (
+    has_cpp || exit $is_skipped
+    make_cpp
+    link_cpp -o "$work/native" "$top/bench/native.cc"
+    for words in 'grow block=16' 'append block=64' 'durable mode=wait1 block=16' 'durable mode=flow block=16'; do
+        echo "work: $words"
+        status=0
+        # shellcheck disable=SC2086 # each word is one
+        (ulimit -f 8 && exec "$work/native" $words threads=3 n=6000 box_ms=9999 "dir=$work") >"$out" 2>"$err" || status=$?
+        [ "$status" -eq 1 ]
+        [ ! -s "$out" ]
+        # Of threads that wait one is told the first, and others the second.
+        grep -q ": the file can't be written: File too large\$\|: a write or a sync has failed before: " "$err"
+    done
+    [ -z "$(find "$work" -name '*.cvec')" ]
 )
