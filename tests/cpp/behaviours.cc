@@ -28,6 +28,18 @@
 #include <sys/wait.h>
 #include <unistd.h>
 
+// The requests for memory that pass before one is refused; none is below 0. Inlined, gcc takes the two for a mismatch.
+static int news_left = -1;
+
+[[gnu::noinline]] void *operator new(std::size_t size) {
+    void *const found = news_left >= 0 && news_left-- == 0 ? nullptr : std::malloc(size);
+    if (found == nullptr) throw std::bad_alloc();
+    return found;
+}
+
+[[gnu::noinline]] void operator delete(void *memory) noexcept { std::free(memory); }
+[[gnu::noinline]] void operator delete(void *memory, std::size_t) noexcept { std::free(memory); }
+
 // How often the vector was asked for records, and what is done meanwhile.
 static std::atomic<int> reads{0};
 static std::function<void()> during_read;
@@ -924,6 +936,28 @@ static void closing_meanwhile(const std::string &path) {
     HOLDS(numbers(path).size() == grown);
 }
 
+// Whatever memory is refused while it is opened, the file is left to who opens it next. Its whole path takes more than its own.
+static void opening_without_memory(const std::string &path) {
+    const std::size_t slash = path.rfind('/');
+    const std::string name = path.substr(slash + 1);
+    HOLDS(::chdir(path.substr(0, slash).c_str()) == 0);
+    numbers(name).push_back(5);
+    int refused = 0;
+    for (bool is_open = false; !is_open; ++refused) {
+        news_left = refused;
+        try {
+            const numbers vector(name);
+            is_open = true;
+        } catch (const std::bad_alloc &) {
+        }
+        news_left = -1;
+        HOLDS(status_of([&] { HOLDS(rows_of(numbers(name)) == list({5})); }) == CVEC_DONE);
+        if (wrong != 0) return;
+    }
+    // That of its whole path among them, where its own takes none.
+    HOLDS(refused > 1);
+}
+
 static void write_file(const std::string &path, const std::string &bytes) { std::ofstream(path, std::ios::binary) << bytes; }
 
 static std::string bytes_of(const std::string &path) {
@@ -1254,6 +1288,7 @@ int main(int argc, char **argv) {
         {"closing", closing},
         {"closing_meanwhile", closing_meanwhile},
         {"moving", moving},
+        {"opening_without_memory", opening_without_memory},
         {"refusals", refusals},
         {"locked", locked},
         {"versions", versions},

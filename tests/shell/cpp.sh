@@ -199,7 +199,7 @@ an_appender_gathers_rows_in_cpp() (
 )
 
 a_vector_is_closed_in_cpp() (
-    behaves closing closing_meanwhile moving
+    behaves closing closing_meanwhile moving opening_without_memory
 )
 
 a_refusal_has_its_reason_in_cpp() (

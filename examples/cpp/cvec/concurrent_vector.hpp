@@ -175,8 +175,14 @@ class word_file {
         : type_(type), limit_(wanted.seats), process_(::getpid()), path_(path) {
         if (limit_ == 0 || limit_ > most_seats) refuse(CVEC_NOT_SO, "a vector has 1 to 64 seats");
         begin(wanted);
-        remember_path();
-        if (!seat_another()) abandon(CVEC_MEMORY);
+        // What a constructor throws leaves no destructor to close the file.
+        try {
+            remember_path();
+            if (!seat_another()) refuse(CVEC_MEMORY);
+        } catch (...) {
+            give_up();
+            throw;
+        }
     }
 
     word_file(const word_file &) = delete;
@@ -313,14 +319,6 @@ class word_file {
         refuse(CVEC_NOT_SO, ended_by_ == CVEC_DONE ? "it was closed" : std::string("it was closed: ") + why);
     }
 
-    // Gives the file up in a constructor, and refuses.
-    [[noreturn]] void abandon(std::uint32_t status) {
-        const int why = errno;
-        give_up();
-        errno = why;
-        refuse(status);
-    }
-
   private:
     // A seat of its own cache line, for one call at a time.
     struct alignas(cache_line) slot {
@@ -399,10 +397,9 @@ class word_file {
 
     // The file is opened again by its whole path: the process may have gone to another folder.
     void remember_path() {
-        char *whole = ::realpath(path_.c_str(), nullptr);
-        if (whole == nullptr) abandon(CVEC_DISK_OPEN);
-        path_ = whole;
-        std::free(whole);
+        const std::unique_ptr<char, decltype(&std::free)> whole(::realpath(path_.c_str(), nullptr), &std::free);
+        if (whole == nullptr) refuse(CVEC_DISK_OPEN);
+        path_ = whole.get();
     }
 
     // -- seats
