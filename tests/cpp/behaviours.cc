@@ -376,6 +376,8 @@ static void deadlines(const std::string &path) {
     const auto asked = [&](auto time) { return vector.settle_for(second, time) ? milliseconds_asked.load() : 99; };
     HOLDS(asked(0s) == 0 && asked(-5s) == 0 && asked(1ns) == 1 && asked(1500us) == 2 && asked(3s) == 3000);
     HOLDS(asked(std::chrono::duration<double>(0.25)) == 250 && asked(24h) == 86400000);
+    HOLDS(asked(std::chrono::duration<std::int64_t, std::pico>(5000000000)) == 5);
+    HOLDS(asked(std::chrono::duration<std::int64_t, std::femto>(5000000000001)) == 6);
     HOLDS(asked(std::chrono::hours::max()) == UINT64_MAX && asked(std::chrono::nanoseconds::max()) == UINT64_MAX);
     HOLDS(status_of([&] { static_cast<void>(vector.settle_for({9, 0, 1}, 0s)); }) == CVEC_OUT_OF_RANGE);
     answer_instead = CVEC_LATE;

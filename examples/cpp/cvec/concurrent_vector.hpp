@@ -121,10 +121,11 @@ constexpr std::chrono::seconds longest_wait{2};
 // Of a flusher, in milliseconds: a year.
 constexpr std::uint64_t longest_pause = std::uint64_t{365} * 24 * 3600 * 1000;
 
-// As cvec_vector.h counts it, rounded up. A year and more is as long as it can be.
+// As cvec_vector.h counts it, rounded up. A year and more is as long as it can be: it is compared by double, since a year of
+// picoseconds is past 64 bits.
 template <class Rep, class Period> std::uint64_t milliseconds_of(const std::chrono::duration<Rep, Period> &time) {
     if (time <= time.zero()) return 0;
-    if (time >= std::chrono::hours(365 * 24)) return UINT64_MAX;
+    if (std::chrono::duration<double>(time) >= std::chrono::hours(365 * 24)) return UINT64_MAX;
     return static_cast<std::uint64_t>(std::chrono::ceil<std::chrono::milliseconds>(time).count());
 }
 
