@@ -130,25 +130,37 @@ static int ask(struct cvec_seat *seat, uint32_t kind, uint32_t count, uint64_t s
     return send_head(seat, kind, count, start) ? -1 : take_head(seat, answer);
 }
 
-/* Closes the pipes of the first so many seats: for each the server's end of its requests, the client's, the client's end of
- * its answers, and the server's. */
-static void close_pipes(int ends[][4], int count) {
+/* Closes so many pipes. errno goes on saying why a call before has failed. */
+static void close_pipes(int pipes[][2], int count) {
+    int why = errno;
     for (int k = 0; k < count; k++)
-        for (int i = 0; i < 4; i++)
-            close(ends[k][i]);
+        for (int i = 0; i < 2; i++)
+            if (pipes[k][i] >= 0)
+                close(pipes[k][i]);
+    errno = why;
+}
+
+/* Where standard streams are closed, a pipe would get their numbers, and be written what the program prints there. */
+static int behind_streams(int descriptor) {
+    if (descriptor < 0 || descriptor > STDERR_FILENO)
+        return descriptor;
+    int moved = fcntl(descriptor, F_DUPFD_CLOEXEC, STDERR_FILENO + 1), why = errno;
+    close(descriptor);
+    errno = why;
+    return moved;
 }
 
 /* None of them is left to a program that another thread starts meanwhile. */
-static int open_pipes(int ends[][4], int count) {
+static int open_pipes(int pipes[][2], int count) {
     for (int k = 0; k < count; k++) {
-        if (pipe2(ends[k], O_CLOEXEC)) {
-            close_pipes(ends, k);
+        if (pipe2(pipes[k], O_CLOEXEC)) {
+            close_pipes(pipes, k);
             return -1;
         }
-        if (pipe2(ends[k] + 2, O_CLOEXEC)) {
-            close(ends[k][0]);
-            close(ends[k][1]);
-            close_pipes(ends, k);
+        for (int i = 0; i < 2; i++)
+            pipes[k][i] = behind_streams(pipes[k][i]);
+        if (pipes[k][0] < 0 || pipes[k][1] < 0) {
+            close_pipes(pipes, k + 1);
             return -1;
         }
     }
@@ -171,18 +183,16 @@ static void mute(void) {
 /* In the child: the server's ends get their descriptors, by way of others, so that none is overwritten, and it is run. A
  * client that is gone is to end its seat, and no signal the server: in a session of its own it gets none of those that a
  * terminal sends to the client, which may still want to be told what is durable. */
-static void run(const char *program, const char *type, const char *file, int ends[][4], int count) {
+static void run(const char *program, const char *type, const char *file, int pipes[][2], int count) {
     char seats[32];
-    for (int k = 0; k < count; k++) {
-        ends[k][0] = fcntl(ends[k][0], F_DUPFD_CLOEXEC, FREE_DESCRIPTOR);
-        ends[k][3] = fcntl(ends[k][3], F_DUPFD_CLOEXEC, FREE_DESCRIPTOR);
-    }
+    for (int k = 0; k < 2 * count; k++)
+        pipes[k][k % 2] = fcntl(pipes[k][k % 2], F_DUPFD_CLOEXEC, FREE_DESCRIPTOR);
     mute();
     if (setsid() < 0)
         _exit(127);
     signal(SIGPIPE, SIG_IGN);
-    for (int k = 0; k < count; k++)
-        if (dup2(ends[k][0], 3 + 2 * k) < 0 || dup2(ends[k][3], 4 + 2 * k) < 0)
+    for (int k = 0; k < 2 * count; k++)
+        if (dup2(pipes[k][k % 2], 3 + k) < 0)
             _exit(127);
     snprintf(seats, sizeof seats, "--seats=%d", count);
     execlp(program, program, "serve", type, file, seats, (char *)0);
@@ -201,26 +211,26 @@ int cvec_seat_of(struct cvec_seat *seat, const char *type, int requests, int ans
 }
 
 int cvec_server_start(struct cvec_server *server, const char *program, const char *type, const char *file, int count) {
-    int ends[CVEC_SEAT_LIMIT][4];
+    int pipes[2 * CVEC_SEAT_LIMIT][2]; /* for each seat that of its requests, and that of its answers */
     if (count < 1 || count > CVEC_SEAT_LIMIT || width_of(type) == 0) {
         errno = EINVAL;
         return -1;
     }
-    if (open_pipes(ends, count))
+    if (open_pipes(pipes, 2 * count))
         return -1;
     server->count = count;
     server->ended_by = 0;
     server->pid = fork();
     if (server->pid < 0) {
-        close_pipes(ends, count);
+        close_pipes(pipes, 2 * count);
         return -1;
     }
     if (server->pid == 0)
-        run(program, type, file, ends, count);
+        run(program, type, file, pipes, count);
     for (int k = 0; k < count; k++) {
-        close(ends[k][0]);
-        close(ends[k][3]);
-        cvec_seat_of(&server->seats[k], type, ends[k][1], ends[k][2]);
+        close(pipes[2 * k][0]);
+        close(pipes[2 * k + 1][1]);
+        cvec_seat_of(&server->seats[k], type, pipes[2 * k][1], pipes[2 * k + 1][0]);
     }
     return 0;
 }

@@ -368,6 +368,18 @@ a_client_that_is_killed_ends_its_server() (
     done
 )
 
+a_client_in_c_is_beside_the_standard_streams() (
+    has_tables || exit $is_skipped
+    cc -std=c99 -O2 -Wall -Wextra -Werror "-I$c" -o "$work/closed" "$bindings/closed.c" "$c/cvec_client.c"
+    run create u64 "$work/t.cv"
+    status=0
+    timeout 20 "$work/closed" "$top/cvec" "$work/t.cv" || status=$?
+    echo "status $status"
+    [ "$status" -eq 0 ]
+    run list u64 "$work/t.cv"
+    did '7\n7\n7\n'
+)
+
 parts_make_a_whole_for_clients() (
     has_tables || exit $is_skipped
     make_client
