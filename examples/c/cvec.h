@@ -44,7 +44,7 @@ enum cvec_status {
     /* of cvec_file.c alone */
     CVEC_EXISTS = 32,      /* something is there already */
     CVEC_IN_USE = 33,      /* open already by cvec_create or cvec_open, in this process too, or locked (flock) otherwise. A lock
-                              that readers share is waited for, 10 seconds */
+                              that readers share is waited for, 10 seconds: what is opened has the name then */
     CVEC_BROKEN = 34,      /* a write or a sync has failed on this file before. Open it again; after a sync, restart first */
     CVEC_DISK_OPEN = 35,   /* a call of the system failed, errno says why: open, or flock */
     CVEC_DISK_LENGTH = 36, /* fstat */

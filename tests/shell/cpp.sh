@@ -270,8 +270,8 @@ no_complaint_of() {
 
 memory_is_used_rightly_in_cpp() (
     no_complaint_of address,undefined 2 growing greatest_growth structs other_types reading iterators shared_iterator \
-        ranges changing changing_counts_on changing_has_seats_again changing_breaks appenders closing closing_meanwhile \
-        refusals breaking few_seats many_threads renewing
+        ranges changing changing_counts_on changing_has_seats_again changing_ends changing_breaks appenders closing \
+        closing_meanwhile moving opening_without_memory refusals breaking few_seats many_threads renewing
     rm -f "$work"/t.cv*
     sanitized sizes
     "$work/sizes" "$work/t.cv"
@@ -280,7 +280,8 @@ memory_is_used_rightly_in_cpp() (
 # The library isn't built for this sanitizer, which sees how it copies records, but not by what its threads are in order: so
 # none reads here what others grow beside it.
 threads_are_in_order_in_cpp() (
-    no_complaint_of thread 0 flushing shortening shared_iterator closing_meanwhile few_seats many_threads turns renewing
+    no_complaint_of thread 0 deadlines_for_a_seat flushing shortening shared_iterator closing_meanwhile few_seats many_threads \
+        turns renewing
 )
 
 # ---- the page, the examples, and oneTBB
