@@ -133,6 +133,7 @@ impl<R: Record, D: Disk> Committer<R, D> {
         ensures phase { phase_of self.new ≡ phase_of self.old }
         ensures made { IfSome result (λ _. self.new.made ≡ clock (D.states (disk_of self.new).inner)) }
         ensures told { IfSome result (λ count. (count ≡ self.old.flusher.settled) × (self.new.flusher.mark.told.count ≡ count)) }
+        ensures only { IfSome result (λ _. self.new.flusher ≡ record self.old.flusher { mark = self.new.flusher.mark }) }
         ensures left { D.keeps (disk_of self.new).inner
             → ToldIsLeft R.form (D.states (disk_of self.new).inner) self.new.flusher self.new.flusher.mark.raises }
         ensures lost { IsNone result → (self.new.flusher ≡ self.old.flusher) × (self.new.made ≡ self.old.made) }
