@@ -1,5 +1,5 @@
 -- What a call makes of an end of a phase.
-use Rattle.std.specs.Prelude.{◌≡◌, ◌⊎◌, ℕ, ◌+◌, List, length, None}
+use Rattle.std.specs.Prelude.{◌≡◌, ◌⊎◌, ℕ, ◌+◌, ◌≤◌, List, length, None}
 use Rattle.std.specs.Arc.{arc_value}
 use Rattle.std.specs.declared.cmp.PartialEq as PartialEq
 use Rattle.record_core.specs.declared.record.Record as Record
@@ -68,9 +68,10 @@ module _ {R : Type 0} {record_of : Record.Ghosts R} {eq_of : PartialEq.Ghosts R}
       (growers.phase_of new ≡ growers.phase_of old) × SeatIsTold old.seat new.seat count state
   Tells count state old new = ⊥
 
-  -- so many records of its list from that position on stand in front of the output
+  -- so many records of its list from that position on stand in front of the output: at least one where there is one, and room
   abbrev pub Reads : ℕ → List R → List R → ℕ → Role R record_of eq_of → Role R record_of eq_of → Type 0
-  Reads from before after count (roles.Grower old) (roles.Grower new) = (new ≡ old) × Copies (list_of old) from before after count
+  Reads from before after count (roles.Grower old) (roles.Grower new) =
+      (new ≡ old) × Copies (list_of old) from before after count × ((count ≡ 0) → (length (list_of old) ≤ from) ⊎ (length before ≡ 0))
   Reads from before after count old new = ⊥
 
   -- ---- who commits
@@ -111,12 +112,12 @@ module _ {R : Type 0} {record_of : Record.Ghosts R} {eq_of : PartialEq.Ghosts R}
       × (KeepsSoFar vault.vault.pen.disk.inner → LeadTo (states_of vault.vault.pen.disk.inner) vault.made calls)
   Lists calls role = ⊥
 
-  -- The host has made all calls, and the growers are told what is in the file by them: so many growths. What they were told
-  -- stands: whatever a crash has left since then opens to so many growths at least. Of a vault, which has told nobody, no growth.
+  -- The host has made all calls, and the growers are told what is in the file by them: so many growths, and nothing else is
+  -- done. What they were told stands: whatever a crash has left since then opens to so many growths at least. Of a vault, which has told nobody, no growth.
   abbrev pub Settles : ℕ → Role R record_of eq_of → Role R record_of eq_of → Type 0
   Settles count (roles.Committer old) (roles.Committer new) =
       (arc_value new.live ≡ arc_value old.live) × (new.made ≡ clock (states_of new.flusher.pen.disk.inner))
-      × (count ≡ old.flusher.settled) × (new.flusher.mark.told.count ≡ count)
+      × (count ≡ old.flusher.settled) × (new.flusher.mark.told.count ≡ count) × (new.flusher ≡ record old.flusher { mark = new.flusher.mark })
       × (KeepsSoFar new.flusher.pen.disk.inner
       → ToldIsLeft record_of.form (states_of new.flusher.pen.disk.inner) new.flusher new.flusher.mark.raises)
   Settles count (roles.Vault old) (roles.Vault new) = (new.vault ≡ old.vault) × (new.made ≡ clock (states_of new.vault.pen.disk.inner)) × (count ≡ 0)
