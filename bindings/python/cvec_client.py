@@ -61,14 +61,19 @@ def _close(descriptors):
         os.close(descriptor)
 
 
-def _above_streams(descriptor):
-    """Where a standard stream is closed a pipe gets its number, at which the server would have another file."""
-    if descriptor > 2:
-        return descriptor
+def _above_streams(descriptors):
+    """These, but others for those with the number of a standard stream: where one is closed a pipe gets its number, at which the
+    server would have another file. Refused, all of them are as they were."""
+    moved = {}
     try:
-        return fcntl.fcntl(descriptor, fcntl.F_DUPFD_CLOEXEC, 3)
-    finally:
-        os.close(descriptor)
+        for descriptor in descriptors:
+            if descriptor <= 2:
+                moved[descriptor] = fcntl.fcntl(descriptor, fcntl.F_DUPFD_CLOEXEC, 3)
+    except BaseException:
+        _close(moved.values())
+        raise
+    _close(moved)
+    return [moved.get(it, it) for it in descriptors]
 
 
 class Seat:
@@ -193,8 +198,10 @@ class Server:
             for _ in range(seats):
                 for mine in (1, 0):
                     ends = os.pipe()
-                    ours.append(_above_streams(ends[mine]))
-                    theirs.append(_above_streams(ends[1 - mine]))
+                    ours.append(ends[mine])
+                    theirs.append(ends[1 - mine])
+            for held in (ours, theirs):
+                held[:] = _above_streams(held)
             self.process = subprocess.Popen(words, preexec_fn=lambda: _prepare(theirs), close_fds=False,
                                             start_new_session=True, stdin=subprocess.DEVNULL, stdout=subprocess.DEVNULL)
         except BaseException:

@@ -184,9 +184,13 @@ class _Records:
             return array.array(self._code, bytes(self._form.width * count))
         return numpy.empty(count, dtype=self._form.dtype)
 
-    def put(self, room: Any, at: int, record: Any) -> None:
+    def places(self, room: Any) -> Any:
+        """What `put` writes to, so that it is written in the array."""
+        return room
+
+    def put(self, places: Any, at: int, record: Any) -> None:
         """Writes a record of such an array."""
-        room[at] = self._form.record.unpack(self.bytes_of(record))[0 if self._code else slice(None)]
+        places[at] = self._form.record.unpack(self.bytes_of(record))[0 if self._code else slice(None)]
 
     def bytes_of(self, record: Any) -> bytes:
         """The bytes of a record as C has it."""
@@ -236,9 +240,13 @@ class _Rows:
         if not isinstance(record, numpy.generic) or record.dtype != self.dtype:
             raise ValueError(f"no record of the type: not one of {self.dtype}")
 
-    def put(self, room: Any, at: int, record: Any) -> None:
+    def places(self, room: Any) -> Any:
+        return memoryview(room.view(numpy.uint8))
+
+    def put(self, places: Any, at: int, record: Any) -> None:
         self._check(record)
-        room.view(self._raw)[at] = numpy.void(record.tobytes())
+        width = self.dtype.itemsize
+        places[at * width:(at + 1) * width] = record.tobytes()
 
     def bytes_of(self, record: Any) -> bytes:
         self._check(record)
@@ -450,6 +458,7 @@ class Appender(_Single):
             raise ValueError("an appender keeps at least one record")
         self._seat, self._form = seat, seat._form
         self._room, self._kept = self._form.room(capacity), 0
+        self._places = self._form.places(self._room)
 
     def __enter__(self) -> Appender:
         return self
@@ -466,7 +475,7 @@ class Appender(_Single):
         """Keeps the record. Where as many are kept as fit, it grows by those first, and answers their receipt; where that is
         refused the record isn't kept, and the others stay. ValueError: it is no record of the vector."""
         receipt = self.flush() if self._kept == len(self._room) else None
-        self._form.put(self._room, self._kept, record)
+        self._form.put(self._places, self._kept, record)
         self._kept += 1
         return receipt
 

@@ -723,6 +723,26 @@ static void changing_beside(const std::string &path) {
     for (std::size_t at = 2; at < found.size(); ++at) HOLDS(found[at] == 1000 * (at % 2 + 1));
 }
 
+// Changes one behind another hold no call up for long: two readers make their calls, with pauses, while they go on.
+static void reading_beside_changes(const std::string &path) {
+    numbers vector(path);
+    vector.push_back(0);
+    std::atomic<int> changed{0}, read{0};
+    const auto end = std::chrono::steady_clock::now() + std::chrono::seconds(10);
+    auto is_late = [&] { return std::chrono::steady_clock::now() > end; };
+    auto pause = [] { std::this_thread::sleep_for(std::chrono::microseconds(100)); };
+    std::vector<std::thread> readers;
+    for (int reader = 0; reader < 2; ++reader)
+        readers.emplace_back([&] {
+            while (changed < 5) pause();
+            for (int k = 0; k < 100 && !is_late(); ++k, pause())
+                if (vector.size() == 1) ++read;
+        });
+    for (std::uint64_t turn = 1; read < 200 && !is_late(); ++turn, ++changed) vector.change(0, turn);
+    for (std::thread &reader : readers) reader.join();
+    HOLDS(read == 200);
+}
+
 // Threads that have a seat nearly all the time hold no change up: between its call and its turn they make a growth each or two.
 static void changing_comes_soon(const std::string &path) {
     numbers vector(path);
@@ -1282,6 +1302,7 @@ int main(int argc, char **argv) {
         {"changing_ends", changing_ends},
         {"changing_beside", changing_beside},
         {"changing_comes_soon", changing_comes_soon},
+        {"reading_beside_changes", reading_beside_changes},
         {"changing_breaks", changing_breaks},
         {"changed", changed},
         {"folded", folded},

@@ -305,6 +305,29 @@ CLIENT
     has_records 5 7
 )
 
+# There are too few descriptors for all pipes, at each number of them; no server is started then.
+a_python_client_without_descriptors_loses_none() (
+    has python3 'clients of a server' || exit $is_skipped
+    PYTHONPATH=$top/bindings/python PYTHONDONTWRITEBYTECODE=1 timeout 60 python3 - <<'CLIENT'
+import os
+import resource
+import cvec_client
+opened = lambda: set(os.listdir("/proc/self/fd"))
+os.close(0)
+before = opened()
+for limit in range(4, 24):
+    resource.setrlimit(resource.RLIMIT_NOFILE, (limit, resource.getrlimit(resource.RLIMIT_NOFILE)[1]))
+    try:
+        cvec_client.Server("/nowhere", "u64", "/nowhere", seats=8)
+        raise SystemExit("it was started")
+    except OSError:
+        pass
+    resource.setrlimit(resource.RLIMIT_NOFILE, (64, resource.getrlimit(resource.RLIMIT_NOFILE)[1]))
+    if opened() != before:
+        raise SystemExit(f"limit {limit}: {sorted(opened() - before)} stay")
+CLIENT
+)
+
 # A client's words, of which the first is `c` or `python`, at a terminal of its own.
 at_a_terminal() {
     how=$1

@@ -166,7 +166,7 @@ rows_are_taken_away_in_cpp() (
 
 rows_are_changed_in_cpp() (
     behaves changing changing_nothing changing_most changing_counts_on changing_has_seats_again changing_ends \
-        changing_beside changing_comes_soon changing_breaks
+        changing_beside changing_comes_soon reading_beside_changes changing_breaks
     rm "$work/t.cv"
     ends_by_a_kill changed
     lists 3 1 '5\n8\n9\n'

@@ -407,7 +407,7 @@ class word_file {
 
     slot &borrow() {
         for (patience turn;; turn.wait())
-            if (slot *found = try_borrow()) return *found;
+            if (slot *found = try_borrow(true)) return *found;
     }
 
     // Waits so long at most, and takes what it has waited from that.
@@ -415,7 +415,7 @@ class word_file {
         const std::uint64_t most = milliseconds;
         const auto begun = std::chrono::steady_clock::now();
         for (patience turn;; turn.wait()) {
-            if (slot *found = try_borrow()) return found;
+            if (slot *found = try_borrow(false)) return found;
             const auto waited = std::chrono::steady_clock::now() - begun;
             const auto passed = std::chrono::duration_cast<std::chrono::milliseconds>(waited).count();
             milliseconds = most - std::min(most, static_cast<std::uint64_t>(passed));
@@ -423,12 +423,12 @@ class word_file {
         }
     }
 
-    slot *try_borrow() {
+    slot *try_borrow(bool has_time) {
         if (closed_.load(std::memory_order_acquire)) refuse_closed();
         if (slot *found = find_idle()) return found;
         // Who had a seat when this process was forked gives it back in the other process alone.
         if (process_ != ::getpid()) refuse(CVEC_FORKED);
-        return find_or_seat();
+        return find_or_seat(has_time);
     }
 
     slot *find_idle() noexcept {
@@ -446,12 +446,15 @@ class word_file {
         return nullptr;
     }
 
-    // One more seat, for who has found none idle; or none, where there are as many as there may be, or another has the mutex: it
-    // may have it long.
-    slot *find_or_seat() {
+    // One more seat, for who has found none idle; or none, where there are as many as there may be. Another may have the mutex
+    // long. Who has time waits for it, and so has a turn between calls that have the vector alone; others get none then.
+    slot *find_or_seat(bool has_time) {
         if (seated_.load(std::memory_order_relaxed) == limit_) return nullptr;
-        const std::unique_lock<std::mutex> lock(seating_, std::try_to_lock);
-        if (!lock) return nullptr;
+        std::unique_lock<std::mutex> lock(seating_, std::defer_lock);
+        if (has_time)
+            lock.lock();
+        else if (!lock.try_lock())
+            return nullptr;
         if (slot *found = find_idle()) return found;
         if (closed_.load(std::memory_order_acquire) || !seat_another()) return nullptr;
         return find_idle();
