@@ -9,7 +9,8 @@
                       names is interrupted once before it is made: pread, pwrite, fdatasync, and statx of a descriptor
    CALLS_FAIL=CALL:N  the call of this name fails, which is number N of those with it, from 1: EIO, or ENOSPC of a write
    CALLS_LARGEST=N    a request for more than N bytes of memory is refused
-   CALLS_WAIT=N       each pread is made N microseconds later */
+   CALLS_WAIT=N       each pread is made N microseconds later
+   CALLS_MOVE=FILE    once the first lock is had, the file FILE.new gets the name FILE */
 #define _GNU_SOURCE
 #include <dlfcn.h>
 #include <errno.h>
@@ -26,6 +27,7 @@ static const char *const names[CALLS] = {"read", "write", "pread", "pwrite", "fd
 static int seen[CALLS], made[CALLS], failing = -1, failing_at, log_to = -1;
 static size_t part = (size_t)-1, largest = (size_t)-1;
 static useconds_t before_read;
+static const char *moved;
 
 /* The program's own descriptors keep their numbers. */
 __attribute__((constructor)) static void begin(void) {
@@ -38,6 +40,7 @@ __attribute__((constructor)) static void begin(void) {
     }
     if (most != NULL) part = strtoul(most, NULL, 10);
     if (bytes != NULL) largest = strtoul(bytes, NULL, 10);
+    moved = getenv("CALLS_MOVE");
     if (wait != NULL) before_read = (useconds_t)atoi(wait);
     for (int call = 0; fail != NULL && call < CALLS; call++) {
         size_t length = strlen(names[call]);
@@ -129,7 +132,20 @@ int statx(int fd, const char *path, int flags, unsigned mask, struct statx *foun
     return NEXT(statx)(fd, path, flags, mask, found);
 }
 
-int flock(int fd, int how) { return is_refused(FLOCK) ? -1 : NEXT(flock)(fd, how); }
+/* Another file is put in the place of the one that was locked, once. */
+static void move_over(void) {
+    char new[4096];
+    if (moved == NULL) return;
+    snprintf(new, sizeof new, "%s.new", moved);
+    if (rename(new, moved) != 0) abort();
+    moved = NULL;
+}
+
+int flock(int fd, int how) {
+    if (is_refused(FLOCK) || NEXT(flock)(fd, how) != 0) return -1;
+    move_over();
+    return 0;
+}
 
 extern void *__libc_malloc(size_t), *__libc_realloc(void *, size_t);
 

@@ -25,6 +25,7 @@ longer() {
 of_version_2() { run create u64 "$work/t.cv" --format=2; }
 
 folder() { mkdir "$work/t.cv"; }
+fifo() { mkfifo "$work/t.cv"; }
 
 link_to_itself() { ln -s t.cv "$work/t.cv"; }
 

@@ -274,6 +274,69 @@ a_file_that_was_put_in_its_place_is_found() (
     wait "$first"
 )
 
+# Another file is put in its place as soon as a command has its lock: that is locked then, and written.
+a_file_that_replaces_a_locked_one_is_locked() (
+    has_locks_listed || exit $is_skipped
+    has_calls || exit $is_skipped
+    build_calls
+    two_files
+    t=$work/t.cv
+    run set u64 "$work/other.cv" 1 --records=6
+    mv "$work/other.cv" "$t.new"
+    ln "$t" "$work/old.cv"
+    old=$(cksum <"$work/old.cv")
+    pipe
+    CALLS_MOVE=$t LD_PRELOAD=$work/calls.so "$program" append u64 "$t" \
+        <"$work/pipe" >"$work/first_out" 2>"$work/first_err" 8>&- &
+    first=$!
+    until [ ! -e "$t.new" ]; do sleep 0.01; done
+    until_locked WRITE "$t"
+    second fold u64 "$t" --wait=0
+    answers_refusal file
+    echo 9 >&8
+    exec 8>&-
+    wait "$first"
+    [ "$(cksum <"$work/old.cv")" = "$old" ]
+    run list u64 "$t"
+    did '5\n6\n9\n'
+)
+
+# What is no plain file is neither read nor written: a device's length is told as 0, so it would be taken for an empty file.
+what_is_no_plain_file_is_refused() (
+    mkfifo "$work/fifo"
+    for file in "$work/fifo" /dev/null; do
+        for words in 'create u64' 'create u64 --over' 'append u64' 'check u64' 'list u64' 'stat' 'follow u64 --once' 'fold u64'; do
+            given '5\n'
+            # shellcheck disable=SC2086 # each word is one
+            run $words "$file" </dev/null
+            was_refused file 'it is no plain file'
+        done
+    done
+    two_files
+    run copy u64 "$work/t.cv" /dev/null
+    was_refused file 'it is no plain file'
+)
+
+# Where there are too few descriptors for all that is opened, the file is as it was.
+a_file_that_cannot_be_opened_is_not_emptied() (
+    two_files
+    t=$work/t.cv
+    sum=$(cksum <"$t")
+    emptied=
+    for limit in 4 5 6 7 8 9; do
+        status=0
+        (ulimit -n "$limit" && exec "$program" create u64 "$t" --over) >"$out" 2>"$err" || status=$?
+        if [ "$status" -eq 0 ]; then
+            emptied=yes
+            break
+        fi
+        [ "$(cksum <"$t")" = "$sum" ]
+    done
+    [ -n "$emptied" ]
+    run list u64 "$t"
+    did ''
+)
+
 # `load` and `set` read their input before they open the file, so they keep nobody from it meanwhile. More than a pipe holds is
 # written, so some of that has been read.
 a_load_that_waits_for_its_input_keeps_nobody_out() (

@@ -9,8 +9,9 @@ ghost use Rattle.filing_core.specs.Complaints.{IsJustOpened, IsUnopened};
 
 use disk_core::{FileDisk, SharedFile};
 use sentences::{Complaint, Role};
-use std::fs::{self, File, OpenFile, OpenOptions, TryLockError};
-use std::os::unix::fs::FileExt;
+use std::fs::{self, File, Metadata, OpenFile, OpenOptions, TryLockError};
+use std::io::ErrorKind;
+use std::os::unix::fs::{FileExt, MetadataExt};
 use std::rt::Files;
 use std::time::{Clock, Duration};
 use std::{io, thread};
@@ -45,13 +46,18 @@ pub struct Opened {
 }
 
 /// Opens the file at this path to be read alone. What is no plain file is opened to be written too: so a folder is refused,
-/// and a pipe doesn't wait for who writes it.
+/// and a pipe doesn't wait for who writes it; then it is refused as well.
 pub fn open_to_read<F: Files<File = File>>(files: &F, path: &str) -> io::Result<File> {
     let is_plain = fs::metadata(files, path)?.is_file();
-    OpenOptions::new()
+    let file = OpenOptions::new()
         .read(true)
         .write(!is_plain)
-        .open(files, path)
+        .open(files, path)?;
+    if is_plain {
+        Ok(file)
+    } else {
+        Err(ErrorKind::Unsupported.into())
+    }
 }
 
 /// Opens the file at this path for what is done with it.
@@ -69,8 +75,10 @@ fn open_for<F: Files<File = File>>(files: &F, path: &str, access: Access) -> io:
 /// Why a file isn't locked.
 #[derive(Clone, Copy)]
 enum Unlocked {
-    /// It can't be opened, made, locked or emptied.
+    /// It can't be opened, made or locked.
     Failed(io::Error),
+    /// Its name leads to another file by now, or to none.
+    Replaced,
     /// Commands have it that only read.
     Read,
     /// A command has it that writes.
@@ -84,7 +92,7 @@ impl Unlocked {
     {
         match self {
             Unlocked::Failed(error) => Complaint::NotOpened(role, error),
-            Unlocked::Read | Unlocked::Written => Complaint::InUse(role),
+            Unlocked::Replaced | Unlocked::Read | Unlocked::Written => Complaint::InUse(role),
         }
     }
 }
@@ -98,19 +106,65 @@ fn holder_of(file: File) -> Unlocked {
     }
 }
 
-/// The file, with nothing in it where that is asked for.
-fn emptied(file: File, access: Access) -> Result<File, Unlocked> {
-    if !matches!(access, Access::Empties) {
-        return Ok(file);
+/// What the system knows of an open file. Where the call is interrupted, it is made again.
+fn known_of(file: &File) -> io::Result<Metadata> {
+    for _ in 0..u64::MAX {
+        match file.metadata() {
+            Err(error) if error.kind() == ErrorKind::Interrupted => {}
+            answered => return answered,
+        }
     }
-    match file.set_len(0) {
-        Ok(()) => Ok(file),
+    Err(ErrorKind::Interrupted.into())
+}
+
+/// Whether the path leads to this file, which has to be a plain one.
+fn leads_to<F: Files<File = File>>(files: &F, path: &str, file: &File) -> io::Result<bool> {
+    let opened = known_of(file)?;
+    if !opened.is_file() {
+        return Err(ErrorKind::Unsupported.into());
+    }
+    match fs::metadata(files, path) {
+        Ok(named) => Ok(named.dev() == opened.dev() && named.ino() == opened.ino()),
+        Err(error) if error.kind() == ErrorKind::NotFound => Ok(false),
+        Err(error) => Err(error),
+    }
+}
+
+/// Syncs the folder of a file that may be new, so that a crash does not take its name away.
+fn keep_name<F: Files<File = File> + AllocGlobal>(
+    files: &F,
+    path: &str,
+    access: Access,
+) -> io::Result<()> {
+    if matches!(access, Access::Makes | Access::Empties) {
+        drop(FileDisk::<File>::make(files, path)?);
+    }
+    Ok(())
+}
+
+/// The locked file, if it has the name: what is written to one without a name would be lost.
+fn named<F: Files<File = File> + AllocGlobal>(
+    files: &F,
+    path: &str,
+    access: Access,
+    file: File,
+) -> Result<File, Unlocked> {
+    if let Err(error) = keep_name(files, path, access) {
+        return Err(Unlocked::Failed(error));
+    }
+    match leads_to(files, path, &file) {
+        Ok(true) => Ok(file),
+        Ok(false) => Err(Unlocked::Replaced),
         Err(error) => Err(Unlocked::Failed(error)),
     }
 }
 
-/// Locks the file at this path. Nothing is read, and nothing written but to empty it where that is asked for.
-fn lock<F: Files<File = File>>(files: &F, path: &str, access: Access) -> Result<File, Unlocked> {
+/// Locks the file at this path. Nothing is read, and nothing written.
+fn lock<F: Files<File = File> + AllocGlobal>(
+    files: &F,
+    path: &str,
+    access: Access,
+) -> Result<File, Unlocked> {
     let file = match open_for(files, path, access) {
         Ok(file) => file,
         Err(error) => return Err(Unlocked::Failed(error)),
@@ -120,7 +174,7 @@ fn lock<F: Files<File = File>>(files: &F, path: &str, access: Access) -> Result<
         Access::Writes | Access::Makes | Access::Empties => file.try_lock(),
     };
     match locked {
-        Ok(()) => emptied(file, access),
+        Ok(()) => named(files, path, access, file),
         Err(TryLockError::WouldBlock) => Err(holder_of(file)),
         Err(TryLockError::Error(error)) => Err(Unlocked::Failed(error)),
     }
@@ -137,7 +191,7 @@ fn wait_for_readers(role: Role, seconds: u64) -> u64 {
 
 /// Locks the file at this path, and tries again: for so many seconds while a command has it that writes, and for some at least
 /// while others only read it. Each try opens it anew, for meanwhile another file may have got this name.
-fn lock_within<F: Files<File = File> + Clock>(
+fn lock_within<F: Files<File = File> + Clock + AllocGlobal>(
     files: &F,
     path: &str,
     access: Access,
@@ -151,7 +205,7 @@ fn lock_within<F: Files<File = File> + Clock>(
     for naps in 0..for_readers {
         match lock(files, path, access) {
             Ok(file) => return Ok(file),
-            Err(Unlocked::Read) => {}
+            Err(Unlocked::Read | Unlocked::Replaced) => {}
             Err(Unlocked::Written) if naps < for_writer => {}
             Err(unlocked) => return Err(unlocked.complaint(role)),
         }
@@ -179,6 +233,16 @@ fn locked_disk(lock: &File) -> io::Result<FileDisk>
     Ok(disk_over(lock.try_clone()?))
 }
 
+/// The same, with nothing in it where that is asked for.
+fn disk_for(lock: &File, access: Access) -> io::Result<FileDisk>
+    ensures { IfOk result IsJustOpened }
+{
+    if matches!(access, Access::Empties) {
+        lock.set_len(0)?;
+    }
+    locked_disk(lock)
+}
+
 /// Locks and opens the file at this path. Nothing is read, and nothing written but to empty it where that is asked for.
 /// Refused where it can't be opened or made, and where another command has it and keeps it for so many seconds; FILE, where
 /// others only read it, for `READERS_WAIT` at least.
@@ -193,12 +257,7 @@ pub fn open<F: Files<File = File> + Clock + AllocGlobal>(
     ensures shut { IfErr result (IsUnopened role) }
 {
     let lock = lock_within(files, path, access, role, seconds)?;
-    let opened = match access {
-        Access::Makes | Access::Empties => FileDisk::make(files, path),
-        Access::Writes => FileDisk::open(files, path),
-        Access::Reads => locked_disk(&lock),
-    };
-    match opened {
+    match disk_for(&lock, access) {
         Ok(disk) => Ok(Opened { disk, lock }),
         Err(error) => Err(Complaint::NotOpened(role, error)),
     }
