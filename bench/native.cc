@@ -1,4 +1,4 @@
-// Works of the bench by threads of one C++ process on `cvec::concurrent_vector`, as cvec_speed does them:
+// Works of the bench by threads of one C++ process on `cvec::concurrent_vector`. cvec_speed has the others.
 //
 //     native WORK name=value ..
 //

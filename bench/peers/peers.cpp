@@ -1,4 +1,4 @@
-// The peers of cvec_speed: containers in memory, stores and plain programs, which do the same works on the same sizes. Each
+// The peers of cvec: containers in memory, stores and plain programs, which do the same works on the same sizes. Each
 // figure is printed as a line of JSON. bench/run-peers builds and runs it.
 #include "basics.hpp"
 #include "containers.hpp"

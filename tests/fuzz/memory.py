@@ -202,8 +202,7 @@ def memory_tables(_folder):
 # ---- works
 
 # What the measurer does by several threads and on files: its words, and how many records a growth has.
-WORKS = [('durable dir=%s mode=flow threads=2 block=3 n=13 box_ms=1', 3),
-         ('durable dir=%s mode=wait1 threads=2 block=3 n=13 box_ms=1', 3), ('waits threads=2 phases=2 rounds=3', 1)]
+WORKS = [('open-build dir=%s block=3 n=12', 3), ('waits threads=2 phases=2 rounds=3', 1)]
 
 
 def works_in(written):

@@ -98,11 +98,18 @@ a_run_measures_own_figures_among_the_peers() (
     [ "$status" -eq 0 ]
     cmp "$work/figures" "$work/run/results.jsonl"
     printf '%s\n' "--dir=$work/run/scratch" "--ext=rust-std:$work/run/build/peers_rs" \
-        "--ext=own:$there/crates/cvec_speed/out/cvec_speed" "--ext=cpp:$work/run/build/native" \
+        "--ext=own:$work/run/build/own" \
         --work=grow,append,beside,read,memory,durable,open --work=grow,durable --threads=1,4 --reps=5 |
         cmp - "$work/run/build/peers.words"
-    [ -x "$work/run/build/native" ]
     grep -qx 'built cvec_threads' "$out"
+    cp "$work/measurer" "$there/crates/cvec_speed/out/cvec_speed"
+    for work_of in native:grow native:append native:durable cvec_speed:beside cvec_speed:read cvec_speed:memory \
+        cvec_speed:open-build cvec_speed:open-read; do
+        rm -f "$work/run/build"/*.words
+        "$work/run/build/own" "${work_of#*:}" block=16 >"$out"
+        [ "$(cd "$work/run/build" && echo *.words)" = "${work_of%:*}.words" ]
+        printf '%s\n' "${work_of#*:}" block=16 | cmp - "$work/run/build/${work_of%:*}.words"
+    done
     grep -qx seeming "$work/run/env.txt"
     [ ! -e "$work/run/scratch" ]
     if has python3 'tables of a run'; then

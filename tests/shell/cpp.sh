@@ -369,13 +369,13 @@ ranges_are_for_the_algorithms_of_onetbb() (
 
 # ---- the works of the bench
 
-# What bench/native.cc has grown it compares itself, before it writes a figure.
+# What bench/native.cc has grown it compares itself, before it writes a figure. A frame has 32 blocks of 4,096.
 the_bench_grows_by_threads_of_cpp() (
     has_cpp || exit $is_skipped
     make_cpp
     link_cpp -o "$work/native" "$top/bench/native.cc"
     for words in 'grow block=16' 'grow block=1' 'append block=64' 'durable mode=wait1 block=16' 'durable mode=wait64 block=1' \
-        'durable mode=flow block=16'; do
+        'durable mode=wait64 block=4096' 'durable mode=flow block=16'; do
         echo "work: $words"
         # shellcheck disable=SC2086 # each word is one
         "$work/native" $words threads=3 n=6000 box_ms=20 "dir=$work" >"$out"

@@ -10,80 +10,53 @@ measure() {
     timeout -k 1 "$seconds" "$@" <"$in" >"$out" 2>"$err" || status=$?
 }
 
-# Under this limit it does this work on a file by four threads, as the user that the words behind `--` name.
-work_under() {
+# Under this limit four threads wait 25 times each, as the user that the further words name.
+wait_under() {
     limit=$1
-    words=$2
-    shift 3
+    shift
     cp "$speed" "$work/cvec_speed"
-    rm -rf "$work/dir"
-    mkdir "$work/dir"
     chmod 755 "$work/cvec_speed"
-    chmod 777 "$work" "$work/dir"
-    # shellcheck disable=SC2086 # each word is one
-    measure 20 "$@" prlimit "$limit" "$work/cvec_speed" $words "dir=$work/dir" threads=4 block=16
-    echo "status $status under $limit: $words"
+    chmod 777 "$work"
+    measure 20 "$@" prlimit "$limit" "$work/cvec_speed" waits threads=4 phases=1 rounds=25
+    echo "status $status under $limit"
     cat "$err"
 }
 
-# Under this limit it appends to a file in this mode, as the user that the further words name.
-append_under() {
-    limit=$1
-    mode=$2
-    shift 2
-    work_under "$limit" "durable mode=$mode n=100000 box_ms=100" -- "$@"
-}
-
 gets_no_thread() {
-    append_under "$@"
+    wait_under "$@"
     [ "$status" -eq 1 ]
     [ ! -s "$out" ]
     [ "$(cat "$err")" = "cvec_speed: a thread can't be started" ]
 }
 
 who_gets_no_memory_for_a_thread_is_told() (
-    for mode in wait1 wait64 flow; do
-        gets_no_thread --as=40960000 $mode
-    done
+    gets_no_thread --as=40960000
 )
 
 # Of the superuser no process is refused.
 who_may_start_no_thread_is_told() (
-    for mode in wait1 wait64 flow; do
-        if [ "$(id -u)" -eq 0 ]; then
-            gets_no_thread --nproc=1 $mode setpriv --reuid=65534 --regid=65534 --clear-groups
-        else
-            gets_no_thread --nproc=1 $mode
-        fi
-    done
+    if [ "$(id -u)" -eq 0 ]; then
+        gets_no_thread --nproc=1 setpriv --reuid=65534 --regid=65534 --clear-groups
+    else
+        gets_no_thread --nproc=1
+    fi
 )
-
-# The file has as many records as were told.
-is_told_in_full() {
-    [ ! -s "$err" ]
-    n=$(sed 's/.*"n":\([0-9]*\),.*/\1/' "$out")
-    [ "$n" -gt 0 ]
-    run check u64 "$work/dir/vector.cvec"
-    [ "$(cut -d ' ' -f 1,6,7 "$out")" = "ok size $n" ]
-}
 
 # Some threads are started, or memory is refused to one of them. Under 30 MB there is no room for their stacks, and under
 # 4 GB there is for all.
 who_gets_little_memory_ends_too() (
-    for mode in wait1 flow; do
-        ends=
-        for millions in 30 50 55 60 65 70 75 80 90 100 4000; do
-            append_under --as=${millions}000000 $mode
-            ends=$ends$status
-            [ "$(wc -l <"$err")" -eq "$status" ]
-            case $status in
-                0) is_told_in_full ;;
-                1) [ ! -s "$out" ] ;;
-                *) return 1 ;;
-            esac
-        done
-        case $ends in 1*0) ;; *) return 1 ;; esac
+    ends=
+    for millions in 30 50 55 60 65 70 75 80 90 100 4000; do
+        wait_under --as=${millions}000000
+        ends=$ends$status
+        [ "$(wc -l <"$err")" -eq "$status" ]
+        case $status in
+            0) grep -qF '"n":100,' "$out" ;;
+            1) [ ! -s "$out" ] ;;
+            *) return 1 ;;
+        esac
     done
+    case $ends in 1*0) ;; *) return 1 ;; esac
 )
 
 # Under this limit it loads 10,000 growths into a new file, as the user that the further words name.
@@ -191,7 +164,6 @@ counts() {
 }
 
 works_in_memory_count_what_they_made() (
-    counts 992 grow threads=2 block=16 n=1000
     counts '1000 96 96 192 192 384 384 24' read block=16 n=1000 draws=100
     counts 992 memory block=16 n=1000
     counts 400 waits threads=1 phases=20 rounds=20
@@ -212,33 +184,8 @@ more_blocks_than_a_phase_has_room_for_are_no_work() (
     [ ! -s "$err" ]
 )
 
-works_on_a_file_count_what_they_wrote() (
-    counts '' open-build "dir=$work/dir" block=16 n=300001
-    counts 1600 durable "dir=$work/dir" mode=flow threads=2 block=16 n=101 box_ms=1
-)
-
-# The thread waits for the last of 64 blocks of 32 KiB, and a frame holds half of them.
-a_thread_waits_for_more_than_one_frame_holds() (
-    rm -rf "$work/dir"
-    mkdir "$work/dir"
-    measure 60 "$speed" durable "dir=$work/dir" mode=wait64 threads=1 block=4096 n=262144 box_ms=1
-    cat "$err" "$out"
-    [ "$status" -eq 0 ]
-    [ ! -s "$err" ]
-    n=$(sed 's/.*"n":\([0-9]*\),.*/\1/' "$out")
-    [ $((n % 262144)) -eq 0 ]
-    run check u64 "$work/dir/vector.cvec"
-    [ "$status" -eq 0 ]
-    read -r _ _ _ _ _ _ size _ frames _ <"$out"
-    [ "$size" -eq "$n" ]
-    [ "$frames" -gt $((n / 262144)) ]
-)
-
 a_file_that_was_built_is_opened() (
-    rm -rf "$work/dir"
-    mkdir "$work/dir"
-    measure 60 "$speed" open-build "dir=$work/dir" block=16 n=300001
-    [ "$status" -eq 0 ]
+    counts '' open-build "dir=$work/dir" block=16 n=300001
     measure 60 "$speed" open-read "dir=$work/dir" block=16 n=300001 work=open.warm
     cat "$err" "$out"
     [ "$status" -eq 0 ]

@@ -105,12 +105,6 @@ impl Barrier {
         *told = told.with(span);
     }
 
-    /// When the last of them came that are done.
-    pub fn came<E: Wait>(&self, rt: &E) -> Option<Instant> {
-        let told = *self.told.lock(rt);
-        told.span.map(|span| span.came)
-    }
-
     /// The time of all that are done. Refused as one of them was.
     pub fn time<E: Wait>(&self, rt: &E) -> Result<Duration, SpeedFault> {
         let told = *self.told.lock(rt);

@@ -9,7 +9,7 @@ use crate::figure::Figure;
 use crate::grower::{Over, ThreadSeat, put_blocks};
 use crate::mix::mixed;
 use crate::reading::Total;
-use crate::role::{ThreadRole, ThreadTask};
+use crate::role::ThreadTask;
 use crate::together::run_free;
 use std::alloc::Global;
 use std::sync::atomic::{AtomicBool, Ordering};
@@ -170,8 +170,8 @@ impl<'a> Course<'a> {
         figures: &mut Vec<Figure>,
     ) -> Result<(), SpeedFault> {
         let room = self.before.saturating_add(self.growths);
-        let role = ThreadRole::Keep(ThreadTask::Beside(self));
-        let total = run_free(rt, alloc, room, readers.saturating_add(1), role)?;
+        let task = ThreadTask::Beside(self);
+        let total = run_free(rt, alloc, room, readers.saturating_add(1), task)?;
         let time = self.barrier.time(rt)?;
         let done = *self.done.lock(rt);
         total.check(Total::of_copies(self.block, self.before.wrapping_add(done.growths)))?;

@@ -11,23 +11,6 @@ pub struct MemoryUse {
     pub highest: u64,
 }
 
-/// How long rounds took: a tenth of them, half of them, and 99 of 100 took at most so long.
-#[derive(Clone, Copy)]
-pub struct Waits {
-    pub p10: Duration,
-    pub p50: Duration,
-    pub p99: Duration,
-}
-
-/// What a figure says beside the time.
-#[derive(Clone, Copy)]
-pub enum Detail {
-    /// What memory its records took.
-    Memory(MemoryUse),
-    /// How long its rounds took.
-    Waits(Waits),
-}
-
 /// What was done in how much time.
 #[derive(Clone, Copy)]
 pub struct Figure {
@@ -38,7 +21,8 @@ pub struct Figure {
     /// How many records they made or read.
     pub n: u64,
     pub time: Duration,
-    pub detail: Option<Detail>,
+    /// What memory its records took, where it is about that.
+    pub memory: Option<MemoryUse>,
 }
 
 impl Figure {
@@ -49,7 +33,7 @@ impl Figure {
             threads,
             n,
             time,
-            detail: None,
+            memory: None,
         }
     }
 
@@ -72,39 +56,21 @@ impl fmt::Display for TenThousandths {
     }
 }
 
-/// Microseconds, to a tenth.
-#[derive(Clone, Copy)]
-struct Micros(Duration);
-
-impl fmt::Display for Micros {
-    fn fmt<W: fmt::Write>(&self, f: &mut fmt::Formatter<W>) -> fmt::Result {
-        let whole = self.0.as_micros();
-        let rest = self.0.subsec_nanos() / 100 % 10;
-        write!(f, "{whole}.{rest}")
-    }
-}
-
 /// What stands behind the seconds.
 #[derive(Clone, Copy)]
-struct DetailText(Option<Detail>);
+struct MemoryText(Option<MemoryUse>);
 
-impl fmt::Display for DetailText {
+impl fmt::Display for MemoryText {
     fn fmt<W: fmt::Write>(&self, f: &mut fmt::Formatter<W>) -> fmt::Result {
         match self.0 {
             None => Ok(()),
-            Some(Detail::Memory(memory)) => {
+            Some(memory) => {
                 let at_end = TenThousandths(memory.at_end);
                 let highest = TenThousandths(memory.highest);
                 write!(
                     f,
                     ",\"bytes_per_record\":{at_end},\"peak_bytes_per_record\":{highest}"
                 )
-            }
-            Some(Detail::Waits(waits)) => {
-                let p10 = Micros(waits.p10);
-                let p50 = Micros(waits.p50);
-                let p99 = Micros(waits.p99);
-                write!(f, ",\"p10_us\":{p10},\"p50_us\":{p50},\"p99_us\":{p99}")
             }
         }
     }
@@ -117,10 +83,10 @@ impl fmt::Display for Figure {
         let n = self.n;
         let seconds = self.time.as_secs();
         let nanos = self.time.subsec_nanos();
-        let detail = DetailText(self.detail);
+        let memory = MemoryText(self.memory);
         write!(
             f,
-            "{{\"work\":\"{work}\",\"threads\":{threads},\"n\":{n},\"seconds\":{seconds}.{nanos:09}{detail}}}"
+            "{{\"work\":\"{work}\",\"threads\":{threads},\"n\":{n},\"seconds\":{seconds}.{nanos:09}{memory}}}"
         )
     }
 }

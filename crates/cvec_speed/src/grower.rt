@@ -1,7 +1,5 @@
 //! What works do by one thread's seat.
 
-use crate::append::AppendSizes;
-use crate::barrier::{Barrier, Span};
 use crate::fault::SpeedFault;
 use crate::reading::Total;
 use book_core::{GrowFault, Receipt};
@@ -49,15 +47,6 @@ pub trait ThreadSeat {
         over: &O,
         block: &[u64],
     ) -> Result<u64, SpeedFault>;
-
-    /// Appends so many records by blocks of so many, once all threads are there.
-    fn append_all<E: Wait + Clock>(
-        self,
-        rt: &E,
-        alloc: Global,
-        records: AppendSizes,
-        barrier: &Barrier,
-    ) -> Result<Span, SpeedFault>;
 }
 
 /// What tells whether a work is over.

@@ -1,25 +1,20 @@
-//! `cvec_speed`: measures growth, reading and memory of a growth phase, and a vector's file. It is started as
+//! `cvec_speed`: measures reading and memory of a growth phase, and the opening of a vector's file. It is started as
 //! `cvec_speed WORK name=value ..` and writes one line of JSON for each figure.
 #![tactic(auto)]
 
 mod again;
 mod alone;
-mod append;
 mod barrier;
 mod beside;
 mod clock;
 mod commit;
-mod durable;
 mod fault;
 mod figure;
 mod group;
-mod grow;
 mod grower;
 mod memory;
 mod mix;
 mod phase;
-mod pool;
-mod producer;
 mod read;
 mod reading;
 mod role;
@@ -34,10 +29,8 @@ mod words;
 use crate::again::GROWTHS;
 use crate::alone::{Alone, play_alone};
 use crate::beside::beside;
-use crate::durable::durable;
 use crate::fault::SpeedFault;
 use crate::figure::Figure;
-use crate::grow::{append, grow};
 use crate::memory::MemorySizes;
 use crate::mix::mixed;
 use crate::read::ReadSizes;
@@ -54,14 +47,11 @@ use std::time::Clock;
 use std::{env, io};
 
 const USAGE: &str = "usage: cvec_speed WORK name=value ..
-grow threads= block= n=                      threads grow one vector
-append threads= block= n=                    threads grow one vector by records, each through an appender of a block
 beside threads= block= preload= n= cap_ms=   threads sum a vector while one more grows it
 read block= n= draws=                        one thread, and then 1, 2 and 4, read a vector
 memory block= n=                             what memory one thread's growths take
 open-build dir= block= n=                    a vector's file is made in a folder
 open-read dir= block= n= work=               it is opened; work is open.warm or open.cold
-durable dir= mode= threads= block= n= box_ms=   threads append to a file; mode is wait1, wait64 or flow
 waits threads= phases= rounds=               threads wait for each growth, in phase after phase, over a file in memory
 stress threads= phases= rounds=              as waits, with up to so many threads; phases end, are closed, or their disk stops
 again                                        each growth call is made, once more where memory is refused
@@ -126,14 +116,11 @@ fn take_figures<
 >(rt: &E, work: Work, figures: &mut Vec<Figure>) -> Result<(), SpeedFault> {
     let alloc = rt.alloc();
     match work {
-        Work::Grow(sizes) => grow(rt, alloc, sizes, figures),
-        Work::Append(sizes) => append(rt, alloc, sizes, figures),
         Work::Beside(sizes) => beside(rt, alloc, sizes, figures),
         Work::Read(sizes) => read_alone(rt, alloc, sizes, figures),
         Work::Memory(sizes) => fill_alone(rt, alloc, sizes, figures),
         Work::Build(sizes) => build(rt, alloc, sizes),
         Work::Open(sizes, work) => open(rt, alloc, sizes, work, figures),
-        Work::Durable(sizes) => durable(rt, alloc, sizes, figures),
         Work::Waits(sizes, phases) => waits(rt, alloc, sizes, phases, figures),
         Work::Again => play_alone(rt, alloc, GROWTHS, Alone::Again, figures),
     }

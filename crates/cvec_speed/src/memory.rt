@@ -4,7 +4,7 @@ ghost use Rattle.std.specs.Prelude.{◌<◌};
 
 use crate::clock::{now, since};
 use crate::fault::SpeedFault;
-use crate::figure::{Detail, Figure, MemoryUse};
+use crate::figure::{Figure, MemoryUse};
 use crate::grower::{ThreadSeat, put_copies};
 use std::alloc::{AllocGlobal, Global};
 use std::fs;
@@ -81,7 +81,7 @@ impl Filled {
             highest: per_record(self.after.highest_own.saturating_sub(before), self.records),
         };
         Figure {
-            detail: Some(Detail::Memory(memory)),
+            memory: Some(memory),
             ..Figure::new("memory", 1, self.records, self.time)
         }
     }

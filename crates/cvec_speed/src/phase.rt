@@ -5,8 +5,6 @@ ghost use Rattle.book_core.specs.Lists.{IsSeatOf};
 ghost use Rattle.book_core.specs.Snapshots.{ShowsSeat};
 ghost use Rattle.book_core.specs.Beginning.{AreNewSeats};
 
-use crate::append::{AppendSizes, append_all};
-use crate::barrier::{Barrier, Span};
 use crate::fault::SpeedFault;
 use crate::grower::{Over, ThreadSeat, WatchedPhase};
 use crate::reading::Total;
@@ -79,14 +77,6 @@ pub fn seat_one<'a>(live: &'a Live<u64>, seats: Vec<Seat<u64>>) -> Result<Seated
 }
 
 impl<'a> Seated<'a> {
-    /// The vector, and the seat.
-    pub fn into_parts(self) -> (&'a Live<u64>, Seat<u64>)
-        ensures { IsSeatOf result.0.now result.1 }
-    {
-        let Seated { live, seat, .. } = self;
-        (live, seat)
-    }
-
     /// All that it knows, to be read at random.
     pub fn snapshot(&mut self) -> Result<Snapshot<'a, u64>, SpeedFault>
         ensures { IfOk result (ShowsSeat self.new.live.now self.new.seat) }
@@ -212,16 +202,6 @@ impl ThreadSeat for Seated<'_> {
         block: &[u64],
     ) -> Result<u64, SpeedFault> {
         sum_shown(rt, self, over, block)
-    }
-
-    fn append_all<E: Wait + Clock>(
-        self,
-        rt: &E,
-        alloc: Global,
-        records: AppendSizes,
-        barrier: &Barrier,
-    ) -> Result<Span, SpeedFault> {
-        append_all(rt, alloc, self, records, barrier)
     }
 }
 

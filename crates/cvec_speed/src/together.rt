@@ -6,7 +6,7 @@ use crate::fault::SpeedFault;
 use crate::grower::{ThreadSeat, WatchedPhase};
 use crate::phase::{begin, seat_all};
 use crate::reading::Total;
-use crate::role::{Play, ThreadRole};
+use crate::role::{Play, ThreadTask};
 use crate::served::{Commits, Committer, ServedPhase};
 use book_core::{Live, Seat};
 use disk_core::Disk;
@@ -148,7 +148,7 @@ fn run_beside<E: Threads + Wait + Clock + Eprint + Sync, C: Commits + Send + Dro
     live: &Live<u64>,
     seats: Vec<Seat<u64>>,
     committer: C,
-    role: ThreadRole,
+    task: ThreadTask,
 ) -> RunEnd
     requires { AreNewSeats live.now.directory live.now.mark seats.items }
 {
@@ -164,7 +164,7 @@ fn run_beside<E: Threads + Wait + Clock + Eprint + Sync, C: Commits + Send + Dro
                     ended: Err(SpeedFault::Thread),
                 };
             };
-            let run = run_seats(rt, alloc, live, seats, role);
+            let run = run_seats(rt, alloc, live, seats, task);
             live.close(rt);
             RunEnd {
                 run,
@@ -179,7 +179,7 @@ pub fn run_all<E: Threads + Wait + Clock + Eprint + Sync, D: Disk + Send + Drop>
     rt: &E,
     alloc: Global,
     served: ServedPhase<D>,
-    role: ThreadRole,
+    task: ThreadTask,
 ) -> RunEnd {
     let ServedPhase {
         live,
@@ -190,5 +190,5 @@ pub fn run_all<E: Threads + Wait + Clock + Eprint + Sync, D: Disk + Send + Drop>
         live: &live,
         flusher,
     };
-    run_beside(rt, alloc, &live, seats, committer, role)
+    run_beside(rt, alloc, &live, seats, committer, task)
 }

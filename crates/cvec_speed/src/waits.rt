@@ -5,7 +5,7 @@ use crate::clock::{now, since};
 use crate::fault::SpeedFault;
 use crate::figure::Figure;
 use crate::mix::{below, mix};
-use crate::role::{ThreadRole, ThreadTask};
+use crate::role::ThreadTask;
 use crate::served::ServedPhase;
 use crate::together::{RunEnd, run_all};
 use crate::waiter::{Course, End};
@@ -90,8 +90,7 @@ fn run_phase<E: Threads + Wait + Clock + Eprint + Sync>(
     let disk = FuseDisk::new(RamDisk::new(alloc), course.end.calls(), Blow::Stop);
     let served = ServedPhase::begin(alloc, disk, room, threads)?;
     let watch = Watch::new();
-    let role = ThreadRole::Keep(ThreadTask::Wait(course, &watch));
-    let outcome = run_all(rt, alloc, served, role);
+    let outcome = run_all(rt, alloc, served, ThreadTask::Wait(course, &watch));
     judge(rt, &watch, outcome, course.end)
 }
 

@@ -3,8 +3,6 @@
 ghost use Rattle.std.specs.Prelude.{◌<◌, IfSome};
 
 use crate::beside::BesideSizes;
-use crate::durable::{DurableSizes, Mode};
-use crate::grow::GrowSizes;
 use crate::memory::MemorySizes;
 use crate::read::ReadSizes;
 use crate::store::StoreSizes;
@@ -14,9 +12,6 @@ use std::time::Duration;
 /// What is to be measured.
 #[derive(Clone, Copy)]
 pub enum Work<'a> {
-    Grow(GrowSizes),
-    /// Each thread through an appender.
-    Append(GrowSizes),
     Beside(BesideSizes),
     Read(ReadSizes),
     Memory(MemorySizes),
@@ -24,7 +19,6 @@ pub enum Work<'a> {
     Build(StoreSizes<'a>),
     /// It is opened: with the name of the figure.
     Open(StoreSizes<'a>, &'static str),
-    Durable(DurableSizes<'a>),
     Waits(WaitsSizes, Phases),
     /// Each growth call, once more where memory is refused: lines of its own, and no figure.
     Again,
@@ -79,17 +73,6 @@ fn length_of(words: &[String], name: &str) -> Option<u32>
 /// The milliseconds of that name.
 fn time_of(words: &[String], name: &str) -> Option<Duration> {
     size_of(words, name).map(Duration::from_millis)
-}
-
-fn grow_sizes(words: &[String]) -> Option<GrowSizes> {
-    match (
-        threads_of(words),
-        length_of(words, "block"),
-        size_of(words, "n"),
-    ) {
-        (Some(threads), Some(block), Some(n)) => Some(GrowSizes { threads, block, n }),
-        _ => None,
-    }
 }
 
 fn beside_work(words: &[String]) -> Option<Work<'_>> {
@@ -149,32 +132,6 @@ fn figure_name(words: &[String]) -> Option<&'static str> {
     }
 }
 
-fn mode_of(words: &[String]) -> Option<Mode> {
-    match text_of(words, "mode") {
-        Some("wait1") => Some(Mode::Wait1),
-        Some("wait64") => Some(Mode::Wait64),
-        Some("flow") => Some(Mode::Flow),
-        _ => None,
-    }
-}
-
-fn durable_work(words: &[String]) -> Option<Work<'_>> {
-    let grow = grow_sizes(words)?;
-    match (
-        text_of(words, "dir"),
-        mode_of(words),
-        time_of(words, "box_ms"),
-    ) {
-        (Some(dir), Some(mode), Some(most)) => Some(Work::Durable(DurableSizes {
-            dir,
-            mode,
-            grow,
-            most,
-        })),
-        _ => None,
-    }
-}
-
 fn waits_sizes(words: &[String]) -> Option<WaitsSizes> {
     match (
         threads_of(words),
@@ -193,28 +150,22 @@ fn waits_sizes(words: &[String]) -> Option<WaitsSizes> {
 /// What a work is called.
 #[derive(Clone, Copy)]
 enum Name {
-    Grow,
-    Append,
     Beside,
     Read,
     Memory,
     Build,
     Open,
-    Durable,
     Waits,
     Stress,
     Again,
 }
 
-const NAMES: [(&str, Name); 11] = [
-    ("grow", Name::Grow),
-    ("append", Name::Append),
+const NAMES: [(&str, Name); 8] = [
     ("beside", Name::Beside),
     ("read", Name::Read),
     ("memory", Name::Memory),
     ("open-build", Name::Build),
     ("open-read", Name::Open),
-    ("durable", Name::Durable),
     ("waits", Name::Waits),
     ("stress", Name::Stress),
     ("again", Name::Again),
@@ -233,14 +184,11 @@ impl Name {
     /// The work of that name, by its sizes.
     fn work(self, words: &[String]) -> Option<Work<'_>> {
         match self {
-            Name::Grow => Some(Work::Grow(grow_sizes(words)?)),
-            Name::Append => Some(Work::Append(grow_sizes(words)?)),
             Name::Beside => beside_work(words),
             Name::Read => read_work(words),
             Name::Memory => memory_work(words),
             Name::Build => Some(Work::Build(store_sizes(words)?)),
             Name::Open => Some(Work::Open(store_sizes(words)?, figure_name(words)?)),
-            Name::Durable => durable_work(words),
             Name::Waits => Some(Work::Waits(waits_sizes(words)?, Phases::Alike)),
             Name::Stress => Some(Work::Waits(waits_sizes(words)?, Phases::Mixed)),
             Name::Again => Some(Work::Again),
