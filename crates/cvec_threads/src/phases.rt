@@ -2,6 +2,7 @@
 
 ghost use Rattle.std.specs.Prelude.{◌≡◌, ◌≢◌, None, Some, IfOk, OnOk};
 ghost use Rattle.directory_core.specs.Limits.{growth_limit};
+ghost use Rattle.segment_core.specs.Shape.{version_of};
 ghost use Rattle.book_core.specs.Beginning.{MayBegin};
 ghost use Rattle.handle_core.specs.Roles.{RefusesSeat};
 ghost use Rattle.handle_core.specs.Handles.{end_of, Refused};
@@ -21,7 +22,7 @@ fn create<R: Record>(
     format: Format,
     seats: u16,
 ) -> Result<(Role<R>, Role<R>), Refusal>
-    ensures begins { IfOk result (λ r. BeginsEmpty bytes.now r.0 r.1) }
+    ensures begins { IfOk result (λ r. BeginsEmpty bytes.now (version_of format) seats r.0 r.1) }
     ensures may { OnOk result (MayBegin growth_limit seats) }
 {
     let Ok(copy) = Vec::from_slice(alloc, bytes) else {
@@ -35,7 +36,7 @@ fn create<R: Record>(
 
 /// Both ends of a vector over a file that holds these bytes, or why it isn't begun.
 fn open<R: Record>(alloc: Global, bytes: &[u8], seats: u16) -> Result<(Role<R>, Role<R>), Refusal>
-    ensures begins { IfOk result (λ r. BeginsOver bytes.now r.0 r.1) }
+    ensures begins { IfOk result (λ r. BeginsOver bytes.now seats r.0 r.1) }
     ensures may { OnOk result (MayBegin growth_limit seats) }
 {
     let Ok(copy) = Vec::from_slice(alloc, bytes) else {
@@ -55,7 +56,7 @@ fn create_as(
     format: Format,
     seats: u16,
 ) -> Result<(End, End), Refusal>
-    ensures begins { IfOk result (λ r. (width_of r.0 ≡ width) × AtAny (λ _ _ _. BeginsEmpty bytes.now) r.0 r.1) }
+    ensures begins { IfOk result (λ r. (width_of r.0 ≡ width) × AtAny (λ _ _ _. BeginsEmpty bytes.now (version_of format) seats) r.0 r.1) }
     ensures may { OnOk result (MayBegin growth_limit seats) }
 {
     match width {
@@ -81,7 +82,7 @@ fn create_as(
 
 /// The same over a file that holds these bytes.
 fn open_as(alloc: Global, bytes: &[u8], width: u16, seats: u16) -> Result<(End, End), Refusal>
-    ensures begins { IfOk result (λ r. (width_of r.0 ≡ width) × AtAny (λ _ _ _. BeginsOver bytes.now) r.0 r.1) }
+    ensures begins { IfOk result (λ r. (width_of r.0 ≡ width) × AtAny (λ _ _ _. BeginsOver bytes.now seats) r.0 r.1) }
     ensures may { OnOk result (MayBegin growth_limit seats) }
 {
     match width {
@@ -133,7 +134,7 @@ pub extern "C" fn cvec_phase_create(
     phase: &mut Handle,
     committer: &mut Handle,
 ) -> u32
-    ensures begins { result ≡ 0 → HasBegun width (AtAny (λ _ _ _. BeginsEmpty bytes.now)) (end_of phase.new) (end_of committer.new) }
+    ensures begins { result ≡ 0 → HasBegun width (AtAny (λ _ _ _. BeginsEmpty bytes.now version seats)) (end_of phase.new) (end_of committer.new) }
     ensures may { result ≡ 0 → MayBegin growth_limit seats }
     ensures refused { result ≢ 0 → IsLeft (end_of phase.old) (end_of phase.new) × IsLeft (end_of committer.old) (end_of committer.new) }
 {
@@ -159,7 +160,7 @@ pub extern "C" fn cvec_phase_open(
     phase: &mut Handle,
     committer: &mut Handle,
 ) -> u32
-    ensures begins { result ≡ 0 → HasBegun width (AtAny (λ _ _ _. BeginsOver bytes.now)) (end_of phase.new) (end_of committer.new) }
+    ensures begins { result ≡ 0 → HasBegun width (AtAny (λ _ _ _. BeginsOver bytes.now seats)) (end_of phase.new) (end_of committer.new) }
     ensures may { result ≡ 0 → MayBegin growth_limit seats }
     ensures refused { result ≢ 0 → IsLeft (end_of phase.old) (end_of phase.new) × IsLeft (end_of committer.old) (end_of committer.new) }
 {

@@ -1,5 +1,5 @@
 -- What a call makes of an end of a phase.
-use Rattle.std.specs.Prelude.{◌≡◌, ◌⊎◌, ℕ, ◌+◌, ◌≤◌, List, length, None}
+use Rattle.std.specs.Prelude.{◌≡◌, ◌⊎◌, ℕ, ◌+◌, ◌≤◌, List, [], ◌∷◌, ◌++◌, length, None}
 use Rattle.std.specs.Arc.{arc_value}
 use Rattle.std.specs.declared.cmp.PartialEq as PartialEq
 use Rattle.record_core.specs.declared.record.Record as Record
@@ -11,6 +11,7 @@ use Rattle.book_core.specs.declared.seat.Receipt.{Receipt}
 use Rattle.book_core.specs.declared.mark.MarkState.{MarkState}
 use Rattle.book_core.specs.Growing.{Grown, SeatLearns, SeatIsTold, IsCopiesRefusal, IsLookFault}
 use Rattle.book_core.specs.Beginning.{IsNewSeat}
+use Rattle.book_core.specs.Lists.{Seated}
 use Rattle.relay_core.specs.declared.call.Call.{Call}
 use Rattle.relay_core.specs.Listed.{LeadTo}
 use Rattle.phase_core.specs.Grower.{list_of, Copies}
@@ -18,6 +19,7 @@ use Rattle.phase_core.specs.Grower as growers
 use Rattle.phase_core.specs.Committing.{GoesOn, IsUnplanned}
 use Rattle.phase_core.specs.Committer.{calls_of}
 use Rattle.phase_core.specs.HostVault as vaults
+use Rattle.phase_core.specs.declared.phase.Phase.{Phase}
 use Rattle.flush_core.specs.declared.fault.FlushFault.{FlushFault}
 use Rattle.handle_core.specs.declared.refusal.Refusal.{Refusal}
 use Rattle.handle_core.specs.declared.refusal.Refusal.TheVariants.{Memory, Broken, NotSo}
@@ -125,15 +127,22 @@ module _ {R : Type 0} {record_of : Record.Ghosts R} {eq_of : PartialEq.Ghosts R}
 
   -- ---- a phase
 
-  -- the first is a new grower of the phase
+  -- that seat is no more among those that nobody has
+  abbrev pub GivesSeat : Seated R → Phase R record_of eq_of → Phase R record_of eq_of → Type 0
+  GivesSeat seat old new = (arc_value new.live ≡ arc_value old.live) × (old.seats.items ≡ new.seats.items ++ seat ∷ [])
+
+  -- the first is a new grower of the phase, which has one seat less
   abbrev pub Seats : Role R record_of eq_of → Role R record_of eq_of → Role R record_of eq_of → Type 0
   Seats (roles.Grower grower) (roles.Phase old) (roles.Phase new) =
-      (arc_value new.live ≡ arc_value old.live) × (growers.phase_of grower ≡ arc_value old.live)
+      GivesSeat grower.seat old new × (growers.phase_of grower ≡ arc_value old.live)
       × IsNewSeat (arc_value old.live).directory (arc_value old.live).mark (length new.seats.items) grower.seat
   Seats seat old new = ⊥
 
-  -- each seat is taken, or there is no memory; or it is another end, and is as it was
+  -- each seat is taken, or there is no memory, and no seat is given up, but where C's handle had no memory for its grower; or it
+  -- is another end, and is as it was
   abbrev pub RefusesSeat : Refusal → Role R record_of eq_of → Role R record_of eq_of → Type 0
-  RefusesSeat refusal (roles.Phase old) (roles.Phase new) = ((refusal ≡ NotSo) ⊎ (refusal ≡ Memory)) × (arc_value new.live ≡ arc_value old.live)
+  RefusesSeat refusal (roles.Phase old) (roles.Phase new) =
+      ((refusal ≡ NotSo) × (arc_value new.live ≡ arc_value old.live) × (new.seats.items ≡ old.seats.items))
+      ⊎ ((refusal ≡ Memory) × ((seat : Seated R) × GivesSeat seat old new))
   RefusesSeat refusal (roles.Phase old) new = ⊥
   RefusesSeat refusal old new = (refusal ≡ NotSo) × (new ≡ old)

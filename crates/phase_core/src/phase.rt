@@ -1,8 +1,9 @@
 //! A phase over a file whose calls a host makes.
 
-ghost use Rattle.std.specs.Prelude.{◌≡◌, [], length, IfOk, IfSome, OnOk};
+ghost use Rattle.std.specs.Prelude.{◌≡◌, [], ◌∷◌, ◌++◌, length, IfOk, IfSome, OnOk, MatchOption};
 ghost use Rattle.std.specs.Arc.{arc_value};
 ghost use Rattle.disk_core.specs.FileDisk.{KeepsSoFar};
+ghost use Rattle.segment_core.specs.Shape.{shape_of};
 ghost use Rattle.directory_core.specs.Limits.{growth_limit};
 ghost use Rattle.pen_core.specs.Births.{IsExisting};
 ghost use Rattle.pen_core.specs.Opening.{IsOpened};
@@ -51,6 +52,8 @@ impl<R: Record> Phase<R> {
         ensures none_existed { IfOk result (λ r. KeepsSoFar r.1.flusher.pen.disk.inner → IsExisting bytes.items → ⊥) }
         ensures one { IfOk result (λ r. arc_value r.1.live ≡ arc_value r.0.live) }
         ensures begins { IfOk result (λ r. (r.1.flusher.settled ≡ 0) × (r.1.flusher.pass.entries ≡ [])) }
+        ensures shape { IfOk result (λ r. r.1.flusher.pen.shape ≡ shape_of format R.form) }
+        ensures seats { IfOk result (λ r. length r.0.seats.items ≡ seats) }
         ensures may { OnOk result (MayBegin growth_limit seats) }
     {
         match Vault::create_as(alloc, host_disk(alloc, bytes), format) {
@@ -70,6 +73,7 @@ impl<R: Record> Phase<R> {
             → IsOpened R.form bytes.items r.1.flusher.pen (opening_of (arc_value r.0.live))) }
         ensures one { IfOk result (λ r. arc_value r.1.live ≡ arc_value r.0.live) }
         ensures begins { IfOk result (λ r. (r.1.flusher.settled ≡ 0) × (r.1.flusher.pass.entries ≡ [])) }
+        ensures seats { IfOk result (λ r. length r.0.seats.items ≡ seats) }
         ensures may { OnOk result (MayBegin growth_limit seats) }
     {
         match Vault::open(alloc, host_disk(alloc, bytes)) {
@@ -78,11 +82,14 @@ impl<R: Record> Phase<R> {
         }
     }
 
-    /// One more thread's end. `None` where each seat is taken, or there is no memory.
+    /// One more thread's end. `None` where each seat is taken, or there is no memory: the seats are as they were then.
     pub fn grower(&mut self) -> Option<Grower<R>>
         ensures phase { arc_value self.new.live ≡ arc_value self.old.live }
         ensures seat { IfSome result (λ grower. (arc_value grower.live ≡ arc_value self.old.live)
             × IsNewSeat (arc_value self.old.live).directory (arc_value self.old.live).mark (length self.new.seats.items) grower.seat) }
+        ensures seats { MatchOption result
+            (self.new.seats.items ≡ self.old.seats.items)
+            (λ grower. self.old.seats.items ≡ self.new.seats.items ++ grower.seat ∷ []) }
     {
         let live = self.live.clone().ok()?;
         let seat = live.take_seat(&mut self.seats)?;
