@@ -79,11 +79,11 @@ a_part_is_listed_without_the_other_records() (
 # Runs the program, which is built, in so little memory that the 80 MB of a file don't fit.
 run_in_little_memory() {
     status=0
-    (ulimit -v 70000 && "$top/crates/cvec/out/cvec" "$@") >"$out" 2>"$err" || status=$?
+    (ulimit -v 65536 && "$top/crates/cvec/out/cvec" "$@") <"$in" >"$out" 2>"$err" || status=$?
 }
 
 # A change lies over the end of what is read at once.
-a_long_file_is_checked_and_searched_in_little_memory() (
+a_long_file_is_used_in_little_memory() (
     t=$work/t.cv
     run create u64 "$t"
     seq 1 10000000 >"$in"
@@ -101,6 +101,15 @@ a_long_file_is_checked_and_searched_in_little_memory() (
     did '9999999\n'
     run_in_little_memory find u64 "$t" --record=65536
     did 'none\n'
+    run_in_little_memory list u64 "$t" --from=9999998 --count=3
+    did '9999999\n10000000\n'
+    run_in_little_memory set u64 "$t" 9999999 --records=5
+    did 'ok\n'
+    given '8\n'
+    run_in_little_memory append u64 "$t"
+    did 'appended 1 growths, size 10000001\n'
+    run_in_little_memory list u64 "$t" --from=9999998
+    did '9999999\n5\n8\n'
 )
 
 a_file_is_upgraded() (
@@ -256,14 +265,33 @@ a_copy_is_made_over_nothing() (
     printf '%b' '\0CVECSEG\01\010\0\0' >"$work/l.cv"
     run copy u64 "$work/t.cv" "$work/l.cv" --format=2
     was_refused 'new exists' "$work/l.cv"
-    run copy u64 "$work/t.cv" "$work/t.cv"
-    was_refused file "$work/t.cv: another command uses it"
+    ln "$work/t.cv" "$work/linked.cv"
+    for words in copy 'copy --wait' upgrade 'upgrade --wait'; do
+        # shellcheck disable=SC2086 # each word is one
+        status=0
+        timeout 20 "$top/cvec" ${words% *} u64 "$work/t.cv" "$work/linked.cv" ${words#${words% *}} <"$in" >"$out" 2>"$err" || status=$?
+        was_refused file "$work/linked.cv: it is FILE itself"
+    done
     run copy u32 "$work/t.cv" "$work/o.cv"
     was_refused 'old width 8' 'those of u32 have 4'
     run copy u64 "$work/none.cv" "$work/p.cv"
     was_refused file "$work/none.cv"
     [ ! -e "$work/p.cv" ]
     [ "$(cksum <"$work/t.cv")" = "$sum" ]
+)
+
+# Who may not read FILE may not read NEW either. The process's mask takes away more.
+a_copy_has_the_permissions_of_its_file() (
+    a_worked_file 1
+    for of in 600:022:600 640:022:640 666:022:644 644:077:600; do
+        chmod "${of%%:*}" "$work/t.cv"
+        mask=${of#*:}
+        for command in copy upgrade; do
+            rm -f "$work/n.cv"
+            (umask "${mask%:*}" && "$top/cvec" $command u64 "$work/t.cv" "$work/n.cv" >"$out")
+            [ "$(stat -c %a "$work/n.cv")" = "${of##*:}" ]
+        done
+    done
 )
 
 every_type_has_files() (

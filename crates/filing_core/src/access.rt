@@ -11,7 +11,7 @@ use disk_core::{FileDisk, SharedFile};
 use sentences::{Complaint, Role};
 use std::fs::{self, File, Metadata, OpenFile, OpenOptions, TryLockError};
 use std::io::ErrorKind;
-use std::os::unix::fs::{FileExt, MetadataExt};
+use std::os::unix::fs::{FileExt, MetadataExt, OpenOptionsExt, PermissionsExt};
 use std::rt::Files;
 use std::time::{Clock, Duration};
 use std::{io, thread};
@@ -32,10 +32,24 @@ pub enum Access {
     Reads,
     /// It writes, and is alone meanwhile.
     Writes,
-    /// It makes the file where there is none, writes, and is alone meanwhile.
-    Makes,
-    /// The same, and whatever stands in the file is taken away first.
+    /// It makes the file where there is none, with these permissions but for those that the process's mask takes away, writes,
+    /// and is alone meanwhile.
+    Makes { mode: u32 },
+    /// The same with ordinary permissions, and whatever stands in the file is taken away first.
     Empties,
+}
+
+/// The permissions of a new file: all may read and write it whom the process's mask lets.
+pub const ORDINARY: u32 = 0o666;
+
+impl Access {
+    /// The permissions of a file that it makes.
+    fn mode(self) -> u32 {
+        match self {
+            Access::Makes { mode } => mode,
+            Access::Reads | Access::Writes | Access::Empties => ORDINARY,
+        }
+    }
 }
 
 /// A file as a disk, with a lock that others of this program heed as long as this stands.
@@ -64,10 +78,11 @@ pub fn open_to_read<F: Files<File = File>>(files: &F, path: &str) -> io::Result<
 fn open_for<F: Files<File = File>>(files: &F, path: &str, access: Access) -> io::Result<File> {
     match access {
         Access::Reads => open_to_read(files, path),
-        Access::Writes | Access::Makes | Access::Empties => OpenOptions::new()
+        Access::Writes | Access::Makes { .. } | Access::Empties => OpenOptions::new()
             .read(true)
             .write(true)
             .create(!matches!(access, Access::Writes))
+            .mode(access.mode())
             .open(files, path),
     }
 }
@@ -117,6 +132,11 @@ fn known_of(file: &File) -> io::Result<Metadata> {
     Err(ErrorKind::Interrupted.into())
 }
 
+/// Whether this is what the system knows of one file.
+fn is_one(one: &Metadata, two: &Metadata) -> bool {
+    one.dev() == two.dev() && one.ino() == two.ino()
+}
+
 /// Whether the path leads to this file, which has to be a plain one.
 fn leads_to<F: Files<File = File>>(files: &F, path: &str, file: &File) -> io::Result<bool> {
     let opened = known_of(file)?;
@@ -124,7 +144,7 @@ fn leads_to<F: Files<File = File>>(files: &F, path: &str, file: &File) -> io::Re
         return Err(ErrorKind::Unsupported.into());
     }
     match fs::metadata(files, path) {
-        Ok(named) => Ok(named.dev() == opened.dev() && named.ino() == opened.ino()),
+        Ok(named) => Ok(is_one(&named, &opened)),
         Err(error) if error.kind() == ErrorKind::NotFound => Ok(false),
         Err(error) => Err(error),
     }
@@ -136,7 +156,7 @@ fn keep_name<F: Files<File = File> + AllocGlobal>(
     path: &str,
     access: Access,
 ) -> io::Result<()> {
-    if matches!(access, Access::Makes | Access::Empties) {
+    if matches!(access, Access::Makes { .. } | Access::Empties) {
         drop(FileDisk::<File>::make(files, path)?);
     }
     Ok(())
@@ -171,7 +191,7 @@ fn lock<F: Files<File = File> + AllocGlobal>(
     };
     let locked = match access {
         Access::Reads => file.try_lock_shared(),
-        Access::Writes | Access::Makes | Access::Empties => file.try_lock(),
+        Access::Writes | Access::Makes { .. } | Access::Empties => file.try_lock(),
     };
     match locked {
         Ok(()) => named(files, path, access, file),
@@ -181,7 +201,7 @@ fn lock<F: Files<File = File> + AllocGlobal>(
 }
 
 /// For how many seconds those are waited for that only read the file of that role, where a writer is for so many. What only
-/// reads a new file has nothing to read; and FILE, which this command itself shares, may be named as NEW.
+/// reads a new file has nothing to read.
 fn wait_for_readers(role: Role, seconds: u64) -> u64 {
     match role {
         Role::File => seconds.max(READERS_WAIT),
@@ -278,6 +298,40 @@ pub enum Readable {
     Locked(Opened),
     /// Beside the command that has it.
     Beside(SharedFile),
+}
+
+/// The permissions of the file at this path, or only its owner's, where the system doesn't tell them.
+fn mode_of<F: Files<File = File>>(files: &F, path: &str) -> u32 {
+    match fs::metadata(files, path) {
+        Ok(known) => known.permissions().mode() & ORDINARY,
+        Err(_) => 0o600,
+    }
+}
+
+/// Whether both paths lead to one file.
+fn lead_to_one<F: Files<File = File>>(files: &F, path: &str, other: &str) -> bool {
+    match (fs::metadata(files, path), fs::metadata(files, other)) {
+        (Ok(one), Ok(two)) => is_one(&one, &two),
+        _ => false,
+    }
+}
+
+/// Opens the file at this path that is to have a copy of FILE, at the other one, and makes it where there is none: with the
+/// permissions of FILE. Refused also where it is FILE itself, whose lock this command would wait for in vain.
+pub fn open_for_copy<F: Files<File = File> + Clock + AllocGlobal>(
+    files: &F,
+    path: &str,
+    of: &str,
+    seconds: u64,
+) -> Result<Opened, Complaint>
+    ensures opened { IfOk result (λ opened. IsJustOpened opened.disk) }
+    ensures shut { IfErr result (IsUnopened Role.New) }
+{
+    if lead_to_one(files, path, of) {
+        return Err(Complaint::NotOpened(Role::New, ErrorKind::AlreadyExists.into()));
+    }
+    let mode = mode_of(files, of);
+    open(files, path, Access::Makes { mode }, Role::New, seconds)
 }
 
 /// Opens the file at this path to be read: beside another command, where one writes it. Refused where it can't be opened.

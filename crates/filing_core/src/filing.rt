@@ -9,7 +9,7 @@ ghost use Rattle.filing_core.specs.Complaints.{IsComplaintOf, IsJustOpened, IsUn
 ghost use Rattle.filing_core.specs.Commands.{IsAppendRun, IsClearRun, IsCommandRun, IsCreateRun, IsFoldRun, IsLoadRun, IsResizeRun, IsServeRun, IsSetRun};
 ghost use Rattle.filing_core.specs.Shown.{IsCommandShown, IsInputShown, IsSetShown};
 
-use crate::access::{Access, Opened, open};
+use crate::access::{Access, ORDINARY, Opened, open};
 use crate::counting::CountingGate;
 use crate::ending::{status_of_append, status_of_serve, status_on};
 use crate::place::takeable;
@@ -73,7 +73,11 @@ impl<'a, F: Files<File = File> + Clock + AllocGlobal, P: Progress + Sync> Filing
     ) -> Result<Status, Complaint>
         ensures { IsCreateRun R.form (W.contents writer.old) (W.contents writer.new) result format over }
     {
-        let access = if over { Access::Empties } else { Access::Makes };
+        let access = if over {
+            Access::Empties
+        } else {
+            Access::Makes { mode: ORDINARY }
+        };
         let Opened { disk, lock: _lock } = self.open(access)?;
         let made = takeable::<R>(disk, format, over)?;
         let (disk, ended) = create::<R, FileDisk, W>(self.alloc, made, format, writer);

@@ -10,7 +10,7 @@ ghost use Rattle.filing_core.specs.Complaints.{Disk, IsJustOpened};
 ghost use Rattle.filing_core.specs.Commands.{HasMadeBeside, HasMadeNew, IsCopyRun, IsUpgradeRun, MayBeMadeOn};
 ghost use Rattle.filing_core.specs.Copying.{HasCopiedBeside, IsCopyBesideFault, IsUpgradedBeside, IsUpgradeBesideFault};
 
-use crate::access::{Access, Opened, Readable, open, open_beside};
+use crate::access::{Opened, Readable, open_beside, open_for_copy};
 use crate::beside::status_of_copy;
 use crate::copying::{copy_beside, upgrade_beside};
 use crate::ending::status_on;
@@ -93,7 +93,7 @@ impl<'a, F: Files<File = File> + Clock + AllocGlobal, P: Progress + Sync> Filing
         ensures { IsCopyRun R.form (W.contents writer.old) (W.contents writer.new) result format piece }
     {
         let readable = open_beside(self.files, self.file)?;
-        let Opened { disk, lock } = open(self.files, new, Access::Makes, Role::New, self.wait)?;
+        let Opened { disk, lock } = open_for_copy(self.files, new, self.file, self.wait)?;
         let disk = new_place::<R>(disk, format)?;
         let new = Opened { disk, lock };
         match readable {
@@ -152,7 +152,7 @@ impl<'a, F: Files<File = File> + Clock + AllocGlobal, P: Progress + Sync> Filing
         ensures { IsUpgradeRun R.form (W.contents writer.old) (W.contents writer.new) result }
     {
         let readable = open_beside(self.files, self.file)?;
-        let Opened { disk, lock } = open(self.files, new, Access::Makes, Role::New, self.wait)?;
+        let Opened { disk, lock } = open_for_copy(self.files, new, self.file, self.wait)?;
         let disk = new_place::<R>(disk, Some(Format::Two))?;
         let new = Opened { disk, lock };
         match readable {

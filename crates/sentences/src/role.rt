@@ -47,6 +47,7 @@ fn about_error(role: Role, error: &io::Error, only_reads: bool) -> &'static str 
         ErrorKind::PermissionDenied if only_reads => "you may not read it",
         ErrorKind::PermissionDenied => "you may not read and write it, or make it in its folder",
         ErrorKind::IsADirectory => "it is a folder, and not a file",
+        ErrorKind::AlreadyExists => "it is FILE itself",
         ErrorKind::Unsupported => "it is no plain file",
         _ => "it can't be opened or made",
     }
