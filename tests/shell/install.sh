@@ -26,7 +26,20 @@ the_installed_program_runs() (
     cd /
     echo 5 | env -i "$prefix/bin/cvec" image u64 >"$out"
     [ "$(cat "$out")" = "$five" ]
-    cmp "$program" "$prefix/bin/cvec"
+    cmp "$program" "$prefix/libexec/cvec/cvec"
+)
+
+# The greatest size of a file stands for a full disk. What is written past it is refused, and the file is as before.
+the_installed_program_outlives_a_full_disk() (
+    can_install || exit $is_skipped
+    installs_once
+    "$prefix/bin/cvec" create u64 "$work/t.cv" >"$out"
+    status=0
+    (ulimit -f 1 && seq 1 1000 | "$prefix/bin/cvec" append u64 "$work/t.cv") >"$out" 2>"$err" || status=$?
+    answers_refusal 'disk write'
+    tells "cvec: $work/t.cv: the system didn't write it: the device may be full"
+    "$prefix/bin/cvec" check u64 "$work/t.cv" >"$out"
+    grep -q '^ok .* size 0 ' "$out"
 )
 
 # The page of this name below a folder has all words of the help, in their order, and nothing that man complains about.
@@ -228,7 +241,7 @@ RUST
     sed -n 1p "$out" | grep -qx '286 records of 15 growths'
 )
 
-# The folder of the repository as cargo takes it: its examples are built, and the programs of its documents run.
+# The folder of the repository as cargo takes it: its examples are built, and the programs of its documents compile.
 cargo_tests_the_crates() (
     can_install && has cargo 'a crate of plain Rust' || exit $is_skipped
     installs_once
@@ -375,7 +388,7 @@ nothing_is_installed_where_not_all_can_be_made() (
 
 a_prefix_is_a_whole_path() (
     has make 'an install' || exit $is_skipped
-    for word in '' out '~/out' '/tmp/a"b' '/tmp/a\b'; do
+    for word in '' out '~/out' '/tmp/a"b' '/tmp/a\b' '/tmp/a`b'; do
         if make_there install "PREFIX=$word" "DESTDIR=$work/there" 2>"$err"; then exit 1; fi
         tells 'install: PREFIX '
     done
