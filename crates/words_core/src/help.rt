@@ -119,7 +119,7 @@ const SERVE: &[u8] = b"cvec serve TYPE FILE --seats=N
 Lets N other programs, of any language, grow the vector at once, 1 to 64. Client k, from 0, writes its requests to a pipe
 that this program has as descriptor 3 + 2k, and reads the answers from 4 + 2k: to grow by a block of records, to wait until
 what it grew is on the device, to look how many records there are, to read some. docs/use/serve.md has their bytes, and
-examples/c and examples/python have clients. It ends when all clients have.
+examples/c and bindings/python have clients. It ends when all clients have.
 
   $ mkfifo requests answers
   $ cvec serve u64 t.cv --seats=1 3<requests 4>answers & your_program 3>requests 4<answers
@@ -172,8 +172,8 @@ Refused: as load, but for too many lines.
 
 const CHECK: &[u8] = b"cvec check TYPE FILE [--quiet]
 
-Reads the whole file, and tells its version, the bytes of a record, how many records its vector has, how many frames it
-has, and how many changes are live, which `fold` puts into their home bytes.
+Tells the version of a sound file, the bytes of a record, how many records its vector has, how many frames it has, and how
+many changes are live, which `fold` puts into their home bytes.
 
   $ cvec check u64 t.cv
   ok version 1 width 8 size 3 frames 1 live 0
