@@ -29,7 +29,7 @@ refused_none P code before after is had has =
 
 -- a seat that is taken, and for which there is no memory then
 lost_of : {R : Type 0} {record_of : Record.Ghosts R} {eq_of : PartialEq.Ghosts R} (seat old new : Role R record_of eq_of) → Seats seat old new → RefusesSeat Memory old new
-lost_of (roles.Grower grower) (roles.Phase old) (roles.Phase new) seats = inr (refl, grower.seat, seats.0)
+lost_of (roles.Grower grower) (roles.Phase old) (roles.Phase new) seats = inr (refl, (grower.seat, seats.0))
 lost_of seat old new seats = absurd seats
 
 pub seat_lost : (seat old new : End) → AllAt (λ _ _ _. Seats) seat old new → AtAny (λ _ _ _. RefusesSeat Memory) old new
