@@ -59,18 +59,36 @@ pub struct Opened {
     pub lock: File,
 }
 
-/// Opens the file at this path to be read alone. What is no plain file is opened to be written too: so a folder is refused,
-/// and a pipe doesn't wait for who writes it; then it is refused as well.
-pub fn open_to_read<F: Files<File = File>>(files: &F, path: &str) -> io::Result<File> {
-    let is_plain = fs::metadata(files, path)?.is_file();
-    let file = OpenOptions::new()
-        .read(true)
-        .write(!is_plain)
-        .open(files, path)?;
-    if is_plain {
-        Ok(file)
+/// Whether a folder stands at this path. What is neither that nor a plain file is refused before it is opened: to open one may
+/// wait, or do more.
+fn is_folder<F: Files<File = File>>(files: &F, path: &str) -> io::Result<bool> {
+    let known = fs::metadata(files, path)?;
+    if known.is_file() || known.is_dir() {
+        Ok(known.is_dir())
     } else {
         Err(ErrorKind::Unsupported.into())
+    }
+}
+
+/// Opens the file at this path to be read alone. A folder is opened to be written too, and so refused.
+pub fn open_to_read<F: Files<File = File>>(files: &F, path: &str) -> io::Result<File> {
+    let is_folder = is_folder(files, path)?;
+    OpenOptions::new()
+        .read(true)
+        .write(is_folder)
+        .open(files, path)
+}
+
+/// Opens the file at this path to be written too, and makes it, where it may, if there is none.
+fn open_to_write<F: Files<File = File>>(files: &F, path: &str, access: Access) -> io::Result<File> {
+    match is_folder(files, path) {
+        Err(error) if error.kind() == ErrorKind::Unsupported => Err(error),
+        _ => OpenOptions::new()
+            .read(true)
+            .write(true)
+            .create(!matches!(access, Access::Writes))
+            .mode(access.mode())
+            .open(files, path),
     }
 }
 
@@ -78,12 +96,9 @@ pub fn open_to_read<F: Files<File = File>>(files: &F, path: &str) -> io::Result<
 fn open_for<F: Files<File = File>>(files: &F, path: &str, access: Access) -> io::Result<File> {
     match access {
         Access::Reads => open_to_read(files, path),
-        Access::Writes | Access::Makes { .. } | Access::Empties => OpenOptions::new()
-            .read(true)
-            .write(true)
-            .create(!matches!(access, Access::Writes))
-            .mode(access.mode())
-            .open(files, path),
+        Access::Writes | Access::Makes { .. } | Access::Empties => {
+            open_to_write(files, path, access)
+        }
     }
 }
 
@@ -122,7 +137,7 @@ fn holder_of(file: File) -> Unlocked {
 }
 
 /// What the system knows of an open file. Where the call is interrupted, it is made again.
-fn known_of(file: &File) -> io::Result<Metadata> {
+pub fn known_of(file: &File) -> io::Result<Metadata> {
     for _ in 0..u64::MAX {
         match file.metadata() {
             Err(error) if error.kind() == ErrorKind::Interrupted => {}
@@ -130,6 +145,14 @@ fn known_of(file: &File) -> io::Result<Metadata> {
         }
     }
     Err(ErrorKind::Interrupted.into())
+}
+
+/// How many bytes an open file has, or none where the system doesn't tell.
+pub fn length_of(file: &File) -> u64 {
+    match known_of(file) {
+        Ok(known) => known.len(),
+        Err(_) => 0,
+    }
 }
 
 /// Whether this is what the system knows of one file.
@@ -305,6 +328,16 @@ fn mode_of<F: Files<File = File>>(files: &F, path: &str) -> u32 {
     match fs::metadata(files, path) {
         Ok(known) => known.permissions().mode() & ORDINARY,
         Err(_) => 0o600,
+    }
+}
+
+/// Refused where FILE can't be opened to be read: before another file is made for it.
+pub fn check_readable<F: Files<File = File>>(files: &F, path: &str) -> Result<(), Complaint>
+    ensures { IfErr result (IsUnopened Role.File) }
+{
+    match open_to_read(files, path) {
+        Ok(_) => Ok(()),
+        Err(error) => Err(Complaint::NotOpened(Role::File, error)),
     }
 }
 

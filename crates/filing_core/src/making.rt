@@ -1,5 +1,5 @@
-//! `copy` and `upgrade`: the old file is read under a lock that others who read share, or beside the command that has it. That
-//! lock is let go before anything is written to the new one.
+//! `copy` and `upgrade`: the new file is locked, and then the old one read, under a lock that others who read share, or beside
+//! the command that has it. That lock is let go before anything is written to the new one.
 
 ghost use Rattle.std.specs.Prelude.{Some, false};
 ghost use Rattle.disk_core.specs.FileDisk.{KeepsSoFar, faults_of, states_of};
@@ -10,7 +10,7 @@ ghost use Rattle.filing_core.specs.Complaints.{Disk, IsJustOpened};
 ghost use Rattle.filing_core.specs.Commands.{HasMadeBeside, HasMadeNew, IsCopyRun, IsUpgradeRun, MayBeMadeOn};
 ghost use Rattle.filing_core.specs.Copying.{HasCopiedBeside, IsCopyBesideFault, IsUpgradedBeside, IsUpgradeBesideFault};
 
-use crate::access::{Opened, Readable, open_beside, open_for_copy};
+use crate::access::{Opened, Readable, check_readable, length_of, open_beside, open_for_copy};
 use crate::beside::status_of_copy;
 use crate::copying::{copy_beside, upgrade_beside};
 use crate::ending::status_on;
@@ -42,6 +42,7 @@ impl<'a, F: Files<File = File> + Clock + AllocGlobal, P: Progress + Sync> Filing
             (λ disk asked left left_new. HasCopied R.form KeepsSoFar states_of KeepsSoFar states_of faults_of disk asked left left_new format piece)
             (λ disk asked left left_new. IsCopyCommandFault R.form KeepsSoFar states_of KeepsSoFar states_of faults_of disk asked left left_new format piece) }
     {
+        let before = length_of(&new.lock);
         let Opened { disk, lock } = old;
         let new_disk = ReleasingDisk::new(new.disk, ReadLock::of(lock));
         let (old, _new, ended) = copy_file::<
@@ -57,7 +58,7 @@ impl<'a, F: Files<File = File> + Clock + AllocGlobal, P: Progress + Sync> Filing
             piece,
             writer,
         );
-        take_back(&new.lock, ended);
+        take_back(&new.lock, before, ended);
         status_on::<R>(self.alloc, old.into_disk(), ended)
     }
 
@@ -76,10 +77,11 @@ impl<'a, F: Files<File = File> + Clock + AllocGlobal, P: Progress + Sync> Filing
     {
         let mut file = file;
         let Opened { disk, lock } = new;
+        let before = length_of(&lock);
         let (_new, ended) = copy_beside::<R, SharedFile, FileDisk, W>(
             self.alloc, &mut file, disk, format, piece, writer,
         );
-        take_back_read(&lock, ended);
+        take_back_read(&lock, before, ended);
         status_of_copy(ended)
     }
 
@@ -92,11 +94,11 @@ impl<'a, F: Files<File = File> + Clock + AllocGlobal, P: Progress + Sync> Filing
     ) -> Result<Status, Complaint>
         ensures { IsCopyRun R.form (W.contents writer.old) (W.contents writer.new) result format piece }
     {
-        let readable = open_beside(self.files, self.file)?;
+        check_readable(self.files, self.file)?;
         let Opened { disk, lock } = open_for_copy(self.files, new, self.file, self.wait)?;
         let disk = new_place::<R>(disk, format)?;
         let new = Opened { disk, lock };
-        match readable {
+        match open_beside(self.files, self.file)? {
             Readable::Locked(old) => self.copy_locked::<R, W>(old, new, format, piece, writer),
             Readable::Beside(file) => self.copy_shared::<R, W>(file, new, format, piece, writer),
         }
@@ -112,6 +114,7 @@ impl<'a, F: Files<File = File> + Clock + AllocGlobal, P: Progress + Sync> Filing
             → HasMadeNew R.form (W.contents writer.old) (W.contents writer.new) result (Some Two)
             (IsUpgraded R.form KeepsSoFar states_of KeepsSoFar states_of faults_of) (IsUpgradeRefusal R.form KeepsSoFar states_of KeepsSoFar states_of faults_of) }
     {
+        let before = length_of(&new.lock);
         let Opened { disk, lock } = old;
         let old = self.watched(disk);
         let new_disk = ReleasingDisk::new(new.disk, ReadLock::of(lock));
@@ -121,7 +124,7 @@ impl<'a, F: Files<File = File> + Clock + AllocGlobal, P: Progress + Sync> Filing
             ReleasingDisk<FileDisk>,
             W,
         >(self.alloc, old, new_disk, writer);
-        take_back(&new.lock, ended);
+        take_back(&new.lock, before, ended);
         status_on::<R>(self.alloc, old.into_disk(), ended)
     }
 
@@ -137,10 +140,11 @@ impl<'a, F: Files<File = File> + Clock + AllocGlobal, P: Progress + Sync> Filing
     {
         let mut file = file;
         let Opened { disk, lock } = new;
+        let before = length_of(&lock);
         let (_new, ended) = upgrade_beside::<R, SharedFile, FileDisk, W>(
             self.alloc, &mut file, disk, writer,
         );
-        take_back_read(&lock, ended);
+        take_back_read(&lock, before, ended);
         status_of_copy(ended)
     }
 
@@ -151,11 +155,11 @@ impl<'a, F: Files<File = File> + Clock + AllocGlobal, P: Progress + Sync> Filing
     ) -> Result<Status, Complaint>
         ensures { IsUpgradeRun R.form (W.contents writer.old) (W.contents writer.new) result }
     {
-        let readable = open_beside(self.files, self.file)?;
+        check_readable(self.files, self.file)?;
         let Opened { disk, lock } = open_for_copy(self.files, new, self.file, self.wait)?;
         let disk = new_place::<R>(disk, Some(Format::Two))?;
         let new = Opened { disk, lock };
-        match readable {
+        match open_beside(self.files, self.file)? {
             Readable::Locked(old) => self.upgrade_locked::<R, W>(old, new, writer),
             Readable::Beside(file) => self.upgrade_shared::<R, W>(file, new, writer),
         }

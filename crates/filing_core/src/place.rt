@@ -59,22 +59,22 @@ pub fn new_place<R: TextRecord>(
     }
 }
 
-/// Takes away what a copy that was refused has written of its new file: that would look like a vector. Where the system
-/// doesn't, it stays, and the next one refuses to write over it. An empty vector that stood there is left as it is.
-pub fn take_back(file: &File, ended: Ended) {
+/// Takes away what a copy that was refused has written of its new file behind so many bytes, which stood there before: that would
+/// look like a vector. Where the system doesn't, it stays, and the next one refuses to write over it.
+pub fn take_back(file: &File, before: u64, ended: Ended) {
     match ended {
         Ended::Refused(FileFault::Upgrade(UpgradeFault::New(VaultFault::Pen(PenFault::Exists)))) =>
             {}
         Ended::Refused(FileFault::Upgrade(UpgradeFault::New(_))) => {
-            let _ = file.set_len(0);
+            let _ = file.set_len(before);
         }
         _ => {}
     }
 }
 
 /// The same of a copy whose old file was read beside its writer: where that was refused nothing is written.
-pub fn take_back_read(file: &File, ended: Result<Ended, LookFault>) {
+pub fn take_back_read(file: &File, before: u64, ended: Result<Ended, LookFault>) {
     if let Ok(ended) = ended {
-        take_back(file, ended);
+        take_back(file, before, ended);
     }
 }

@@ -4,7 +4,7 @@ ghost use Rattle.std.specs.Prelude.{◌≡◌, ◌⊎◌, IfErr, IfOk};
 ghost use Rattle.filing_core.specs.Beside.{IsJustShared};
 ghost use Rattle.filing_core.specs.Complaints.{IsUnopened};
 
-use crate::access::{open_to_read, shared};
+use crate::access::{known_of, open_to_read, shared};
 use disk_core::SharedFile;
 use follow_core::{Pause, Rest};
 use sentences::{BesideFault, Complaint, Role};
@@ -58,7 +58,7 @@ pub struct Polling<'a, F> {
 /// Opens the file at this path to be read, and asks for what the system knows of it.
 fn open_known<F: Files<File = File>>(files: &F, path: &str) -> io::Result<(File, Metadata)> {
     let file = open_to_read(files, path)?;
-    let metadata = file.metadata()?;
+    let metadata = known_of(&file)?;
     Ok((file, metadata))
 }
 

@@ -30,7 +30,8 @@ fn name_of(alloc: Global, descriptor: u32) -> Result<String, Complaint>
     }
 }
 
-/// Opens a pipe to read, or to write.
+/// Opens a pipe to read, or to write. A named one whose other end is closed already would wait for another end: it has one
+/// meanwhile, which is let go then.
 fn pipe<F: Files<File = File>>(
     alloc: Global,
     files: &F,
@@ -40,10 +41,15 @@ fn pipe<F: Files<File = File>>(
     ensures { IfErr result IsUnserved }
 {
     let name = name_of(alloc, descriptor)?;
+    let other = OpenOptions::new()
+        .read(true)
+        .write(true)
+        .open(files, name.as_str());
     let opened = OpenOptions::new()
         .read(!writes)
         .write(writes)
         .open(files, name.as_str());
+    drop(other);
     match opened {
         Ok(file) => Ok(file),
         Err(error) => Err(Complaint::NotOpened(Role::Pipe, error)),

@@ -48,7 +48,7 @@ fn about_error(role: Role, error: &io::Error, only_reads: bool) -> &'static str 
         ErrorKind::PermissionDenied => "you may not read and write it, or make it in its folder",
         ErrorKind::IsADirectory => "it is a folder, and not a file",
         ErrorKind::AlreadyExists => "it is FILE itself",
-        ErrorKind::Unsupported => "it is no plain file",
+        ErrorKind::Unsupported if error.raw_os_error().is_none() => "it is no plain file",
         _ => "it can't be opened or made",
     }
 }

@@ -19,6 +19,8 @@ struct Strict {
     bytes: Cursor<Vec<u8>>,
     /// The last read gave all that it asked for, so more is at hand.
     has_more: bool,
+    /// Why the input gave no more, where it gave bytes before that: the next read is refused so.
+    failed: Option<io::Error>,
 }
 
 impl Strict {
@@ -31,11 +33,15 @@ impl Strict {
             held: NOTHING_HELD,
             bytes: Cursor::new(Vec::new(alloc)),
             has_more: true,
+            failed: None,
         })
     }
 
     /// Reads a piece, where the bytes at hand have all been given. Whether it has a byte.
     fn read_piece<I: Read>(&mut self, input: &mut I) -> io::Result<bool> {
+        if let Some(error) = self.failed.take() {
+            return Err(error);
+        }
         let n = input.read(self.piece.as_mut_slice())?;
         let mut bytes = Vec::with_capacity(self.alloc, PIECE_LEN)?;
         self.held.append_strict(&self.piece[..n], &mut bytes)?;
@@ -60,8 +66,12 @@ impl Strict {
             }
             match self.read_piece(input) {
                 Ok(true) => {}
+                Ok(false) => return Ok(filled),
                 Err(error) if filled == 0 => return Err(error),
-                _ => return Ok(filled),
+                Err(error) => {
+                    self.failed = Some(error);
+                    return Ok(filled);
+                }
             }
         }
         Ok(filled)

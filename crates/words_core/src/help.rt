@@ -119,14 +119,14 @@ const SERVE: &[u8] = b"cvec serve TYPE FILE --seats=N
 Lets N other programs, of any language, grow the vector at once, 1 to 64. Client k, from 0, writes its requests to a pipe
 that this program has as descriptor 3 + 2k, and reads the answers from 4 + 2k: to grow by a block of records, to wait until
 what it grew is on the device, to look how many records there are, to read some. docs/use/serve.md has their bytes, and
-examples/c and bindings/python have clients. It ends when all clients have.
+examples/c and bindings/python have clients. It ends when all clients have; a signal ends it as a crash does.
 
   $ mkfifo requests answers
   $ cvec serve u64 t.cv --seats=1 3<requests 4>answers & your_program 3>requests 4<answers
   served 1000 growths
 
 Refused: the file's first fault (unborn, not a segment, version V, width W, damaged at P: CAUSE), file (also where a pipe
-isn't there), memory, and the disk's faults.
+isn't there), broken and unsettled N (growths from N on may be lost), memory, and the disk's faults.
 ";
 
 const CREATE: &[u8] = b"cvec create TYPE FILE [--format=1|2] [--over]
@@ -178,8 +178,8 @@ many changes are live, which `fold` puts into their home bytes.
   $ cvec check u64 t.cv
   ok version 1 width 8 size 3 frames 1 live 0
 
-Refused: the file's first fault (unborn, not a segment, version V, width W, damaged at P: CAUSE), file, memory, and the
-disk's faults.
+Refused: the file's first fault (unborn, not a segment, version V, width W, damaged at P: CAUSE), file, bad record I
+(beside a writer), memory, and the disk's faults.
 ";
 
 const LIST: &[u8] = b"cvec list TYPE FILE [--from=I] [--count=N] [--quiet]
@@ -189,7 +189,7 @@ Writes the records one a line: all, or those from position I on, N at most.
   $ cvec list u64 t.cv --from=1 --count=1
   6
 
-Refused: word, file, the file's first fault, memory, and the disk's faults.
+Refused: word, file, the file's first fault, bad record I (beside a writer), memory, and the disk's faults.
 ";
 
 const FOLLOW: &[u8] = b"cvec follow TYPE FILE [--from=I] [--once] [--poll=MS] [--quiet]
@@ -224,7 +224,7 @@ Writes how many records equal R.
   $ cvec count u64 t.cv --record=6
   1
 
-Refused: word, file, the file's first fault, memory, and the disk's faults.
+Refused: word, file, the file's first fault, bad record I (beside a writer), memory, and the disk's faults.
 ";
 
 const FIND: &[u8] = b"cvec find TYPE FILE --record=R [--quiet]
@@ -234,7 +234,7 @@ Writes the least position whose record equals R, or none.
   $ cvec find u64 t.cv --record=4
   none
 
-Refused: word, file, the file's first fault, memory, and the disk's faults.
+Refused: word, file, the file's first fault, bad record I (beside a writer), memory, and the disk's faults.
 ";
 
 const SET: &[u8] = b"cvec set TYPE FILE START --records=R,R,..
