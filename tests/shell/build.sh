@@ -100,11 +100,12 @@ a_newer_contract_or_proof_is_built_again() (
     answers 0 'made with word\n'
 )
 
-# Two builds at once: the second waits for the first, and has nothing left to do but to run the program.
+# Two builds at once: the second waits for the first, and has nothing left to do but to run the program. As by git, another file
+# is put in the place of crates.txt meanwhile.
 one_build_works_in_a_repository_at_a_time() (
     seeming_repository
     of_three_crates
-    sed -i "1a echo begin >>'$there/calls'; sleep 0.5; trap 'echo end >>\"$there/calls\"' EXIT" "$there/bin/rt"
+    sed -i "1a cp -p '$there/crates.txt' '$there/new' && mv '$there/new' '$there/crates.txt'; echo begin >>'$there/calls'; sleep 0.5; trap 'echo end >>\"$there/calls\"' EXIT" "$there/bin/rt"
     export PATH="$there/bin:/usr/bin:/bin"
     "$there/build" cvec 2>"$work/first" &
     first=$!

@@ -204,6 +204,14 @@ an_input_that_fails_grows_nothing_by_load() (
     reads_once load u64 "$work/t.cv"
     was_refused input "cvec: standard input couldn't be read; no file was opened, and nothing was grown"
     [ "$(cksum <"$work/t.cv")" = "$sum" ]
+    seq 1 100000 | sed 's/$/\r/' >"$in"
+    for words in 'load u64 FILE' 'set u64 FILE 0 --input'; do
+        # shellcheck disable=SC2046 # each word is one
+        reads_once $(echo "$words --lenient" | sed "s|FILE|$work/t.cv|")
+        was_refused input "cvec: standard input couldn't be read; no file was opened, and nothing was "
+        [ "$(cksum <"$work/t.cv")" = "$sum" ]
+    done
+    seq 1 100000 >"$in"
     for words in 'image u64' 'show u64' 'play u64'; do
         # shellcheck disable=SC2086 # each word is one
         reads_once $words

@@ -258,6 +258,28 @@ a_command_that_has_waited_is_refused() (
     did '5\n7\n'
 )
 
+# While a copy only waits for NEW, nobody is kept from FILE, and two that wait for one another's come to their end.
+a_copy_that_waits_has_nothing_locked() (
+    has_locks_listed || exit $is_skipped
+    two_files
+    t=$work/t.cv
+    n=$work/n.cv
+    : >"$n"
+    for command in copy upgrade; do
+        run create u64 "$n" --over
+        is_taken_by_an_append "$n"
+        timeout 60 "$program" $command u64 "$t" "$n" --wait=20 >"$work/copied" 2>&1 8>&- &
+        copying=$!
+        sleep 0.5
+        at_once set u64 "$t" 0 --records=5
+        did 'ok\n'
+        exec 8>&-
+        wait "$first"
+        wait "$copying" || :
+        grep -qx 'refused: new exists' "$work/copied"
+    done
+)
+
 # What another file has by now that name is what a command finds that has waited.
 a_file_that_was_put_in_its_place_is_found() (
     has_locks_listed || exit $is_skipped
@@ -306,8 +328,11 @@ a_file_that_replaces_a_locked_one_is_locked() (
 )
 
 # What is no plain file is neither read nor written: a device's length is told as 0, so it would be taken for an empty file.
+# It isn't opened either: who waits to write to a pipe goes on waiting.
 what_is_no_plain_file_is_refused() (
     mkfifo "$work/fifo"
+    echo 5 >"$work/fifo" &
+    writer=$!
     for file in "$work/fifo" /dev/null; do
         for words in 'create u64' 'create u64 --over' 'append u64' 'check u64' 'list u64' 'stat' 'follow u64 --once' 'fold u64'; do
             # shellcheck disable=SC2086 # each word is one
@@ -315,6 +340,7 @@ what_is_no_plain_file_is_refused() (
             was_refused file 'it is no plain file'
         done
     done
+    kill $writer
     two_files
     run copy u64 "$work/t.cv" /dev/null
     was_refused file 'it is no plain file'

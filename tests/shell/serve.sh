@@ -56,6 +56,26 @@ a_server_answers_what_is_asked() (
     did '5\n6\n'
 )
 
+# The client has gone, or reads no answer, before the server opens its own ends of the named pipes.
+a_server_whose_client_has_gone_before_ends() (
+    run create u64 "$work/t.cv"
+    mkfifo "$work/requests" "$work/answers"
+    for answers in "$work/answers" /dev/null; do
+        echo "answers to $answers"
+        cat "$work/answers" >/dev/null &
+        reader=$!
+        (exec 3<"$work/requests" 4>"$answers" && sleep 0.5 && exec timeout 20 "$program" serve u64 "$work/t.cv" --seats=1) \
+            >"$out" 2>"$err" &
+        server=$!
+        printf '\1\0\0\0\1\0\0\0\0\0\0\0\0\0\0\0\5\0\0\0\0\0\0\0' >"$work/requests"
+        kill $reader 2>/dev/null || :
+        wait $server
+        [ "$(cat "$out")" = 'served 1 growths' ]
+    done
+    run list u64 "$work/t.cv"
+    did '5\n5\n'
+)
+
 # A client goes away behind 5,000 looks, whose answers are more than a pipe holds: its seat ends, and the server with it.
 a_client_that_reads_no_answer_holds_no_server() (
     run create u64 "$work/t.cv"

@@ -139,3 +139,11 @@ MAIN
     rt try >"$out" 2>"$err"
     [ "$(cat "$out")" = 16 ]
 )
+
+a_relative_folder_is_the_caller_s() (
+    seeming_repositories
+    cd "$work"
+    vendor one there high
+    answers 0 'brought low middle high at one\n'
+    has_crates 'app high low middle' 'low: thiserror' 'middle staticlib: low clap' 'high: low middle'
+)
