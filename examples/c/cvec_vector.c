@@ -45,7 +45,11 @@ struct cvec_vector_seat {
     uint64_t begun; /* by __atomic: so many growths of this seat there are, or are coming */
     size_t room;    /* so many bytes are left of the memory that was asked for at once */
     cvec_vector_seat *next; /* of those that aren't closed: with the vector's mutex */
-    bool busy;              /* by __atomic */
+    uint8_t *pushed; /* room for a block of records, or NULL: none was pushed since it was given back */
+    size_t waiting;  /* so many of them were pushed and aren't grown: fewer than a block */
+    size_t block;    /* so many are grown at once */
+    cvec_receipt last; /* of the last growth by what was pushed; one of no records: there is none */
+    bool busy;         /* by __atomic */
 };
 
 /* What is lent in place of no records. */
@@ -65,6 +69,10 @@ enum { ROOM = 120 * 1024, BESIDE_RECORDS = 96, SMALL_GROWTH = 512, LARGE_GROWTH 
 /* For how many nanoseconds who commits waits at most for those that the last commit woke, and from how many bytes on, which that
  * one wrote, it doesn't: large groups take longer to be written than to be synced. */
 enum { LONGEST_GATHERING = 100000, LARGE_GROUP = 256 * 1024 };
+
+/* So many records that were pushed are grown at once, where no other number was asked for; and what a growth may have, in
+ * bytes. */
+enum { PUSHED_AT_ONCE = 1024, LARGEST_GROWTH = (1 << 20) - 8 };
 
 /* How often a lock is tried while readers share it: for 10 seconds, each 20 milliseconds. */
 enum { LOCK_TURNS = 500, LOCK_WAIT = 20000000 };
@@ -727,6 +735,7 @@ static cvec_vector_seat *new_seat(cvec_vector *vector) {
     cvec_vector_seat *seat = made;
     memset(seat, 0, sizeof *seat);
     seat->vector = vector;
+    seat->block = PUSHED_AT_ONCE;
     return seat;
 }
 
@@ -769,18 +778,6 @@ static uint32_t enter(cvec_vector_seat *seat) {
 }
 
 static void leave_seat(cvec_vector_seat *seat) { __atomic_store_n(&seat->busy, false, __ATOMIC_RELEASE); }
-
-uint32_t cvec_vector_close_seat(cvec_vector_seat *seat) {
-    uint32_t answer = enter(seat);
-    if (answer != CVEC_DONE) return answer;
-    cvec_vector *vector = seat->vector;
-    cvec_phase_close(&seat->grower);
-    pthread_mutex_lock(&vector->mutex);
-    drop_seat(vector, seat);
-    pthread_mutex_unlock(&vector->mutex);
-    free(seat);
-    return CVEC_DONE;
-}
 
 /* For who has the seat: it alone counts. */
 static void count_begun(cvec_vector_seat *seat, uint64_t count) { __atomic_store_n(&seat->begun, count, __ATOMIC_RELAXED); }
@@ -849,23 +846,112 @@ static uint32_t grow_in_turn(cvec_vector_seat *seat, const void *records, size_t
     }
 }
 
+/* For who has the seat: all of the records are grown, or none. */
+static uint32_t grow_block(cvec_vector_seat *seat, const void *records, size_t count, cvec_receipt *receipt) {
+    uint32_t answer = begin_growth(seat);
+    if (answer != CVEC_DONE) return answer;
+    make_room(seat, count);
+    answer = grow_in_turn(seat, count > 0 ? records : no_records, count, receipt);
+    if (answer != CVEC_DONE) take_back(seat, answer);
+    return answer;
+}
+
 uint32_t cvec_vector_grow_records(cvec_vector_seat *seat, const void *records, size_t count, cvec_receipt *receipt) {
     cvec_receipt unasked;
     if (!are_records(seat->vector->type, records, count)) return CVEC_NO_RECORD;
     uint32_t answer = enter(seat);
     if (answer != CVEC_DONE) return answer;
-    answer = begin_growth(seat);
-    if (answer == CVEC_DONE) {
-        make_room(seat, count);
-        answer = grow_in_turn(seat, count > 0 ? records : no_records, count, receipt ? receipt : &unasked);
-        if (answer != CVEC_DONE) take_back(seat, answer);
-    }
+    answer = grow_block(seat, records, count, receipt ? receipt : &unasked);
     leave_seat(seat);
     return answer;
 }
 
 uint32_t cvec_vector_grow(cvec_vector_seat *seat, const uint64_t *records, size_t count, cvec_receipt *receipt) {
     return has_words(seat->vector) ? cvec_vector_grow_records(seat, records, count, receipt) : CVEC_WIDTH;
+}
+
+/* ---- records that were pushed: who calls has the seat */
+
+/* Grows by the first so many of the buffer, which are all that it has. Where that is refused, what waits is as it was. */
+static uint32_t grow_front(cvec_vector_seat *seat, size_t count) {
+    uint32_t answer = grow_block(seat, seat->pushed, count, &seat->last);
+    if (answer == CVEC_DONE) seat->waiting = 0;
+    return answer;
+}
+
+static uint32_t grow_waiting(cvec_vector_seat *seat) {
+    return seat->waiting > 0 ? grow_front(seat, seat->waiting) : CVEC_DONE;
+}
+
+/* The record that fills a block is none that waits: where its growth is refused, a caller that pushes it again would have it
+ * twice. */
+static uint32_t put_behind(cvec_vector_seat *seat, const void *record) {
+    const size_t each = size_of(seat->vector->type);
+    if (seat->pushed == NULL) seat->pushed = malloc(seat->block * each);
+    if (seat->pushed == NULL) return CVEC_MEMORY;
+    memcpy(seat->pushed + seat->waiting * each, record, each);
+    if (seat->waiting + 1 == seat->block) return grow_front(seat, seat->block);
+    seat->waiting++;
+    return CVEC_DONE;
+}
+
+uint32_t cvec_vector_push(cvec_vector_seat *seat, const void *record) {
+    if (!are_records(seat->vector->type, record, 1)) return CVEC_NO_RECORD;
+    uint32_t answer = enter(seat);
+    if (answer != CVEC_DONE) return answer;
+    answer = put_behind(seat, record);
+    leave_seat(seat);
+    return answer;
+}
+
+/* A block that no growth can have is refused here: else each push that fills one would be. */
+uint32_t cvec_vector_push_block(cvec_vector_seat *seat, size_t records) {
+    if (records == 0) return CVEC_EMPTY;
+    if (records > (size_t)LARGEST_GROWTH / width_of(seat->vector->type)) return CVEC_TOO_LARGE;
+    uint32_t answer = enter(seat);
+    if (answer != CVEC_DONE) return answer;
+    answer = grow_waiting(seat);
+    if (answer == CVEC_DONE) {
+        free(seat->pushed);
+        seat->pushed = NULL;
+        seat->block = records;
+    }
+    leave_seat(seat);
+    return answer;
+}
+
+uint32_t cvec_vector_grow_pushed(cvec_vector_seat *seat, cvec_receipt *receipt) {
+    uint32_t answer = enter(seat);
+    if (answer != CVEC_DONE) return answer;
+    answer = grow_waiting(seat);
+    if (answer == CVEC_DONE && seat->last.len == 0) answer = CVEC_EMPTY;
+    if (answer == CVEC_DONE && receipt != NULL) *receipt = seat->last;
+    leave_seat(seat);
+    return answer;
+}
+
+uint32_t cvec_vector_pushed(cvec_vector_seat *seat, const void **records, size_t *count) {
+    uint32_t answer = enter(seat);
+    if (answer != CVEC_DONE) return answer;
+    *records = seat->waiting > 0 ? (const void *)seat->pushed : no_records;
+    *count = seat->waiting;
+    leave_seat(seat);
+    return answer;
+}
+
+/* What can't be grown goes with the seat: else a seat of a full or a broken vector could never be closed, nor the vector. */
+uint32_t cvec_vector_close_seat(cvec_vector_seat *seat) {
+    uint32_t answer = enter(seat);
+    if (answer != CVEC_DONE) return answer;
+    cvec_vector *vector = seat->vector;
+    answer = grow_waiting(seat);
+    cvec_phase_close(&seat->grower);
+    pthread_mutex_lock(&vector->mutex);
+    drop_seat(vector, seat);
+    pthread_mutex_unlock(&vector->mutex);
+    free(seat->pushed);
+    free(seat);
+    return answer;
 }
 
 /* ---- waiting, and who commits for nobody */
@@ -1025,6 +1111,25 @@ uint32_t cvec_vector_read_records(cvec_vector_seat *seat, uint64_t from, void *o
 
 uint32_t cvec_vector_read(cvec_vector_seat *seat, uint64_t from, uint64_t *out, size_t room, uint64_t *count) {
     return has_words(seat->vector) ? cvec_vector_read_records(seat, from, out, room, count) : CVEC_WIDTH;
+}
+
+/* What a seat knows of the vector stays in it: what others grew is looked for only where the position is behind that. */
+static uint32_t read_one(cvec_vector_seat *seat, uint64_t position, void *record) {
+    const cvec_type type = seat->vector->type;
+    uint64_t size, count = 0;
+    uint32_t answer = phase_read(type, &seat->grower, position, record, 1, &count);
+    if (answer != CVEC_DONE || count > 0) return answer;
+    answer = cvec_phase_size(&seat->grower, &size);
+    if (answer == CVEC_DONE) answer = phase_read(type, &seat->grower, position, record, 1, &count);
+    return answer == CVEC_DONE && count == 0 ? CVEC_OUT_OF_RANGE : answer;
+}
+
+uint32_t cvec_vector_at(cvec_vector_seat *seat, uint64_t position, void *record) {
+    uint32_t answer = enter(seat);
+    if (answer != CVEC_DONE) return answer;
+    answer = read_one(seat, position, record);
+    leave_seat(seat);
+    return answer;
 }
 
 /* ---- words */

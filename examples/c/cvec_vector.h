@@ -70,12 +70,35 @@ uint32_t cvec_vector_identity(const cvec_vector *vector, uint64_t *device, uint6
  * cvec_vector_settled, which answers 0 or as many as before. */
 uint32_t cvec_vector_take_seat(cvec_vector *vector, cvec_vector_seat **seat);
 
-/* Gives it up. Its growths stay. CVEC_BUSY: it stays. */
+/* Grows by what was pushed and still waits, and gives the seat up. Its growths stay. CVEC_BUSY, CVEC_FORKED: it stays. Whatever
+ * else it answers, the seat is gone; another number than CVEC_DONE says why what waited wasn't grown, and is lost: who can't
+ * lose that calls cvec_vector_grow_pushed before. */
 uint32_t cvec_vector_close_seat(cvec_vector_seat *seat);
 
 /* Grows by copies of these records, as one block behind all that was grown before: all of them are in the vector, in a row,
  * or none. Others read them from then on; durable they are once they are awaited. receipt may be NULL. */
 uint32_t cvec_vector_grow_records(cvec_vector_seat *seat, const void *records, size_t count, cvec_receipt *receipt);
+
+/* Puts a copy of one record into a buffer of the seat, where it waits. The 1,024th there grows the vector by all of them, as
+ * cvec_vector_grow_records would: as one growth. Before that nobody reads them, nothing makes them durable, and whatever ends
+ * the process loses them. But for the next two calls and the close of the seat, none moves them: a growth in between stands
+ * before them, and an await is for none of them.
+ *
+ * Where it is refused this record isn't in the buffer, and the others wait as before: the same call may be made again. The
+ * first push takes memory for 1,024 records, later ones none but for growths. */
+uint32_t cvec_vector_push(cvec_vector_seat *seat, const void *record);
+
+/* From now on so many records are grown at once: 1 at least (CVEC_EMPTY), and no more than fit one growth (CVEC_TOO_LARGE).
+ * What waits is grown first; where that is refused, all stays as it was. */
+uint32_t cvec_vector_push_block(cvec_vector_seat *seat, size_t records);
+
+/* Grows by what waits, if anything does, as one growth. The receipt, which may be NULL, is that of the last growth by what
+ * the seat pushed, also where a push has made it. CVEC_EMPTY: there is none yet. Where it is refused all wait as before. */
+uint32_t cvec_vector_grow_pushed(cvec_vector_seat *seat, cvec_receipt *receipt);
+
+/* Lends what waits, *count records in their order, until the next call by this seat. So records that this seat can't grow by
+ * any more (CVEC_FULL) are pushed by a new one. */
+uint32_t cvec_vector_pushed(cvec_vector_seat *seat, const void **records, size_t *count);
 
 /* Waits until the growth of that number, and each before it, is durable. Who finds that nobody commits commits for all. */
 uint32_t cvec_vector_await(cvec_vector_seat *seat, uint64_t number);
@@ -101,6 +124,9 @@ uint32_t cvec_vector_size(cvec_vector_seat *seat, uint64_t *size);
 
 /* Copies the records from position `from` on, as far as `out` and the vector reach, durable or not; *count says how many. */
 uint32_t cvec_vector_read_records(cvec_vector_seat *seat, uint64_t from, void *out, size_t room, uint64_t *count);
+
+/* Copies the record at this position, durable or not. CVEC_OUT_OF_RANGE: the vector has none there. */
+uint32_t cvec_vector_at(cvec_vector_seat *seat, uint64_t position, void *record);
 
 /* Of the whole vector, while no seat is taken, else CVEC_BUSY. What they do is durable when they return. Growths behind them
  * are counted from 0. CVEC_MEMORY and CVEC_FILE_FULL: the same call may be made again.

@@ -183,6 +183,24 @@ a_commit_in_c_waits_for_those_that_the_last_one_woke() (
     a_behaviour_of_a_vector_in_c gathers_no_large
 )
 
+records_that_are_pushed_in_c_are_grown_by_blocks() (
+    for behaviour in pushes push_threads push_closes push_blocks pushes_typed; do
+        rm -f "$work/t.cv"
+        a_behaviour_of_a_vector_in_c $behaviour
+    done
+)
+
+a_push_in_c_that_is_refused_may_be_made_again() (
+    for behaviour in push_memory push_full push_broken; do
+        rm -f "$work/t.cv"
+        a_behaviour_of_a_vector_in_c $behaviour
+    done
+)
+
+one_record_is_read_in_c() (
+    a_behaviour_of_a_vector_in_c at
+)
+
 a_wait_in_c_has_a_deadline() (
     a_behaviour_of_a_vector_in_c late
     rm "$work/t.cv"

@@ -205,12 +205,13 @@ static uint32_t grow(uint64_t record, uint64_t *number) {
 
 /* Opens the file again, and answers how many records there are, which are 0, 1, .. in order. */
 static uint64_t found(const char *path) {
-    uint64_t seen[4096], size = 0, count = 0;
+    static uint64_t seen[1 << 18];
+    uint64_t size = 0, count = 0;
     HOLDS(cvec_vector_open(&vector, path, 1) == CVEC_DONE);
     if (wrong) return 0;
     HOLDS(cvec_vector_take_seat(vector, &seat) == CVEC_DONE);
     HOLDS(cvec_vector_size(seat, &size) == CVEC_DONE);
-    HOLDS(cvec_vector_read(seat, 0, seen, 4096, &count) == CVEC_DONE);
+    HOLDS(cvec_vector_read(seat, 0, seen, 1 << 18, &count) == CVEC_DONE);
     HOLDS(count == size);
     for (uint64_t k = 0; k < count; k++) HOLDS(seen[k] == k);
     HOLDS(cvec_vector_close_seat(seat) == CVEC_DONE);
@@ -312,6 +313,8 @@ static void streams(const char *path) {
 
 static void is_busy(const char *path) {
     uint64_t number = 0, count = 0;
+    const void *records;
+    size_t kept;
     make(path, 1);
     seat->busy = true; /* as another thread inside a call leaves it */
     HOLDS(grow(0, &number) == CVEC_BUSY);
@@ -320,6 +323,11 @@ static void is_busy(const char *path) {
     HOLDS(cvec_vector_size(seat, &count) == CVEC_BUSY);
     HOLDS(cvec_vector_settled(seat, &count) == CVEC_BUSY);
     HOLDS(cvec_vector_read(seat, 0, &count, 1, &count) == CVEC_BUSY);
+    HOLDS(cvec_vector_at(seat, 0, &count) == CVEC_BUSY);
+    HOLDS(cvec_vector_push(seat, &number) == CVEC_BUSY);
+    HOLDS(cvec_vector_push_block(seat, 5) == CVEC_BUSY);
+    HOLDS(cvec_vector_grow_pushed(seat, NULL) == CVEC_BUSY);
+    HOLDS(cvec_vector_pushed(seat, &records, &kept) == CVEC_BUSY);
     HOLDS(cvec_vector_close_seat(seat) == CVEC_BUSY);
     seat->busy = false;
     /* Each call leaves the seat free. */
@@ -328,18 +336,27 @@ static void is_busy(const char *path) {
     HOLDS(cvec_vector_size(seat, &count) == CVEC_DONE && count == 1);
     HOLDS(cvec_vector_settled(seat, &count) == CVEC_DONE && count == 1);
     HOLDS(cvec_vector_read(seat, 0, &number, 1, &count) == CVEC_DONE && count == 1);
+    HOLDS(cvec_vector_at(seat, 0, &number) == CVEC_DONE);
+    HOLDS(cvec_vector_push_block(seat, 5) == CVEC_DONE);
+    HOLDS(cvec_vector_push(seat, &number) == CVEC_DONE);
+    HOLDS(cvec_vector_pushed(seat, &records, &kept) == CVEC_DONE && kept == 1);
+    HOLDS(cvec_vector_grow_pushed(seat, NULL) == CVEC_DONE);
     HOLDS(cvec_vector_close_seat(seat) == CVEC_DONE);
     HOLDS(cvec_vector_close(vector) == CVEC_DONE);
 }
 
 static int is_refused_in_a_fork(void) {
     uint64_t number = 0;
+    const void *records;
+    size_t kept;
     cvec_vector_seat *other;
     return grow(7, &number) == CVEC_FORKED && cvec_vector_await(seat, 0) == CVEC_FORKED &&
            cvec_vector_size(seat, &number) == CVEC_FORKED && cvec_vector_settled(seat, &number) == CVEC_FORKED &&
            cvec_vector_read(seat, 0, &number, 1, &number) == CVEC_FORKED && cvec_vector_take_seat(vector, &other) == CVEC_FORKED &&
            cvec_vector_await_for(seat, 0, 1) == CVEC_FORKED && cvec_vector_run_flusher(vector, 1) == CVEC_FORKED &&
-           cvec_vector_stop_flusher(vector) == CVEC_FORKED &&
+           cvec_vector_stop_flusher(vector) == CVEC_FORKED && cvec_vector_at(seat, 0, &number) == CVEC_FORKED &&
+           cvec_vector_push(seat, &number) == CVEC_FORKED && cvec_vector_push_block(seat, 5) == CVEC_FORKED &&
+           cvec_vector_grow_pushed(seat, NULL) == CVEC_FORKED && cvec_vector_pushed(seat, &records, &kept) == CVEC_FORKED &&
            cvec_vector_close_seat(seat) == CVEC_FORKED && cvec_vector_close(vector) == CVEC_FORKED;
 }
 
@@ -356,9 +373,11 @@ static int has_its_own_in_a_fork(const char *path) {
 }
 
 static void forks(const char *path) {
+    const uint64_t pushed = 1;
     uint64_t number = 0;
     int status = 1;
     make(path, 2);
+    HOLDS(cvec_vector_push(seat, &pushed) == CVEC_DONE);
     pid_t child = fork();
     if (child == 0) _exit(is_refused_in_a_fork() ? 0 : 1);
     HOLDS(waitpid(child, &status, 0) == child && status == 0);
@@ -368,7 +387,7 @@ static void forks(const char *path) {
     HOLDS(grow(0, &number) == CVEC_DONE);
     HOLDS(cvec_vector_close_seat(seat) == CVEC_DONE);
     HOLDS(cvec_vector_close(vector) == CVEC_DONE);
-    HOLDS(found(path) == 1);
+    HOLDS(found(path) == 2);
 }
 
 /* Each write makes 5 bytes at most, and every second call is interrupted. */
@@ -1304,6 +1323,8 @@ static void flags(const char *path) {
     HOLDS(grow_typed(CVEC_FLAGGED, first, 2, NULL) == CVEC_DONE);
     ((uint8_t *)&records[1])[8] = 2;
     HOLDS(cvec_vector_grow_records(seat, records, 2, &receipt) == CVEC_NO_RECORD && receipt.number == 9);
+    HOLDS(cvec_vector_push(seat, &records[1]) == CVEC_NO_RECORD);
+    HOLDS(cvec_vector_grow_pushed(seat, &receipt) == CVEC_EMPTY && receipt.number == 9);
     HOLDS(cvec_vector_close_seat(seat) == CVEC_DONE);
     HOLDS(cvec_vector_change_records(vector, 0, records, 2) == CVEC_NO_RECORD);
     HOLDS(cvec_vector_resize_by(vector, 3, &records[1]) == CVEC_NO_RECORD);
@@ -1351,6 +1372,332 @@ static void goes_on_i64(const char *path) { goes_on(path, CVEC_I64); }
 static void goes_on_pair(const char *path) { goes_on(path, CVEC_PAIR); }
 static void goes_on_flagged(const char *path) { goes_on(path, CVEC_FLAGGED); }
 
+/* ---- records that are pushed, and one that is read */
+
+static uint32_t push(uint64_t record) { return cvec_vector_push(seat, &record); }
+
+/* The numbers from this one to before that one. */
+static void push_all(uint64_t from, uint64_t to) {
+    for (; from < to; from++) HOLDS(push(from) == CVEC_DONE);
+}
+
+/* So many records wait, which are the numbers from this one on. */
+static void keeps(uint64_t from, size_t wanted) {
+    const void *records = NULL;
+    size_t count = SIZE_MAX;
+    HOLDS(cvec_vector_pushed(seat, &records, &count) == CVEC_DONE && records != NULL && count == wanted);
+    for (size_t k = 0; k < count && count == wanted; k++) HOLDS(((const uint64_t *)records)[k] == from + k);
+}
+
+static uint64_t size_by(cvec_vector_seat *own) {
+    uint64_t size = UINT64_MAX;
+    HOLDS(cvec_vector_size(own, &size) == CVEC_DONE);
+    return size;
+}
+
+/* The last growth by what was pushed stands there, and has so many records; where none wait it is asked for again. */
+static void is_last(uint64_t number, uint64_t start, uint64_t len) {
+    cvec_receipt receipt = {9, 9, 9, 9, 9};
+    for (int k = 0; k < 2; k++) {
+        HOLDS(cvec_vector_grow_pushed(seat, &receipt) == CVEC_DONE);
+        HOLDS(receipt.number == number && receipt.start == start && receipt.len == len);
+        keeps(0, 0);
+    }
+    HOLDS(cvec_vector_grow_pushed(seat, NULL) == CVEC_DONE);
+}
+
+/* What is pushed waits: no seat reads it, and nothing makes it durable, until it is a block or is asked for. Then it is one
+ * growth, behind all that was grown meanwhile. */
+static void pushes(const char *path) {
+    cvec_vector_seat *other;
+    cvec_receipt receipt = {9, 9, 9, 9, 9};
+    uint64_t number = 0;
+    make(path, 2);
+    HOLDS(cvec_vector_take_seat(vector, &other) == CVEC_DONE);
+    HOLDS(cvec_vector_grow_pushed(seat, &receipt) == CVEC_EMPTY && receipt.number == 9);
+    HOLDS(cvec_vector_grow_pushed(seat, NULL) == CVEC_EMPTY);
+    keeps(0, 0);
+    const int before = writes;
+    push_all(0, 1023);
+    keeps(0, 1023);
+    HOLDS(size_by(seat) == 0 && size_by(other) == 0);
+    HOLDS(cvec_vector_at(seat, 0, &number) == CVEC_OUT_OF_RANGE);
+    HOLDS(cvec_vector_await(seat, 0) == CVEC_OUT_OF_RANGE && cvec_vector_await(other, 0) == CVEC_OUT_OF_RANGE);
+    HOLDS(writes == before);
+    push_all(1023, 1024);
+    HOLDS(size_by(seat) == 1024 && size_by(other) == 1024 && settled() == 0);
+    is_last(0, 0, 1024);
+    push_all(1025, 1027);
+    HOLDS(grow(1024, &number) == CVEC_DONE && number == 1);
+    keeps(1025, 2);
+    HOLDS(cvec_vector_await(seat, 1) == CVEC_DONE && settled() == 2 && size_by(other) == 1025);
+    keeps(1025, 2);
+    is_last(2, 1025, 2);
+    HOLDS(size_by(other) == 1027 && cvec_vector_await(other, 2) == CVEC_DONE && settled() == 3);
+    HOLDS(cvec_vector_close_seat(other) == CVEC_DONE && cvec_vector_close_seat(seat) == CVEC_DONE);
+    HOLDS(cvec_vector_close(vector) == CVEC_DONE && found(path) == 1027);
+}
+
+/* Four threads push so many each: one record, a block, and parts of one behind several. */
+static const uint64_t pushed_by[] = {1, 1024, 2500, 4097};
+enum { PUSHED_BY_ALL = 1 + 1024 + 2500 + 4097, BLOCKS_OF_ALL = 1 + 1 + 3 + 5 };
+
+static void *push_own(void *own) {
+    uint64_t name = 0;
+    while (four[name] != own) name++;
+    for (uint64_t k = 0; k < pushed_by[name]; k++) {
+        const uint64_t record = name << 32 | k;
+        HOLDS(cvec_vector_push(own, &record) == CVEC_DONE);
+    }
+    return NULL;
+}
+
+/* Those of each thread are there in order, and each block of them is in a row. */
+static void are_in_order(const uint64_t *records, uint64_t count) {
+    uint64_t next[4] = {0};
+    for (uint64_t at = 0; at < count; at++) {
+        const uint64_t name = records[at] >> 32, k = records[at] & UINT32_MAX;
+        HOLDS(name < 4 && k == next[name]);
+        if (wrong) return;
+        HOLDS(k % 1024 == 0 || records[at - 1] == records[at] - 1);
+        next[name]++;
+    }
+    for (int name = 0; name < 4; name++) HOLDS(next[name] == pushed_by[name]);
+}
+
+static void push_threads(const char *path) {
+    static uint64_t seen[PUSHED_BY_ALL + 2];
+    uint64_t number = 0, count = 0;
+    make(path, 5);
+    for (int k = 0; k < 4; k++) HOLDS(cvec_vector_take_seat(vector, &four[k]) == CVEC_DONE);
+    run_four(push_own);
+    HOLDS(size_by(seat) == 1024 + 2048 + 4096);
+    for (int k = 0; k < 4; k++) HOLDS(cvec_vector_close_seat(four[k]) == CVEC_DONE);
+    HOLDS(grow(7, &number) == CVEC_DONE && number == BLOCKS_OF_ALL);
+    HOLDS(cvec_vector_close_seat(seat) == CVEC_DONE && cvec_vector_close(vector) == CVEC_DONE);
+    HOLDS(cvec_vector_open(&vector, path, 1) == CVEC_DONE && cvec_vector_take_seat(vector, &seat) == CVEC_DONE);
+    HOLDS(cvec_vector_read(seat, 0, seen, PUSHED_BY_ALL + 2, &count) == CVEC_DONE && count == PUSHED_BY_ALL + 1);
+    HOLDS(seen[PUSHED_BY_ALL] == 7);
+    are_in_order(seen, PUSHED_BY_ALL);
+    HOLDS(cvec_vector_close_seat(seat) == CVEC_DONE && cvec_vector_close(vector) == CVEC_DONE);
+}
+
+/* Who closes a seat grows by what waits, and by nothing where nothing does. */
+static void push_closes(const char *path) {
+    uint64_t number = 0;
+    make(path, 4);
+    push_all(0, 3);
+    HOLDS(cvec_vector_close_seat(seat) == CVEC_DONE);
+    HOLDS(cvec_vector_take_seat(vector, &seat) == CVEC_DONE && size_by(seat) == 3);
+    push_all(3, 3 + 1024);
+    HOLDS(cvec_vector_close_seat(seat) == CVEC_DONE);
+    HOLDS(cvec_vector_take_seat(vector, &seat) == CVEC_DONE);
+    HOLDS(grow(1027, &number) == CVEC_DONE && number == 2);
+    push_all(1028, 1030);
+    HOLDS(cvec_vector_close_seat(seat) == CVEC_DONE);
+    HOLDS(cvec_vector_close(vector) == CVEC_DONE && found(path) == 1030);
+}
+
+/* So many records are a block where that is asked for; what waited before is grown by then. */
+static void push_blocks(const char *path) {
+    make(path, 1);
+    HOLDS(cvec_vector_push_block(seat, 0) == CVEC_EMPTY);
+    HOLDS(cvec_vector_push_block(seat, SIZE_MAX) == CVEC_TOO_LARGE);
+    HOLDS(cvec_vector_push_block(seat, 3) == CVEC_DONE && size_by(seat) == 0);
+    push_all(0, 8);
+    HOLDS(size_by(seat) == 6);
+    keeps(6, 2);
+    HOLDS(cvec_vector_push_block(seat, 131072) == CVEC_TOO_LARGE);
+    HOLDS(cvec_vector_push_block(seat, 0) == CVEC_EMPTY);
+    keeps(6, 2);
+    HOLDS(cvec_vector_push_block(seat, 1) == CVEC_DONE && size_by(seat) == 8);
+    is_last(2, 6, 2);
+    push_all(8, 10);
+    HOLDS(size_by(seat) == 10);
+    is_last(4, 9, 1);
+    HOLDS(cvec_vector_close_seat(seat) == CVEC_DONE);
+    HOLDS(cvec_vector_close(vector) == CVEC_DONE && found(path) == 10);
+}
+
+/* While the system gives no more memory the push of this number is refused, and what asks for a growth. */
+static void lack_memory(uint64_t record) {
+    struct rlimit most, none;
+    getrlimit(RLIMIT_AS, &most);
+    none = most;
+    none.rlim_cur = 1;
+    setrlimit(RLIMIT_AS, &none);
+    const uint32_t answers[] = {push(record), cvec_vector_grow_pushed(seat, NULL), cvec_vector_push_block(seat, 1)};
+    setrlimit(RLIMIT_AS, &most);
+    for (int k = 0; k < 3; k++) HOLDS(answers[k] == CVEC_MEMORY);
+}
+
+/* Where memory is refused, nothing was done: the same push may be made again. But for growths there is one request for it. */
+static void push_memory(const char *path) {
+    enum { BLOCK = 131071 };
+    make(path, 1);
+    mallocs = 0;
+    HOLDS(push(0) == CVEC_MEMORY && mallocs == -1);
+    keeps(0, 0);
+    HOLDS(cvec_vector_grow_pushed(seat, NULL) == CVEC_EMPTY);
+    push_all(0, 1);
+    mallocs = 0;
+    push_all(1, 1023);
+    HOLDS(mallocs == 0);
+    mallocs = -1;
+    push_all(1023, 1024);
+    mallocs = 0;
+    push_all(1024, 2047);
+    HOLDS(mallocs == 0);
+    mallocs = -1;
+    keeps(1024, 1023);
+    HOLDS(cvec_vector_push_block(seat, BLOCK) == CVEC_DONE && size_by(seat) == 2047);
+    push_all(2047, 2047 + BLOCK - 1);
+    lack_memory(2047 + BLOCK - 1);
+    keeps(2047, BLOCK - 1);
+    HOLDS(size_by(seat) == 2047);
+    push_all(2047 + BLOCK - 1, 2047 + BLOCK + 1);
+    HOLDS(size_by(seat) == 2047 + BLOCK);
+    keeps(2047 + BLOCK, 1);
+    HOLDS(cvec_vector_close_seat(seat) == CVEC_DONE);
+    HOLDS(cvec_vector_close(vector) == CVEC_DONE && found(path) == 2047 + BLOCK + 1);
+}
+
+/* What a full phase refuses waits, and is pushed by a new seat. */
+static void push_full(const char *path) {
+    uint64_t number = 0, left_over = 0;
+    const void *records = NULL;
+    size_t count = 0;
+    cvec_receipt receipt = {9, 9, 9, 9, 9};
+    make(path, 2);
+    HOLDS(cvec_vector_push_block(seat, 2) == CVEC_DONE);
+    for (uint64_t k = 0; k < 1048567; k++)
+        if (grow(k, &number) != CVEC_DONE) HOLDS(!"it was grown");
+    push_all(1048567, 1048570);
+    for (int k = 0; k < 2; k++) HOLDS(push(1048570) == CVEC_FULL);
+    HOLDS(cvec_vector_grow_pushed(seat, &receipt) == CVEC_FULL && receipt.number == 9);
+    HOLDS(cvec_vector_push_block(seat, 1) == CVEC_FULL);
+    keeps(1048569, 1);
+    HOLDS(cvec_vector_pushed(seat, &records, &count) == CVEC_DONE && count == 1);
+    left_over = *(const uint64_t *)records;
+    HOLDS(cvec_vector_close_seat(seat) == CVEC_FULL);
+    HOLDS(cvec_vector_take_seat(vector, &seat) == CVEC_DONE && size_by(seat) == 1048569);
+    HOLDS(push(left_over) == CVEC_DONE && push(1048570) == CVEC_DONE);
+    HOLDS(cvec_vector_close_seat(seat) == CVEC_DONE);
+    for (uint64_t k = 0; k < 1048571; k += 1048570 / 2)
+        HOLDS(cvec_vector_find(vector, k, 0, &number) == CVEC_DONE && number == k);
+    HOLDS(cvec_vector_count(vector, 1048569, &number) == CVEC_DONE && number == 1);
+    HOLDS(cvec_vector_close(vector) == CVEC_DONE);
+}
+
+/* Behind a write that failed no block is grown. What waits does so until the close of the seat, which says that it is lost;
+ * and the seat is gone, so that the vector can be closed. */
+static void push_broken(const char *path) {
+    make(path, 1);
+    HOLDS(cvec_vector_push_block(seat, 2) == CVEC_DONE);
+    push_all(0, 2);
+    left = 0;
+    HOLDS(cvec_vector_await(seat, 0) == CVEC_DISK_WRITE);
+    push_all(2, 3);
+    for (int k = 0; k < 2; k++) {
+        HOLDS(push(3) == CVEC_BROKEN && cvec_vector_grow_pushed(seat, NULL) == CVEC_BROKEN);
+        HOLDS(cvec_vector_push_block(seat, 5) == CVEC_BROKEN);
+        keeps(2, 1);
+    }
+    HOLDS(size_by(seat) == 2);
+    HOLDS(cvec_vector_close_seat(seat) == CVEC_BROKEN);
+    HOLDS(cvec_vector_close(vector) == CVEC_BROKEN);
+    HOLDS(found(path) == 0);
+}
+
+/* Pushes records of these numbers one by one. */
+static void push_typed(cvec_type type, const uint64_t *numbers, size_t count) {
+    for (size_t k = 0; k < count; k++) {
+        const union record record = record_of(type, numbers[k]);
+        HOLDS(cvec_vector_push(seat, &record) == CVEC_DONE);
+    }
+}
+
+/* As many records as one growth may have are a block, and one more isn't. */
+static void push_most(cvec_type type) {
+    const size_t most = ((1u << 20) - 8) / width_of(type);
+    const uint64_t number = 5;
+    cvec_receipt receipt = {9, 9, 9, 9, 9};
+    HOLDS(cvec_vector_push_block(seat, most + 1) == CVEC_TOO_LARGE);
+    HOLDS(cvec_vector_push_block(seat, most) == CVEC_DONE);
+    for (size_t k = 1; k < most; k++) push_typed(type, &number, 1);
+    HOLDS(size_by(seat) == 7);
+    push_typed(type, &number, 1);
+    HOLDS(size_by(seat) == 7 + most);
+    HOLDS(cvec_vector_grow_pushed(seat, &receipt) == CVEC_DONE && receipt.start == 7 && receipt.len == most);
+}
+
+static void pushes_of(const char *path, cvec_type type, uint8_t version) {
+    const uint64_t numbers[] = {0, 1, 2, 3, 4, 1, 0};
+    remove(path);
+    HOLDS(cvec_vector_create_as(&vector, path, type, version, 3) == CVEC_DONE);
+    if (wrong) exit(1);
+    HOLDS(cvec_vector_take_seat(vector, &seat) == CVEC_DONE && cvec_vector_push_block(seat, 3) == CVEC_DONE);
+    push_typed(type, numbers, 7);
+    HOLDS(size_by(seat) == 6);
+    HOLDS(cvec_vector_close_seat(seat) == CVEC_DONE);
+    has_typed(path, type, numbers, 7);
+    HOLDS(cvec_vector_take_seat(vector, &seat) == CVEC_DONE);
+    push_most(type);
+    HOLDS(cvec_vector_close_seat(seat) == CVEC_DONE && cvec_vector_close(vector) == CVEC_DONE);
+}
+
+static void pushes_typed(const char *path) {
+    for (cvec_type type = CVEC_U32; type <= CVEC_FLAGGED; type++)
+        for (uint8_t version = 1; version <= 2; version++) pushes_of(path, type, version);
+}
+
+/* The record of this number stands at that position, and what follows it in memory stays. */
+static void has_at(cvec_vector_seat *own, cvec_type type, uint64_t position, uint64_t number) {
+    union record seen[2];
+    memset(seen, 0xa5, sizeof seen);
+    HOLDS(cvec_vector_at(own, position, seen) == CVEC_DONE && is_record(type, seen, number));
+    HOLDS(((const uint8_t *)seen)[size_of(type)] == 0xa5);
+}
+
+/* None does, and nothing is written. */
+static void has_none_at(cvec_vector_seat *own, uint64_t position) {
+    union record seen, same;
+    memset(&seen, 0xa5, sizeof seen);
+    memset(&same, 0xa5, sizeof same);
+    HOLDS(cvec_vector_at(own, position, &seen) == CVEC_OUT_OF_RANGE && memcmp(&seen, &same, sizeof seen) == 0);
+}
+
+static void at_of(const char *path, cvec_type type) {
+    const uint64_t first[] = {0, 1, 2}, more[] = {3, 4};
+    cvec_vector_seat *other = NULL;
+    remove(path);
+    HOLDS(cvec_vector_create_as(&vector, path, type, 1, 2) == CVEC_DONE);
+    if (wrong) exit(1);
+    HOLDS(cvec_vector_take_seat(vector, &seat) == CVEC_DONE && cvec_vector_take_seat(vector, &other) == CVEC_DONE);
+    has_none_at(seat, 0);
+    has_none_at(other, UINT64_MAX);
+    HOLDS(grow_typed(type, first, 3, NULL) == CVEC_DONE);
+    has_at(other, type, 2, 2);
+    HOLDS(grow_typed(type, more, 2, NULL) == CVEC_DONE);
+    for (uint64_t k = 0; k < 5; k++) has_at(other, type, k, k);
+    has_none_at(other, 5);
+    for (uint64_t k = 0; k < 5; k++) has_at(seat, type, k, k);
+    has_none_at(seat, 5);
+    has_none_at(seat, UINT64_MAX);
+    HOLDS(cvec_vector_close_seat(other) == CVEC_DONE && cvec_vector_close_seat(seat) == CVEC_DONE);
+    HOLDS(cvec_vector_close(vector) == CVEC_DONE);
+    HOLDS(cvec_vector_open_as(&vector, path, type, 1) == CVEC_DONE && cvec_vector_take_seat(vector, &seat) == CVEC_DONE);
+    if (wrong) exit(1);
+    has_at(seat, type, 4, 4);
+    has_at(seat, type, 0, 0);
+    has_none_at(seat, 5);
+    HOLDS(cvec_vector_close_seat(seat) == CVEC_DONE && cvec_vector_close(vector) == CVEC_DONE);
+}
+
+static void at(const char *path) {
+    for (cvec_type type = CVEC_U32; type <= CVEC_FLAGGED; type++) at_of(path, type);
+}
+
 int main(int argc, char **argv) {
     static const struct {
         const char *name;
@@ -1387,6 +1734,15 @@ int main(int argc, char **argv) {
                       {"typed", typed},
                       {"flags", flags},
                       {"widths", widths},
+                      {"pushes", pushes},
+                      {"push_threads", push_threads},
+                      {"push_closes", push_closes},
+                      {"push_blocks", push_blocks},
+                      {"push_memory", push_memory},
+                      {"push_full", push_full},
+                      {"push_broken", push_broken},
+                      {"pushes_typed", pushes_typed},
+                      {"at", at},
                       {"goes_on_u32", goes_on_u32},
                       {"goes_on_u64", goes_on_u64},
                       {"goes_on_i64", goes_on_i64},

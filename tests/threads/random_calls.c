@@ -67,17 +67,35 @@ static uint64_t greatest(uint64_t a, uint64_t b) { return a > b ? a : b; }
 
 /* ---- the calls */
 
-static void grow(struct thread *own) {
-    if (own->turns == MOST_TURNS) return;
-    const uint64_t most = below(&own->random, 500) == 0 ? LARGEST : below(&own->random, 40) == 0 ? 5000 : 60;
-    const uint64_t len = 1 + below(&own->random, most);
-    cvec_receipt *receipt = &own->receipts[own->turns];
-    for (uint64_t at = 0; at < len; at++) own->room[at] = record(own->name, own->turns, len, at);
-    HOLDS(cvec_vector_grow(own->seat, own->room, len, receipt) == CVEC_DONE);
+/* The next growth of this thread has been made, with so many records. */
+static void note_growth(struct thread *own, uint64_t len) {
+    const cvec_receipt *receipt = &own->receipts[own->turns];
     HOLDS(receipt->len == len && receipt->start >= own->size);
     HOLDS(own->turns == 0 || receipt->number > receipt[-1].number);
     own->size = receipt->start + len;
     own->turns++;
+}
+
+static void grow(struct thread *own) {
+    if (own->turns == MOST_TURNS) return;
+    const uint64_t most = below(&own->random, 500) == 0 ? LARGEST : below(&own->random, 40) == 0 ? 5000 : 60;
+    const uint64_t len = 1 + below(&own->random, most);
+    for (uint64_t at = 0; at < len; at++) own->room[at] = record(own->name, own->turns, len, at);
+    HOLDS(cvec_vector_grow(own->seat, own->room, len, &own->receipts[own->turns]) == CVEC_DONE);
+    note_growth(own, len);
+}
+
+/* Record by record: the last push makes the growth, or who asks for its receipt. */
+static void push(struct thread *own) {
+    if (own->turns == MOST_TURNS) return;
+    const uint64_t len = 1 + below(&own->random, 60);
+    HOLDS(cvec_vector_push_block(own->seat, len + below(&own->random, 2)) == CVEC_DONE);
+    for (uint64_t at = 0; at < len; at++) {
+        const uint64_t next = record(own->name, own->turns, len, at);
+        HOLDS(cvec_vector_push(own->seat, &next) == CVEC_DONE);
+    }
+    HOLDS(cvec_vector_grow_pushed(own->seat, &own->receipts[own->turns]) == CVEC_DONE);
+    note_growth(own, len);
 }
 
 static void grow_what_is_refused(struct thread *own) {
@@ -102,6 +120,16 @@ static void read_own(struct thread *own) {
     HOLDS(count == receipt->len - skipped);
     for (uint64_t at = 0; at < count; at++)
         if (own->room[at] != record(own->name, turn, receipt->len, skipped + at)) HOLDS(!"its own growth is read");
+}
+
+static void read_one(struct thread *own) {
+    uint64_t turn, seen = 0;
+    if (own->turns == 0) return;
+    const cvec_receipt *receipt = any(own, &turn);
+    const uint64_t skipped = below(&own->random, receipt->len);
+    HOLDS(cvec_vector_at(own->seat, receipt->start + skipped, &seen) == CVEC_DONE);
+    HOLDS(seen == record(own->name, turn, receipt->len, skipped));
+    HOLDS(cvec_vector_at(own->seat, UINT64_C(1) << 32, &seen) == CVEC_OUT_OF_RANGE);
 }
 
 static void read_any(struct thread *own) {
@@ -156,12 +184,14 @@ static void change_seat(struct thread *own) {
 
 static void call_common(struct thread *own) {
     uint64_t answer = 0;
-    const uint64_t which = below(&own->random, 4);
+    const uint64_t which = below(&own->random, 5);
     const uint32_t status = which == 0   ? cvec_vector_size(common, &answer)
                             : which == 1 ? cvec_vector_settled(common, &answer)
                             : which == 2 ? cvec_vector_read(common, below(&own->random, own->size + 1), own->room, 50, &answer)
+                            : which == 3 ? cvec_vector_at(common, below(&own->random, own->size + 1), own->room)
                                          : cvec_vector_await_for(common, 0, 0);
-    HOLDS(status == CVEC_DONE || status == CVEC_BUSY || (which == 3 && (status == CVEC_OUT_OF_RANGE || status == CVEC_LATE)));
+    HOLDS(status == CVEC_DONE || status == CVEC_BUSY || (which >= 3 && status == CVEC_OUT_OF_RANGE) ||
+          (which == 4 && status == CVEC_LATE));
 }
 
 static void close_too_early(struct thread *own) {
@@ -170,8 +200,8 @@ static void close_too_early(struct thread *own) {
 }
 
 static void (*const calls[])(struct thread *) = {
-    grow,      grow,          grow,       grow,        grow_what_is_refused, read_own,        read_any, ask_size, ask_settled,
-    await_own, await_own_for, await_none, change_seat, call_common,          close_too_early,
+    grow,     grow,     grow,        grow,      push,          push,       grow_what_is_refused, read_own,    read_one,
+    read_any, ask_size, ask_settled, await_own, await_own_for, await_none, change_seat,          call_common, close_too_early,
 };
 
 /* ---- the calls of the whole vector, of what this thread has grown */
