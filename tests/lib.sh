@@ -316,6 +316,62 @@ has_results_of_a_pool() {
     [ "$("$top/cvec" list "$type" "$work/t.cv" | tr : '\n' | paste - - | sort -u | wc -l)" -eq 5000 ]
 }
 
+# What the example of eight sensors is to find, by the file as the program lists it: of each so many samples, in hundreds and in
+# order. Of each hundred the last value is looked at: the bits of a double, of which awk has the first 53.
+samples_there() {
+    "$top/cvec" list u64 "$work/t.cv" | paste - - - | awk '
+        function value_of(bits) {
+            return (bits < 2 ^ 63 ? 1 : -1) * (1 + bits % 2 ^ 52 / 2 ^ 52) * 2 ^ (int(bits / 2 ^ 52) % 2048 - 1023)
+        }
+        NF != 3 || $1 > 7 || $2 != next_of[$1]++ || $2 % 100 == 99 && (value_of($3) - sin($2)) ^ 2 > 1e-18 {
+            print "a wrong sample: " $0 >"/dev/stderr"
+            exit wrong = 1
+        }
+        END {
+            printf "found %d samples:", NR
+            for (sensor = 0; sensor < 8; sensor++) {
+                printf " %d", next_of[sensor]
+                if (next_of[sensor] % 100 != 0) wrong = 1
+            }
+            print ""
+            exit wrong
+        }'
+}
+
+# Behind the first so many samples there are some of each of the eight sensors.
+each_sensor_goes_on() {
+    [ "$("$top/cvec" list u64 "$work/t.cv" "--from=$((3 * $1))" | paste - - - | awk '!seen[$1]++' | wc -l)" -ge 8 ]
+}
+
+# The example of eight sensors, which is this command, goes on where it is killed, at whatever moment.
+goes_on_with_its_samples() {
+    goes_on_or_ended() { each_sensor_goes_on "$before" || ! kill -0 "$child" 2>/dev/null; }
+    cc -shared -fPIC -o "$work/syncs.so" "$top/tests/bindings/syncs.c"
+    before=0
+    echo 'found 0 samples: 0 0 0 0 0 0 0 0' >"$work/wanted"
+    for _ in 1 2 3 4; do
+        status=0
+        # It fills no disk where it isn't killed.
+        (
+            export KILL_AT=10000 "LD_PRELOAD=$work/syncs.so"
+            exec "$@" "$work/t.cv" >"$out" 2>"$err"
+        ) &
+        child=$!
+        trap 'kill -9 "$child"' EXIT
+        # Also beside it the file shows what is there.
+        await goes_on_or_ended
+        trap - EXIT
+        kill -9 "$child" || :
+        wait "$child" || status=$?
+        [ "$status" -eq 137 ]
+        [ ! -s "$err" ]
+        cmp "$work/wanted" "$out"
+        each_sensor_goes_on "$before"
+        samples_there >"$work/wanted"
+        before=$(cut -d ' ' -f 2 "$work/wanted")
+    done
+}
+
 # ---- the program that measures
 
 speed=$top/crates/cvec_speed/out/cvec_speed

@@ -298,27 +298,11 @@ the_program_of_the_page_for_cpp_runs() (
     did '5\n7\n11\n5\n7\n11\n'
 )
 
-# Killed three times: what is found each time is what the file has by the program, each sensor's samples in order.
-sensors_go_on_where_they_were_killed() (
-    has_more_than() { [ "$("$top/cvec" list u64 "$work/t.cv" | wc -l)" -gt "$1" ]; }
+samples_of_sensors_go_on_in_cpp() (
     has_cpp || exit $is_skipped
     make_cpp
     link_cpp -o "$work/samples" "$cpp/samples.cc"
-    before=0
-    for _ in 1 2 3 4; do
-        "$work/samples" "$work/t.cv" >"$out" 2>"$err" &
-        child=$!
-        await grep -q '^found' "$out"
-        # Also beside it the file shows what is there.
-        await has_more_than $((3 * before))
-        kill -9 $child
-        wait $child 2>/dev/null || :
-        [ ! -s "$err" ]
-        grep -q "^found $before samples:" "$out"
-        "$top/cvec" list u64 "$work/t.cv" | paste - - - >"$work/samples_there"
-        awk '$2 != next_of[$1]++ { exit 1 }' "$work/samples_there"
-        before=$(wc -l <"$work/samples_there")
-    done
+    goes_on_with_its_samples "$work/samples"
 )
 
 words_are_indexed_in_cpp() (
