@@ -248,7 +248,7 @@ threads_library=$top/crates/cvec_threads/out/libcvec_threads.a
 compile_threads() {
     program_file=$1
     shift
-    cc -std=c99 -O2 -Wall -Wextra -Werror -pedantic "-I$c" "$@" "$program_file" "$threads_library" "$kit_library" -lpthread
+    cc -std=c99 -O2 -Wall -Wextra -Werror -pedantic "-I$c" "$@" "$program_file" "$threads_library" "$kit_library" -lpthread -lm
 }
 
 make_threads_library() {

@@ -45,6 +45,28 @@ threads_of_c_grow_one_vector() (
     [ "$status" -eq 0 ]
 )
 
+# Builds this program of examples/c.
+make_example() {
+    has_c || exit $is_skipped
+    make_threads_library
+    compile_threads "$c/$1.c" "$c/cvec_vector.c" -Wconversion -o "$work/$1"
+}
+
+samples_of_sensors_go_on_in_c() (
+    make_example samples
+    goes_on_with_its_samples "$work/samples"
+)
+
+words_are_indexed_in_c() (
+    make_example word_index
+    indexes_words 4 "$work/word_index"
+)
+
+results_of_a_pool_are_kept_in_c() (
+    make_example pool
+    has_results_of_a_pool pair 1 "$work/pool"
+)
+
 # A file of version 2 that the program made, with a record that was changed.
 threads_of_c_go_on_with_a_file_of_the_program() (
     make_threads
