@@ -80,6 +80,13 @@ the_python_program_of_the_page_grows_by_threads() (
     for name in 0 1 2 3 4 5 6 7; do echo "$name $((name + 100))"; done | cmp - "$work/blocks"
 )
 
+samples_of_sensors_go_on_in_python() (
+    has_python_vector || exit $is_skipped
+    make_python_vector
+    export "CVEC_VECTOR_LIBRARY=$built/libcvec_vector.so" "PYTHONPATH=$top/bindings/python" PYTHONDONTWRITEBYTECODE=1
+    goes_on_with_its_samples "$python" "$top/examples/python/samples.py"
+)
+
 words_are_indexed_in_python() (
     has_python_vector || exit $is_skipped
     make_python_vector
