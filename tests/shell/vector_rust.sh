@@ -65,6 +65,13 @@ the_rust_example_grows_by_threads() (
     seq 0 249 | cmp - "$work/rest"
 )
 
+samples_of_sensors_go_on_in_rust() (
+    has_rust_vector || exit $is_skipped
+    make_rust_vector
+    make_rust_program "$top/bindings/rust/vector/examples/samples.rs" "$work/samples"
+    goes_on_with_its_samples "$work/samples"
+)
+
 words_are_indexed_in_rust() (
     has_rust_vector || exit $is_skipped
     make_rust_vector
