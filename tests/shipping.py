@@ -218,6 +218,11 @@ class Parts(Redis):
 class Postgres(Way):
     """PostgreSQL doesn't run as root: then it is the user postgres, who has the folder of its data."""
 
+    @staticmethod
+    def table(name):
+        """The copy that is killed has its name, and all others have one of 62 bytes, which leaves `_place` one byte."""
+        return name if name == NAME else f"{name:_<62}"
+
     def __init__(self):
         self.known = {"PGHOST": FOLDER, "PGUSER": "postgres", "PGDATABASE": "postgres"}
         folder = max(glob.glob("/usr/lib/postgresql/*/bin"), default=os.path.dirname(shutil.which("postgres") or ""))
@@ -236,10 +241,10 @@ class Postgres(Way):
         return {**os.environ, **self.known}
 
     def words(self, name):
-        return [[f"{SCRIPTS}/to_postgres", name]]
+        return [[f"{SCRIPTS}/to_postgres", self.table(name)]]
 
     def copy(self, name):
-        return lines_of(["psql", "-XAtc", f"select record from {name} order by position"], env=self.all_known())
+        return lines_of(["psql", "-XAtc", f"select record from {self.table(name)} order by position"], env=self.all_known())
 
 
 WAYS = {"apply": Apply, "sqlite": Sqlite, "redis": Redis, "parts": Parts, "postgres": Postgres}

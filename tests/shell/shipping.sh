@@ -107,21 +107,21 @@ what_is_no_line_of_a_step_is_refused() (
     has_kept 5 1
 )
 
-# Of a longer name PostgreSQL takes 63 bytes, and there is no room for that of the table with PLACE.
+# PostgreSQL takes 63 bytes of a name. That of the table with PLACE must be another.
 a_long_name_of_a_table_is_refused() (
     has python3 'copies by follow' && has psql 'a copy in PostgreSQL' || exit "$is_skipped"
     export PYTHONDONTWRITEBYTECODE=1 PGHOST="$work"
-    name=$(printf '%057d' 0 | tr 0 a)
-    for name in "$name" "${name}b" "${name}bcdefg"; do
+    name=$(printf '%062d' 0 | tr 0 a)
+    for name in "$name" "${name}b" "${name}bc"; do
         status=0
         "$shipping/to_postgres" "$name" false >"$out" 2>"$err" || status=$?
-        if [ "${#name}" -eq 57 ]; then
+        if [ "${#name}" -eq 62 ]; then
             # There is no server.
             [ "$status" -eq 1 ]
             tells 'psql'
         else
             [ "$status" -eq 2 ]
-            tells 'a name of a table has 57 bytes at most'
+            tells 'a name of a table has 62 bytes at most'
         fi
     done
 )
