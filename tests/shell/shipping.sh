@@ -58,6 +58,12 @@ follows() {
     chmod +x "$work/follower"
 }
 
+# A command in place of a follower, which leaves a file, and then writes a step.
+leaves_a_file() {
+    printf '#!/bin/sh\ntouch "%s/begun"\nprintf "+ 5\\\\n. 9\\\\n"\n' "$work" >"$work/follower"
+    chmod +x "$work/follower"
+}
+
 # Keeps the table of SQLite by that command.
 keeps() {
     status=0
@@ -130,8 +136,7 @@ a_long_name_of_a_table_is_refused() (
 words_of_a_part_are_checked() (
     has python3 'copies by follow' || exit "$is_skipped"
     export PYTHONDONTWRITEBYTECODE=1
-    printf '#!/bin/sh\ntouch "%s/begun"\n' "$work" >"$work/follower"
-    chmod +x "$work/follower"
+    leaves_a_file
     for words in 'x 3' '0 x' '0 0' '3 3' '5 3' '-1 3' '0 -3' '1.0 3' '0_1 3'; do
         status=0
         # shellcheck disable=SC2086 # each word is one
@@ -162,18 +167,86 @@ what_a_killed_script_has_begun_is_waited_for() (
     did '5\n6\n'
 )
 
-# Once the server has taken a part of a step, another program changes PLACE. Nothing is done then, for which Redis has no error.
-a_step_that_redis_leaves_undone_is_none() (
-    has_redis || exit "$is_skipped"
+# Starts a server, which ends with the test.
+begins_redis() {
     redis-server --port 0 --unixsocket "$work/s" --save '' --daemonize yes >/dev/null
     export REDIS_CLI="redis-cli -e -s $work/s" PYTHONDONTWRITEBYTECODE=1
     await $REDIS_CLI ping
     trap '$REDIS_CLI shutdown nosave' EXIT
+}
+
+# Keeps the list `t` by that command.
+ships() {
+    status=0
+    timeout 60 "$shipping/to_redis" t "$work/follower" >"$out" 2>"$err" || status=$?
+}
+
+# The list has these records, and this is what stands at PLACE's key.
+has_shipped() {
+    [ "$($REDIS_CLI lrange '{t}:records' 0 -1 | paste -sd ' ')" = "$1" ]
+    [ "$($REDIS_CLI get '{t}:place')" = "$2" ]
+}
+
+# A script that is begun refuses it, and neither begins to follow nor changes what there is.
+refuses_what_changed() {
+    leaves_a_file
+    ships
+    [ "$status" -eq 3 ]
+    tells 'another program has changed this copy'
+    [ ! -e "$work/begun" ]
+}
+
+a_copy_in_redis_that_was_changed_is_refused() (
+    has_redis || exit "$is_skipped"
+    begins_redis
+    follows '' '+ 5\\n+ 6\\n. 1:2\\n'
+    ships
+    [ "$status" -eq 0 ]
+    has_shipped '5 6' '1:2 2'
+    $REDIS_CLI rename '{t}:records' '{t}:evicted'
+    refuses_what_changed
+    has_shipped '' '1:2 2'
+    $REDIS_CLI rename '{t}:evicted' '{t}:records'
+    $REDIS_CLI rename '{t}:place' '{t}:evicted'
+    refuses_what_changed
+    has_shipped '5 6' ''
+    $REDIS_CLI rename '{t}:evicted' '{t}:place'
+    follows --after=1:2 '< 0\\n. 2:0\\n'
+    ships
+    [ "$status" -eq 0 ]
+    has_shipped '' '2:0 0'
+    follows --after=2:0 '+ 7\\n+ 8\\n. 3:2\\n'
+    ships
+    [ "$status" -eq 0 ]
+    has_shipped '7 8' '3:2 2'
+    $REDIS_CLI lpop '{t}:records'
+    refuses_what_changed
+    has_shipped 8 '3:2 2'
+    # Both are taken away, as the page says: the copy begins anew.
+    $REDIS_CLI del '{t}:records' '{t}:place'
+    follows '' '+ 7\\n. 4:1\\n'
+    ships
+    [ "$status" -eq 0 ]
+    has_shipped 7 '4:1 1'
+)
+
+# Copies had PLACE alone before they had the number of records.
+an_older_copy_in_redis_is_gone_on_with() (
+    has_redis || exit "$is_skipped"
+    begins_redis
+    $REDIS_CLI rpush '{t}:records' 5 6
+    $REDIS_CLI set '{t}:place' 1:2
+    follows --after=1:2 '+ 7\\n. 2:3\\n+ 8\\n. 3:4\\n'
+    ships
+    [ "$status" -eq 0 ]
+    has_shipped '5 6 7 8' '3:4 4'
+)
+
+# Once the server has taken a part of a step, another program changes PLACE. Nothing is done then, for which Redis has no error.
+a_step_that_redis_leaves_undone_is_none() (
+    has_redis || exit "$is_skipped"
+    begins_redis
     is_halfway() { $REDIS_CLI client list | grep -q ' multi=[1-9]'; }
-    ships() {
-        status=0
-        timeout 60 "$shipping/to_redis" t "$work/follower" >"$out" 2>"$err" || status=$?
-    }
     follows '' '+ 5\\n. 1\\n'
     ships
     [ "$status" -eq 0 ]
