@@ -150,6 +150,22 @@ words_of_a_part_are_checked() (
     [ -e "$work/begun" ]
 )
 
+# Nothing is made, and `again` ends.
+a_copy_of_a_wrong_type_is_refused() (
+    has python3 'copies by follow' || exit "$is_skipped"
+    export CVEC="$program" PYTHONDONTWRITEBYTECODE=1
+    leaves_a_file
+    for type in u65 U64 ''; do
+        status=0
+        timeout 10 "$shipping/again" "$shipping/apply" "$type" "$work/copy.cv" "$work/follower" >"$out" 2>"$err" || status=$?
+        [ "$status" -eq 2 ]
+        tells 'a TYPE is one of u32, u64, i64, pair, flagged'
+        [ -z "$(find "$work" -name 'copy.cv*' -o -name begun)" ]
+    done
+    "$shipping/apply" u64 "$work/copy.cv" "$work/follower"
+    [ -e "$work/begun" ]
+)
+
 # The command that a killed script has begun ends before another script goes on, which does that step once more.
 what_a_killed_script_has_begun_is_waited_for() (
     has python3 'copies by follow' || exit "$is_skipped"
@@ -175,10 +191,10 @@ begins_redis() {
     trap '$REDIS_CLI shutdown nosave' EXIT
 }
 
-# Keeps the list `t` by that command.
+# Keeps the list of this name, or `t`, by that command.
 ships() {
     status=0
-    timeout 60 "$shipping/to_redis" t "$work/follower" >"$out" 2>"$err" || status=$?
+    timeout 60 "$shipping/to_redis" "${1-t}" "$work/follower" >"$out" 2>"$err" || status=$?
 }
 
 # The list has these records, and this is what stands at PLACE's key.
@@ -240,6 +256,19 @@ an_older_copy_in_redis_is_gone_on_with() (
     ships
     [ "$status" -eq 0 ]
     has_shipped '5 6 7 8' '3:4 4'
+)
+
+# So `again` ends too, and the follower isn't begun.
+a_name_in_redis_is_of_ascii() (
+    has_redis || exit "$is_skipped"
+    begins_redis
+    leaves_a_file
+    ships "$(printf '\303\251')"
+    [ "$status" -eq 2 ]
+    tells 'a name has ASCII alone'
+    [ "$(wc -l <"$err")" -eq 1 ]
+    [ ! -e "$work/begun" ]
+    [ "$($REDIS_CLI dbsize)" -eq 0 ]
 )
 
 # Once the server has taken a part of a step, another program changes PLACE. Nothing is done then, for which Redis has no error.
