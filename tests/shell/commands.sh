@@ -227,11 +227,11 @@ a_copy_has_growths_of_so_many_records() (
         did 'copied size 5\n'
     done
     # An empty vector that stands there stays.
-    run create u64 "$work/n.cv" --over
-    sum=$(cksum <"$work/n.cv")
-    run copy u64 "$work/t.cv" "$work/n.cv" --block=4294967295
+    run create u64 "$work/e.cv"
+    sum=$(cksum <"$work/e.cv")
+    run copy u64 "$work/t.cv" "$work/e.cv" --block=4294967295
     was_refused 'new too large' 'nothing was written to it'
-    [ "$(cksum <"$work/n.cv")" = "$sum" ]
+    [ "$(cksum <"$work/e.cv")" = "$sum" ]
     for block in 0 x -1 4294967296; do
         run copy u64 "$work/t.cv" "$work/o.cv" "--block=$block"
         ends_with_usage 'error: the value of --block is a number from 1 to 4294967295'

@@ -483,8 +483,8 @@ a_command_that_has_waited_for_readers_is_refused() (
     sum=$(cksum <"$t")
     exec 9<"$t"
     flock --shared 9
-    # Nobody is waited for where a new file is to be, which may be the old one.
-    for words in "copy u64 $work/other.cv $t" "upgrade u64 $work/other.cv $t" "copy u64 $t $t"; do
+    # Nobody is waited for where a new file is to be.
+    for words in "copy u64 $work/other.cv $t" "upgrade u64 $work/other.cv $t"; do
         # shellcheck disable=SC2086 # each word is one
         is_kept_from "$t" $words
     done
