@@ -286,10 +286,10 @@ a_copy_is_made_over_nothing() (
     [ "$(cksum <"$work/t.cv")" = "$sum" ]
 )
 
-# Who may not read FILE may not read NEW either. The process's mask takes away more.
+# Who may not read FILE may not read NEW either, but its owner. The process's mask takes away more.
 a_copy_has_the_permissions_of_its_file() (
     a_worked_file 1
-    for of in 600:022:600 640:022:640 666:022:644 644:077:600; do
+    for of in 600:022:600 640:022:640 666:022:644 644:077:600 444:022:644; do
         chmod "${of%%:*}" "$work/t.cv"
         mask=${of#*:}
         for command in copy upgrade; do

@@ -235,7 +235,7 @@ copies_are_made_beside_a_writer() (
         was_refused 'new exists' "$n: there is something in this file already"
         # The file that is taken is no new one.
         second $command u64 "$t" "$t"
-        was_refused file 'another command uses it'
+        was_refused file 'it is FILE itself'
         second $command u32 "$t" "$work/no.cv"
         was_refused 'old width 8' 'those of u32 have 4'
     done

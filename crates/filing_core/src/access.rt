@@ -323,11 +323,15 @@ pub enum Readable {
     Beside(SharedFile),
 }
 
-/// The permissions of the file at this path, or only its owner's, where the system doesn't tell them.
+/// The permissions of an owner, without whom nobody could go on with a file.
+const OWNERS: u32 = 0o600;
+
+/// The permissions of a copy of the file at this path: those of that one and its owner's. Where the system doesn't tell them, its
+/// owner's alone.
 fn mode_of<F: Files<File = File>>(files: &F, path: &str) -> u32 {
     match fs::metadata(files, path) {
-        Ok(known) => known.permissions().mode() & ORDINARY,
-        Err(_) => 0o600,
+        Ok(known) => (known.permissions().mode() & ORDINARY) | OWNERS,
+        Err(_) => OWNERS,
     }
 }
 
