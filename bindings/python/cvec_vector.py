@@ -236,21 +236,28 @@ class _Rows:
     def room(self, count: int) -> Any:
         return numpy.empty(count, dtype=self.dtype)
 
-    def _check(self, record: Any) -> None:
-        if not isinstance(record, numpy.generic) or record.dtype != self.dtype:
-            raise ValueError(f"no record of the type: not one of {self.dtype}")
-
     def places(self, room: Any) -> Any:
         return memoryview(room.view(numpy.uint8))
 
     def put(self, places: Any, at: int, record: Any) -> None:
-        self._check(record)
         width = self.dtype.itemsize
-        places[at * width:(at + 1) * width] = record.tobytes()
+        places[at * width:(at + 1) * width] = self.bytes_of(record)
 
     def bytes_of(self, record: Any) -> bytes:
-        self._check(record)
-        return record.tobytes()
+        if isinstance(record, numpy.generic):
+            if record.dtype == self.dtype:
+                return record.tobytes()
+            if self._is_of_type(record.dtype):
+                return numpy.array(record, dtype=self.dtype).tobytes()
+        raise ValueError(f"no record of the type: not one of {self.dtype}")
+
+    def _is_of_type(self, dtype: Any) -> bool:
+        """Whether what has this dtype, which isn't ours, may be a record still: numpy gives a number in the machine's order of bytes,
+        and a text without the zeros at its end."""
+        own = self.dtype
+        if own.kind in "SU":
+            return dtype.kind == own.kind and dtype.itemsize <= own.itemsize
+        return own.names is None and dtype == own.newbyteorder("=")
 
     def blank(self) -> bytes:
         return bytes(self.dtype.itemsize)

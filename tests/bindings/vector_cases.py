@@ -238,14 +238,25 @@ def rows_of_a_dtype():
     Vector.open(PATH).close()
     for bad in ("u4", "V12", "V264", "O", [("a", "O")], ("u8", 2), [("a", "u4"), ("b", "u8")]):
         has_no(ValueError, Vector.open, PATH, dtype=bad)
-    for good, row in (("i8", [-1, 2 ** 63 - 1]), ("f8", [0.5, float("-inf")]), ("V256", [bytes(range(256))]), (">u8", [1])):
+    # What is read is a record: numpy has a number in the machine's order of bytes, and a text without the zeros at its end.
+    for good, row, bad in (("i8", [-1, 2 ** 63 - 1], numpy.uint64(1)), ("f8", [0.5, float("-inf")], numpy.float32(1)),
+                           ("V256", [bytes(range(256))], numpy.void(bytes(8))), (">u8", [1, 256], numpy.int64(1)), (">f8", [2.5], numpy.int64(1)),
+                           (">M8[s]", [1, 3], numpy.datetime64(1, "ms")), ("S8", [b"abc", b"", b"12345678"], numpy.bytes_(b"123456789")),
+                           ("U2", ["ab", "a"], numpy.bytes_(b"a")), (">U4", ["a\0bc", "abcd"], numpy.str_("abcde"))):
         os.remove(PATH)
         values = numpy.array(row, dtype=good)
         with Vector.create(PATH, dtype=good) as vector:
             vector.grow(values)
             assert vector[:].dtype == values.dtype and vector[0] == values[0]
             has_no(ValueError, vector.grow, row)
-        assert b"".join(it.to_bytes(8, "little") for it in records()) == values.tobytes()
+            for at, record in enumerate(vector):
+                assert (vector.count(record), vector.find(record)) == (1, at), record
+            with vector.appender() as out:
+                out.push(vector[0])
+                for record in (bad, row[0]):
+                    has_no(ValueError, out.push, record)
+                    has_no(ValueError, vector.count, record)
+        assert b"".join(it.to_bytes(8, "little") for it in records()) == values.tobytes() + values[:1].tobytes()
 
 
 def rows_with_padding():
