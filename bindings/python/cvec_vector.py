@@ -783,12 +783,16 @@ class Vector(_Single):
         seat = self.seat()
         if isinstance(key, slice):
             return self._slice(seat, key)
-        size = seat.size()
-        try:
-            at = range(size)[key]
-        except IndexError:
-            raise IndexError(f"there is no position {key} of {size}") from None
-        return self._form.one(seat.read(at, at + 1))
+        while True:
+            size = seat.size()
+            try:
+                at = range(size)[key]
+            except IndexError:
+                raise IndexError(f"there is no position {key} of {size}") from None
+            rows = seat.read(at, at + 1)
+            # Else another thread has made it shorter meanwhile.
+            if len(rows) > 0:
+                return self._form.one(rows)
 
     def _slice(self, seat: Seat, key: slice) -> Any:
         """Where another thread makes it shorter meanwhile, that of the shorter one."""

@@ -142,9 +142,9 @@ def indices_and_slices():
 
 
 def a_slice_beside_a_shrink():
-    """The vector becomes shorter once its size was asked for."""
+    """Or a position. The vector becomes shorter once its size was asked for."""
     row = list(range(100))
-    for at in (slice(-1, -60, -3), slice(None, None, -3), slice(80, 10, -7), slice(-1, -60, -1), slice(-60, None, 3)):
+    for at in (slice(-1, -60, -3), slice(None, None, -3), slice(80, 10, -7), slice(-1, -60, -1), slice(-60, None, 3), -1, -30, 99):
         with Vector.create(PATH) as vector:
             vector.grow(row)
             seat, sizes = vector.seat(), []
@@ -157,7 +157,12 @@ def a_slice_beside_a_shrink():
                 return sizes[-1]
 
             seat.size = size_before
-            assert list(vector[at]) == row[:50][at], at
+            if isinstance(at, slice):
+                assert list(vector[at]) == row[:50][at], at
+            elif at < 0:
+                assert vector[at] == row[:50][at], at
+            else:
+                has_no(IndexError, lambda: vector[at])
             assert sizes[:2] == [100, 50]
         os.remove(PATH)
 
