@@ -371,6 +371,8 @@ class Seat(_Single):
 
     def _await_by(self, handle: c_void_p, number: int, *limit: int) -> int:
         """What C counts no more is durable."""
+        if not 0 <= number <= _GREATEST:
+            return Status.OUT_OF_RANGE
         number -= self._vector._base
         return 0 if number < 0 else (_AWAIT_FOR if limit else _AWAIT)(handle, number, *limit)
 
@@ -381,10 +383,10 @@ class Seat(_Single):
         then on all is BROKEN."""
         limit = () if timeout is None else (_milliseconds(timeout),)
         number = self._last if receipt is None else receipt.number
-        if number >= 0:
-            self._call(self._await_by, number, *limit)
-        else:
+        if receipt is None and number < 0:
             self.settled()
+        else:
+            self._call(self._await_by, number, *limit)
 
     def _settled_by(self, handle: c_void_p, count: c_uint64) -> int:
         status = _LIB.cvec_vector_settled(handle, byref(count))

@@ -461,7 +461,8 @@ def the_whole_vector():
         assert vector.settled() == seat.settled() == 1 and vector.seat() is seat
         second = seat.grow([6, 7])
         assert second == (1, 6, 2) and vector.settled() == 1
-        assert refusal(vector.settle, second._replace(number=2))[0] == Status.OUT_OF_RANGE
+        for number in (2, GREATEST, 2 ** 64, 2 ** 64 + 1, -1, -2 ** 64):
+            assert refusal(vector.settle, second._replace(number=number))[0] == Status.OUT_OF_RANGE
         vector.resize(10, GREATEST)
         assert vector.settled() == 2 and records()[6:] == [6, 7, GREATEST, GREATEST]
         vector.resize(11)
