@@ -13,7 +13,6 @@ from __future__ import annotations
 
 import array
 import collections
-import contextlib
 import ctypes
 import enum
 import math
@@ -122,6 +121,11 @@ def _pass(status: int) -> None:
     """To be asked right behind the call that answered it."""
     if status != 0:
         raise Error(status, errno=ctypes.get_errno() if status in _OF_SYSTEM else 0)
+
+
+class _Used(Error):
+    """C has given each of its seats: where a call of the whole vector was interrupted, some are closed. Once all are, it gives
+    them again."""
 
 
 def _closed() -> Error:
@@ -299,8 +303,10 @@ class Seat(_Single):
         self._vector, self._form = vector, vector._form
         # C's seat, which the next call takes where there is none.
         self._handle: c_void_p | None = None
-        # Who calls by it has the turn. A call under way, or who closes it or has the vector alone, has the gate.
-        self._turn, self._gate = threading.Lock(), threading.Lock()
+        # Who calls by it has the turn, by a mark of the call. A call under way, or who closes it or has the vector alone, has the
+        # gate.
+        self._turn: dict[int, object] = {}
+        self._gate = threading.Lock()
         # Who has the turn, and whether no other comes.
         self._thread, self._ends = 0, False
         self._last = -1
@@ -312,20 +318,29 @@ class Seat(_Single):
 
     def _call(self, function: Any, *words: Any) -> None:
         """Calls the library by the seat, alone."""
-        self._vector._check_process()
-        if not self._turn.acquire(blocking=False):
-            raise _closed() if self._ends else Error(Status.BUSY)
+        vector, mark = self._vector, object()
+        vector._check_process()
+        phase = vector._phase
         try:
+            # An interrupt may come as soon as it has the turn: of a lock nobody would know who has it.
+            if self._turn.setdefault(0, mark) is not mark:
+                raise _closed() if self._ends else Error(Status.BUSY)
             self._thread = threading.get_ident()
             with self._gate:
                 if self._ends:
                     raise _closed()
-                if self._handle is None:
-                    self._handle = self._vector._take_handle()
-                _pass(function(self._handle, *words))
+                if not (self._handle and vector._is_counted):
+                    vector._take_handle(self)
+                return _pass(function(self._handle, *words))
+        except _Used:
+            pass
         finally:
-            self._thread = 0
-            self._turn.release()
+            # No interrupt comes in between.
+            if self._turn == {0: mark}:
+                self._thread = 0
+                self._turn.clear()
+        vector._end_phase(phase)
+        self._call(function, *words)
 
     def _check_thread(self) -> None:
         """The thread that is inside a call by it can't wait for the end of that."""
@@ -437,7 +452,7 @@ class Seat(_Single):
     def _close_handle(self) -> None:
         """For who has the gate."""
         handle, self._handle = self._handle, None
-        if handle is not None:
+        if handle:
             _LIB.cvec_vector_close_seat(handle)
 
     def _give_up(self) -> None:
@@ -452,10 +467,16 @@ class Seat(_Single):
         self._vector._check_process()
         self._check_thread()
         with self._vector._lock:
-            if not self._ends:
+            if self._ends:
+                return
+            try:
                 self._ends = True
                 with self._gate:
                     self._vector._replace(self)
+            except BaseException:
+                # As Ctrl-C: it goes on, unless another one has its place.
+                self._ends = self not in self._vector._seats
+                raise
 
 
 class Appender(_Single):
@@ -503,11 +524,14 @@ class Appender(_Single):
 class _Lease:
     """The seat of a thread, as long as that lives: then it is the next thread's."""
 
-    def __init__(self, seat: Seat, free: collections.deque[Seat]) -> None:
-        self.seat, self._free = seat, free
+    seat: Seat | None = None
+
+    def __init__(self, free: collections.deque[Seat]) -> None:
+        self._free = free
 
     def __del__(self) -> None:
-        self._free.append(self.seat)
+        if self.seat is not None:
+            self._free.append(self.seat)
 
 
 class Vector(_Single):
@@ -524,7 +548,8 @@ class Vector(_Single):
         """Not to be called: `create` and `open` do."""
         self._handle, self._form, self._limit, self._process = handle, form, limit, os.getpid()
         self._lock, self._local = threading.Lock(), threading.local()
-        self._flushers, self._flusher_left = 0, threading.Condition(self._lock)
+        # Each has a lock of its own, as long as it runs.
+        self._flushers: list[Any] = []
         # All that aren't closed, and those that nobody has.
         self._seats: list[Seat] = []
         self._free: collections.deque[Seat] = collections.deque()
@@ -548,13 +573,17 @@ class Vector(_Single):
         """Opens a file that is there, and reads it. Error IN_USE: it is open, here or elsewhere; UNBORN, NOT_SEGMENT, VERSION,
         WIDTH or DAMAGED: it has no vector of such records. ValueError: its words are no whole records of that dtype."""
         vector = cls._begin(_LIB.cvec_vector_open_as, path, seats, dtype, type)
-        seat = vector._take()
-        words = seat._words()
-        vector._free.append(seat)
-        if words % vector._form.words != 0:
+        try:
+            seat = Seat(vector)
+            vector._seats.append(seat)
+            words = seat._words()
+            vector._free.append(seat)
+            if words % vector._form.words != 0:
+                raise ValueError(f"{words} words are no whole records of {vector._form.words}")
+            return vector
+        except BaseException:
             vector.close()
-            raise ValueError(f"{words} words are no whole records of {vector._form.words}")
-        return vector
+            raise
 
     @classmethod
     def _begin(cls, call: Any, path: Any, seats: int, dtype: Any, type: str, *version: int) -> Vector:
@@ -563,9 +592,14 @@ class Vector(_Single):
         if dtype is not None and type != "u64":
             raise ValueError("records of a dtype are rows of u64")
         form = _Records(type) if dtype is None else _Rows(dtype)
-        handle = c_void_p()
-        _pass(call(byref(handle), _name_of(path), form.number, *version, seats))
-        return cls(handle, form, seats)
+        vector = cls(c_void_p(), form, seats)
+        try:
+            _pass(call(byref(vector._handle), _name_of(path), form.number, *version, seats))
+            return vector
+        except BaseException:
+            # An interrupt may come as soon as C has begun it.
+            vector.close()
+            raise
 
     def __enter__(self) -> Vector:
         return self
@@ -582,61 +616,71 @@ class Vector(_Single):
         """The seat of the calling thread, until that ends. Error NOT_SO: every seat is taken."""
         self._check_process()
         lease = getattr(self._local, "lease", None)
-        if lease is None or lease.seat.closed:
-            lease = self._local.lease = _Lease(self._take(), self._free)
+        if lease is None or lease.seat is None or lease.seat.closed:
+            lease = self._local.lease = _Lease(self._free)
+            self._take(lease)
         return lease.seat
 
-    def _take(self) -> Seat:
-        """A seat that a thread has left, or a new one."""
-        while self._free:
-            try:
-                seat = self._free.popleft()
-            except IndexError:
-                break
-            if not seat.closed:
-                return seat
+    def _take(self, lease: _Lease) -> None:
+        """A seat that a thread has left, or a new one. The lease has it before an interrupt comes."""
         with self._lock:
             if self._handle is None:
                 raise _closed()
-            if len(self._seats) == self._limit:
-                raise Error(Status.NOT_SO)
-            self._seats.append(Seat(self))
-            return self._seats[-1]
+            while self._free and lease.seat is None:
+                lease.seat = None if self._free[0].closed else self._free[0]
+                self._free.popleft()
+            if lease.seat is None:
+                if len(self._seats) == self._limit:
+                    raise Error(Status.NOT_SO)
+                lease.seat = Seat(self)
+                self._seats.append(lease.seat)
 
     def _replace(self, seat: Seat) -> None:
         """With the lock and the gate of this seat: another one has its place, and is free."""
-        heir = Seat(self)
-        heir._handle, heir._last, seat._handle = seat._handle, seat._last, None
-        self._seats[self._seats.index(seat)] = heir
+        heir, at = Seat(self), self._seats.index(seat)
+        # No interrupt comes in between.
+        heir._handle, heir._last, self._seats[at], seat._handle = seat._handle, seat._last, heir, None
         self._free.append(heir)
 
-    def _take_handle(self) -> c_void_p:
-        """A seat of C. The first one tells whether C counts anew, or goes on."""
+    def _take_handle(self, seat: Seat) -> None:
+        """With the gate of this seat: it has one of C's, from when C has given it on."""
         with self._counting:
-            handle, counted = c_void_p(), c_uint64()
-            _pass(_LIB.cvec_vector_take_seat(self._handle, byref(handle)))
-            if not self._is_counted:
-                _LIB.cvec_vector_settled(handle, byref(counted))
-                if counted.value == 0:
-                    self._base = self._grown
-                self._is_counted = True
-            return handle
+            if not seat._handle:
+                seat._handle = c_void_p()
+                status = _LIB.cvec_vector_take_seat(self._handle, byref(seat._handle))
+                if status == Status.NOT_SO and any(it._handle for it in self._seats):
+                    raise _Used(status)
+                _pass(status)
+            self._count(seat._handle)
+
+    def _count(self, handle: c_void_p) -> None:
+        """The first of C's seats tells whether C counts anew, or goes on."""
+        if not self._is_counted:
+            counted = c_uint64()
+            _LIB.cvec_vector_settled(handle, byref(counted))
+            if counted.value == 0:
+                self._base = self._grown
+            self._is_counted = True
 
     # ---- the whole vector
 
-    @contextlib.contextmanager
-    def _alone(self) -> Iterator[None]:
-        """When each call that is under way has ended. Others wait meanwhile."""
+    def _alone(self, call: Any) -> None:
+        """Calls this when each call that is under way has ended. Others wait meanwhile."""
         self._check_process()
         for seat in list(self._seats):
             seat._check_thread()
-        with contextlib.ExitStack() as held:
-            held.enter_context(self._lock)
+        with self._lock:
             if self._handle is None:
                 raise _closed()
-            for seat in self._seats:
-                held.enter_context(seat._gate)
-            yield
+            self._behind_gates(list(self._seats), call)
+
+    def _behind_gates(self, seats: list[Seat], call: Any) -> None:
+        """By `with` alone: an ExitStack that is interrupted as it takes a lock never lets go of it."""
+        if not seats:
+            call()
+            return
+        with seats.pop()._gate:
+            self._behind_gates(seats, call)
 
     def _last(self) -> int:
         """The number of the last growth that has returned, or -1."""
@@ -644,7 +688,9 @@ class Vector(_Single):
 
     def _close_handles(self) -> None:
         """Alone: waits until all that was grown is durable, and closes C's seats. Refused, they stay."""
-        handles = [seat._handle for seat in self._seats if seat._handle is not None]
+        handles = [seat._handle for seat in self._seats if seat._handle]
+        if handles:
+            self._count(handles[0])
         self._grown = self._last() + 1
         if handles and self._grown > self._base:
             _pass(_AWAIT(handles[0], self._grown - 1 - self._base))
@@ -655,15 +701,15 @@ class Vector(_Single):
 
     def _end_phase(self, phase: int) -> None:
         """Has C count growths anew, but where another thread has done so since."""
-        with self._alone():
-            if phase == self._phase:
-                self._close_handles()
+        self._alone(lambda: self._close_handles() if phase == self._phase else None)
 
     def _whole(self, call: Any, *words: Any) -> None:
         """A call of the whole vector."""
-        with self._alone():
+        def run() -> None:
             self._close_handles()
             _pass(call(self._handle, *words))
+
+        self._alone(run)
 
     def _words_before(self, position: int) -> int:
         """Past each vector where it is too large for C."""
@@ -725,10 +771,13 @@ class Vector(_Single):
     def _find_record(self, record: bytes, start: int) -> int | None:
         """C answers how many records there are where it finds none, and from behind them all."""
         place, size = c_uint64(), c_uint64()
-        with self._alone():
+
+        def run() -> None:
             self._close_handles()
             _pass(_LIB.cvec_vector_find_record(self._handle, record, start, byref(place)))
             _pass(_LIB.cvec_vector_find_record(self._handle, record, _GREATEST, byref(size)))
+
+        self._alone(run)
         return place.value if place.value < size.value else None
 
     # ---- by the seat of the calling thread
@@ -748,17 +797,14 @@ class Vector(_Single):
         least 0.001) behind the last time, until `stop_flusher` or the close. Error: a commit was refused, which ends it."""
         limit = _milliseconds(every)
         self._check_process()
-        with self._lock:
-            if self._handle is None:
-                raise _closed()
-            handle = self._handle
-            self._flushers += 1
-        try:
-            _pass(_LIB.cvec_vector_run_flusher(handle, limit))
-        finally:
+        runs = threading.Lock()
+        with runs:
             with self._lock:
-                self._flushers -= 1
-                self._flusher_left.notify_all()
+                if self._handle is None:
+                    raise _closed()
+                handle = self._handle
+                self._flushers = [it for it in self._flushers if it.locked()] + [runs]
+            _pass(_LIB.cvec_vector_run_flusher(handle, limit))
 
     def stop_flusher(self) -> None:
         """Ends the loops of flushers, each that is begun later too. It doesn't wait for them."""
@@ -822,7 +868,7 @@ class Vector(_Single):
     def close(self) -> None:
         """Commits what was grown, waits for the calls that are under way, and closes the file. An Error says that growths nobody
         has settled may be lost; the vector is closed then too. A forked process lets go of the file alone."""
-        if self._handle is None:
+        if not self._handle:
             return
         if self._process != os.getpid():
             handle, self._handle = self._handle, None
@@ -836,8 +882,9 @@ class Vector(_Single):
                 return
             try:
                 _LIB.cvec_vector_stop_flusher(handle)
-                while self._flushers > 0:
-                    self._flusher_left.wait()
+                for runs in self._flushers:
+                    with runs:
+                        pass
             except BaseException:
                 # As Ctrl-C: nothing is closed yet, and another call closes it.
                 self._handle = handle

@@ -428,6 +428,111 @@ def growths_are_interrupted():
     assert records() == [0, 1, 2, 4, 5, 6, 7]
 
 
+def interrupts_come_at_any_moment():
+    """What a signal's handler raises ends a call, whenever it comes, and no more than that. Before 3.10 Python raises it also within
+    what is to be done at the end of a call."""
+    if sys.version_info < (3, 10):
+        return
+
+    class Interrupt(Exception):
+        pass
+
+    def interrupt(*_):
+        raise Interrupt
+
+    signal.signal(signal.SIGALRM, interrupt)
+    by = random.Random(7)
+    with Vector.create(PATH, seats=1) as vector:
+        vector.stop_flusher()
+        for call in (lambda: vector.grow([7]), lambda: vector.count(5), lambda: len(vector), lambda: vector.run_flusher(1), vector.fold):
+            for _ in range(150):
+                try:
+                    signal.setitimer(signal.ITIMER_REAL, by.uniform(1e-5, 3e-4))
+                    while True:
+                        call()
+                except Interrupt:
+                    pass
+                call()  # neither refused (BUSY, NOT_SO) nor waiting for ever
+    assert set(records()) == {7}
+
+
+def interrupted(library, name):
+    """From here on Ctrl-C comes once, as soon as this call of C has returned."""
+    call = getattr(library, name)
+
+    def call_interrupted(*words):
+        setattr(library, name, call)
+        call(*words)
+        raise KeyboardInterrupt
+
+    setattr(library, name, call_interrupted)
+
+
+def an_interrupt_comes_as_soon_as_c_has_begun():
+    """The file is let go of at once, also while a traceback has what was begun. A seat of C isn't lost."""
+    library = cvec_vector._LIB
+    for name, call in (("create_as", Vector.create), ("open_as", Vector.open), ("take_seat", Vector.open), ("size", Vector.open)):
+        interrupted(library, "cvec_vector_" + name)
+        try:
+            call(PATH, seats=1)
+        except KeyboardInterrupt:
+            Vector.open(PATH).close()
+        else:
+            raise AssertionError(f"{name} isn't interrupted")
+    with Vector.open(PATH, seats=1) as vector:
+        for number in range(3):
+            vector.fold()
+            interrupted(library, "cvec_vector_take_seat")
+            has_no(KeyboardInterrupt, vector.grow, [number])
+            # How many growths C counts is asked for then, also by a call of the whole vector.
+            if number == 2:
+                vector.fold()
+            assert vector.grow([number]) == (number, number, 1) and vector.settled() == number
+    assert records() == [0, 1, 2]
+
+
+class InterruptedLock:
+    """Has a lock, as whose `with` begins or ends Ctrl-C comes once."""
+
+    def __init__(self, owner, name, is_begin):
+        self.owner, self.name, self.is_begin, self.lock = owner, name, is_begin, getattr(owner, name)
+        setattr(owner, name, self)
+
+    def _interrupt(self):
+        setattr(self.owner, self.name, self.lock)
+        raise KeyboardInterrupt
+
+    def __enter__(self):
+        if self.is_begin:
+            self._interrupt()
+        return self.lock.__enter__()
+
+    def __exit__(self, *fault):
+        self.lock.__exit__(*fault)
+        self._interrupt()
+
+
+def seats_and_flushers_are_interrupted():
+    """As a seat is taken or closed, and as a flusher begins: no seat is lost, and the close waits for no flusher."""
+    signal.alarm(60)
+    vector = Vector.create(PATH, seats=1)
+    InterruptedLock(vector, "_lock", False)
+    has_no(KeyboardInterrupt, vector.seat)
+    assert vector.grow([5]) == (0, 0, 1)
+    seat = vector.seat()
+    InterruptedLock(seat, "_gate", True)
+    has_no(KeyboardInterrupt, seat.close)
+    assert not seat.closed and seat.grow([7]) == (1, 1, 1) and vector.seat() is seat
+    InterruptedLock(seat, "_gate", False)
+    has_no(KeyboardInterrupt, seat.close)
+    assert seat.closed and refusal(seat.size) == (Status.NOT_SO, "closed") and vector.grow([11]) == (2, 2, 1)
+    for is_begin in (True, False):
+        InterruptedLock(vector, "_lock", is_begin)
+        has_no(KeyboardInterrupt, vector.run_flusher, math.inf)
+    vector.close()
+    assert records() == [5, 7, 11]
+
+
 # ---- the whole vector
 
 def the_whole_vector():
@@ -557,49 +662,45 @@ def refused_memory_loses_nothing():
 def a_call_is_interrupted_while_seats_are_closed():
     """Growths are counted on, though C counts anew."""
     library = cvec_vector._LIB
-    close = library.cvec_vector_close_seat
-
-    def close_interrupted(seat):
-        library.cvec_vector_close_seat = close
-        close(seat)
-        raise KeyboardInterrupt
-
     with Vector.create(PATH, seats=1) as vector:
         assert vector.grow([5]) == (0, 0, 1)
-        library.cvec_vector_close_seat = close_interrupted
+        interrupted(library, "cvec_vector_close_seat")
         has_no(KeyboardInterrupt, vector.fold)
         assert vector.grow([7]) == (1, 1, 1) and vector.settled() == 1
         vector.settle()
         assert vector.settled() == 2
     assert records() == [5, 7]
-    os.remove(PATH)
-    # A seat of another thread isn't closed, and grows before one is taken again.
-    goes_on, has_grown = threading.Event(), threading.Event()
-    told = []
+    # A seat of another thread isn't closed, and grows before one is taken again. Of two C has none left then.
+    for seats in (3, 2):
+        os.remove(PATH)
+        goes_on, has_grown = threading.Event(), threading.Event()
+        told = []
 
-    def run():
-        for event in (None, goes_on):
-            if event:
-                event.wait()
-            told.append(vector.grow([len(told)]))
+        def run():
+            for event in (None, goes_on):
+                if event:
+                    event.wait()
+                told.append(vector.grow([len(told)]))
+                vector.settle()
+                has_grown.set()
+
+        with Vector.create(PATH, seats=seats) as vector:
+            told.append(vector.grow([0]))
+            thread = threading.Thread(target=run, daemon=True)
+            thread.start()
+            has_grown.wait()
+            has_grown.clear()
+            interrupted(library, "cvec_vector_close_seat")
+            has_no(KeyboardInterrupt, vector.fold)
+            if seats == 2:
+                assert len(vector) == 2
+            goes_on.set()
+            thread.join()
+            told.append(vector.grow([3]))
+            assert [it.number for it in told] == [0, 1, 2, 3] and vector.settled() >= 3
             vector.settle()
-            has_grown.set()
-
-    with Vector.create(PATH, seats=3) as vector:
-        told.append(vector.grow([0]))
-        thread = threading.Thread(target=run)
-        thread.start()
-        has_grown.wait()
-        has_grown.clear()
-        library.cvec_vector_close_seat = close_interrupted
-        has_no(KeyboardInterrupt, vector.fold)
-        goes_on.set()
-        thread.join()
-        told.append(vector.grow([3]))
-        assert [it.number for it in told] == [0, 1, 2, 3] and vector.settled() == 3
-        vector.settle()
-        assert vector.settled() == 4
-    assert records() == [0, 1, 2, 3]
+            assert vector.settled() == 4
+        assert records() == [0, 1, 2, 3]
 
 
 def a_change_that_fails_breaks_it():

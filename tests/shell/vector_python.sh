@@ -143,6 +143,14 @@ growths_of_python_that_are_interrupted_are_made_once() (
     is_so_with_and_without_numpy growths_are_interrupted
 )
 
+interrupted_calls_of_a_python_vector_leave_it() (
+    is_so_without_numpy interrupts_come_at_any_moment
+    rm -rf "$work/files"
+    is_so_without_numpy an_interrupt_comes_as_soon_as_c_has_begun
+    rm -rf "$work/files"
+    is_so_without_numpy seats_and_flushers_are_interrupted
+)
+
 # ---- the whole vector
 
 a_whole_python_vector_is_changed_and_searched() (
