@@ -151,6 +151,10 @@ class File:
         self._kind, self._raw = kind, raw
         self._process, self._lock = os.getpid(), threading.RLock()
 
+    def __reduce__(self):
+        """Neither `copy` nor `pickle` makes another: its end would close this one."""
+        raise TypeError("a File can't be copied")
+
     def __enter__(self):
         return self
 
@@ -228,29 +232,33 @@ class File:
     __del__ = close
 
 
+def _begin(call, path, kind, *fault):
+    kind = _TYPES[kind]
+    file = File(kind, _File(fd=-1))
+    try:
+        _pass(call(byref(file._raw), _name_of(path), kind.number, *map(byref, fault)), *fault)
+        return file
+    except BaseException:
+        # An interrupt may come as soon as C has opened it.
+        file.close()
+        raise
+
+
 def create(path, kind):
     """Makes a file of version 1 and this record type: u32, u64, i64, pair or flagged. One that is there stays, and is
     refused."""
-    kind, raw = _TYPES[kind], _File()
-    _pass(_LIB.cvec_create(byref(raw), _name_of(path), kind.number))
-    return File(kind, raw)
-
-
-def _open_by(call, path, kind):
-    kind, raw, fault = _TYPES[kind], _File(), Fault()
-    _pass(call(byref(raw), _name_of(path), kind.number, byref(fault)), fault)
-    return File(kind, raw)
+    return _begin(_LIB.cvec_create, path, kind)
 
 
 def open(path, kind):
     """Opens a file of this record type, and checks it."""
-    return _open_by(_LIB.cvec_open, path, kind)
+    return _begin(_LIB.cvec_open, path, kind, Fault())
 
 
 def open_to_read(path, kind):
     """Opens a file for reading alone, and checks it: also while another process writes it, without a lock, and with no leave
     to write."""
-    return _open_by(_LIB.cvec_open_to_read, path, kind)
+    return _begin(_LIB.cvec_open_to_read, path, kind, Fault())
 
 
 def _open_to_map(path):

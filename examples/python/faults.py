@@ -1,5 +1,6 @@
 """A test of cvec.py: what isn't a record is refused, threads lose nothing, a forked process appends nothing, what is closed
 is let go, and what is no file isn't mapped: faults.py FOLDER [plain]. With 'plain' it does so without numpy."""
+import copy
 import gc
 import multiprocessing
 import os
@@ -246,6 +247,38 @@ def check_pickling():
         assert str(there) == str(it) and vars(there) == vars(it) and type(there) is cvec.Error
     with multiprocessing.Pool(1) as pool:
         assert refusal_of(pool.apply_async(cvec.open, (PATH, "u64")).get, 20) == "disk open: No such file or directory"
+    with made("u64") as file:
+        for make in (copy.copy, copy.deepcopy, pickle.dumps):
+            try:
+                make(file)
+            except TypeError:
+                continue
+            raise AssertionError("a copy, which would close the file")
+        gc.collect()
+        file.append([5])
+    os.remove(PATH)
+
+
+def check_interrupts():
+    """Ctrl-C comes as soon as C has the file: it is let go of, also while a traceback has what was begun."""
+    for name, make in (("cvec_create", cvec.create), ("cvec_open", cvec.open), ("cvec_open_to_read", cvec.open_to_read)):
+        library, call = cvec._LIB, getattr(cvec._LIB, name)
+        before = len(os.listdir("/dev/fd"))
+
+        def interrupted(*words):
+            call(*words)
+            raise KeyboardInterrupt
+
+        setattr(library, name, interrupted)
+        try:
+            make(PATH, "u64")
+        except KeyboardInterrupt:
+            setattr(library, name, call)
+            assert len(os.listdir("/dev/fd")) == before, "a file is left"
+            cvec.open(PATH, "u64").close()
+        else:
+            raise AssertionError("not interrupted")
+    os.remove(PATH)
 
 
 check_rows()
@@ -256,4 +289,5 @@ check_fork()
 check_closing()
 check_maps()
 check_pickling()
+check_interrupts()
 print("with numpy" if numpy else "without numpy")
