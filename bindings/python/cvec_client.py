@@ -111,9 +111,13 @@ class Seat:
         """The numbers of the answer, and the bytes of its records."""
         if self.over:
             raise Gone(*self.over)
+        try:
+            head = struct.pack("<IIQ", kind, count, start)
+        except struct.error as fault:
+            raise ValueError(f"no position or count: {fault}") from None
         # Whatever ends this before the whole answer is read, as a signal's handler may, leaves the next one to no request.
         self.over = ("a request of this seat wasn't answered whole: it may have been done, or not",)
-        self._write(struct.pack("<IIQ", kind, count, start) + data)
+        self._write(head + data)
         status, count, first, second = struct.unpack("<IIQQ", self._take(24))
         records = self._take(count * self.form.width)
         # Behind one of the first six the server reads no more of this seat.
