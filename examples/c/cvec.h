@@ -231,7 +231,9 @@ typedef struct cvec_file {
 } cvec_file;
 
 /* Makes a file of version 1, and syncs its folder. What is there stays: CVEC_EXISTS; but for what a stopped creation of this
- * type leaves, at most CVEC_EMPTY_LEN bytes, each 0 or that of the empty file. Where it is refused *file is closed. */
+ * type leaves, at most CVEC_EMPTY_LEN bytes, each 0 or that of the empty file. Where it is refused *file is closed. By this and
+ * the next two, standard streams that are closed get /dev/null, where to read and to print fails as before: else the file might
+ * have their numbers, and get what another thread prints. */
 uint32_t cvec_create(cvec_file *file, const char *path, cvec_type type);
 
 /* Opens a file and checks it: CVEC_DONE, or why not, as cvec_check_TYPE and the system's calls answer. Nothing is

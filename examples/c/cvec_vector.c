@@ -206,7 +206,25 @@ static void close_quietly(int fd) {
     errno = why;
 }
 
-/* Where standard streams are closed, a file would get their numbers, and be written what the program prints there. */
+static int open_once(const char *path, int flags) {
+    int fd;
+    do fd = open(path, flags | O_CLOEXEC, 0666);
+    while (was_interrupted(fd));
+    return fd;
+}
+
+/* Where standard streams are closed, a file would get their numbers, and be written what another thread prints there, be it for
+ * the moment before it has another one. /dev/null gets them, so that it can't be read or written there: to read and to print
+ * fails as before (EBADF), and a program that is run has those streams closed. */
+static void take_streams(void) {
+    for (int fd = STDIN_FILENO; fd <= STDERR_FILENO; fd++) {
+        if (fcntl(fd, F_GETFD) >= 0) continue;
+        int taken = open_once("/dev/null", fd == STDIN_FILENO ? O_WRONLY : O_RDONLY);
+        if (taken > STDERR_FILENO) close_quietly(taken);
+    }
+}
+
+/* Where there is no /dev/null a file has such a number for that moment alone. */
 static int behind_streams(int fd) {
     if (fd < 0 || fd > STDERR_FILENO) return fd;
     int moved = fcntl(fd, F_DUPFD_CLOEXEC, STDERR_FILENO + 1);
@@ -215,10 +233,8 @@ static int behind_streams(int fd) {
 }
 
 static int open_path(const char *path, int flags) {
-    int fd;
-    do fd = open(path, flags | O_CLOEXEC, 0666);
-    while (was_interrupted(fd));
-    return behind_streams(fd);
+    take_streams();
+    return behind_streams(open_once(path, flags));
 }
 
 static uint32_t lock_by(int fd, int operation) {

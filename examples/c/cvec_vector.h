@@ -43,7 +43,8 @@ typedef struct cvec_receipt {
  * the vector is closed; a lock that readers share is waited for, 10 seconds. It is the one that has the name then. Any other
  * number than CVEC_DONE leaves *vector NULL. CVEC_EXISTS: what is there stays; a file is made over nothing but what a stopped
  * creation of that version and type leaves. CVEC_WIDTH: its records have another width. A file has no name for their type: one
- * of u64 is opened as i64 too.
+ * of u64 is opened as i64 too. Standard streams that are closed get /dev/null, where to read and to print fails as before: else
+ * the file might have their numbers, and get what another thread prints.
  *
  * Records that are passed to the functions below by a pointer, and those that they write, are of this type: uint32_t, uint64_t,
  * int64_t, cvec_pair or cvec_flagged. A flag that is neither 0 nor 1 is CVEC_NO_RECORD, and nothing is done then. */

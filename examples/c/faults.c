@@ -2,8 +2,11 @@
  * that was running, or what it has after; a forked process is refused, no file has the number of a standard stream, what is
  * opened has the name, and no record has another flag than 0 or 1. Prints the calls of a run in which none fails: ./faults FILE */
 #define _DEFAULT_SOURCE 1
+#include <errno.h>
 #include <fcntl.h>
+#include <limits.h>
 #include <stdio.h>
+#include <string.h>
 #include <sys/file.h>
 #include <sys/types.h>
 #include <sys/wait.h>
@@ -31,11 +34,13 @@ static int faulty_sync(int fd, int (*sync)(int), const char *name) {
 static int faulty_fdatasync(int fd) { return faulty_sync(fd, fdatasync, "sync"); }
 static int faulty_fsync(int fd) { return faulty_sync(fd, fsync, "sync of the folder"); }
 
-/* Whether no folder may be read. */
-static int folders_are_shut;
+/* Whether no folder may be read, and the least number that a file had at first. */
+static int folders_are_shut, least_number;
 
 static int faulty_open(const char *path, int flags, mode_t mode) {
-    return folders_are_shut && (flags & O_DIRECTORY) ? -1 : open(path, flags, mode);
+    const int fd = folders_are_shut && (flags & O_DIRECTORY) ? -1 : open(path, flags, mode);
+    if (fd >= 0 && fd < least_number && strcmp(path, "/dev/null") != 0) least_number = fd;
+    return fd;
 }
 
 /* While a reader has a lock, a sleep takes no time: in it a file gets another name, and the lock ends. */
@@ -121,11 +126,16 @@ static int tells_of_a_folder_that_is_shut(const char *path) {
     return status == CVEC_DISK_OPEN && file.fd < 0;
 }
 
-/* In a process whose standard streams are closed: whether the file has none of their numbers, and no program that is run has it. */
+/* In a process whose standard streams are closed: whether the file never has one of their numbers, to print fails as before, and
+ * no program that is run has the file. */
 static int is_behind_streams(const char *path) {
     cvec_file file;
     for (int fd = 0; fd <= STDERR_FILENO; fd++) close(fd);
-    return cvec_create(&file, path, CVEC_U64) == CVEC_DONE && file.fd > STDERR_FILENO && fcntl(file.fd, F_GETFD) == FD_CLOEXEC;
+    least_number = INT_MAX;
+    if (cvec_create(&file, path, CVEC_U64) != CVEC_DONE || least_number <= STDERR_FILENO) return 0;
+    for (int fd = STDOUT_FILENO; fd <= STDERR_FILENO; fd++)
+        if (write(fd, "a line", 6) != -1 || errno != EBADF || fcntl(fd, F_GETFD) != FD_CLOEXEC) return 0;
+    return file.fd > STDERR_FILENO && fcntl(file.fd, F_GETFD) == FD_CLOEXEC;
 }
 
 static int stays_behind_streams(const char *path) {

@@ -5,6 +5,7 @@
 #include <errno.h>
 #include <fcntl.h>
 #include <inttypes.h>
+#include <limits.h>
 #include <pthread.h>
 #include <stdio.h>
 #include <stdlib.h>
@@ -115,33 +116,42 @@ static int test_fdatasync(int fd) {
     return -1;
 }
 
+/* Whether no folder may be read, and whether there is no /dev/null; the path where another file is put in the place of each one
+ * that was opened, and how many were; and the least number that a file had at first. */
+static int folders_are_shut, is_null_gone;
+static const char *replaced_path;
+static int opens, least_number;
+
+static int test_open(const char *path, int flags, mode_t mode) {
+    const int is_null = strcmp(path, "/dev/null") == 0;
+    if (is_null && is_null_gone) {
+        errno = ENOENT;
+        return -1;
+    }
+    if (folders_are_shut && (flags & O_DIRECTORY) != 0) {
+        errno = EACCES;
+        return -1;
+    }
+    const int fd = open(path, flags, mode);
+    if (!is_null && fd >= 0 && fd < least_number) least_number = fd;
+    if (replaced_path == NULL || strcmp(path, replaced_path) != 0) return fd;
+    opens++;
+    if (remove(path) == 0) close(open(path, O_CREAT | O_WRONLY, 0666));
+    return fd;
+}
+
 /* While a reader has a lock, a sleep takes no time, and ends that lock where so many have been made. Before, a file may get
  * another name. */
 static int reader = -1, naps, naps_of_reader;
 static const char *moved_from, *moved_to;
 
 static int test_nanosleep(const struct timespec *time, struct timespec *left_over) {
-    if (reader < 0) return nanosleep(time, left_over);
+    if (reader < 0 && replaced_path == NULL) return nanosleep(time, left_over);
     if (++naps == naps_of_reader) {
         if (moved_from != NULL) rename(moved_from, moved_to);
         flock(reader, LOCK_UN);
     }
     return 0;
-}
-
-/* Whether no folder may be read; and whether another file is put in the place of each one that was opened. */
-static int folders_are_shut, files_are_replaced;
-static int opens;
-
-static int test_open(const char *path, int flags, mode_t mode) {
-    if (folders_are_shut && (flags & O_DIRECTORY) != 0) {
-        errno = EACCES;
-        return -1;
-    }
-    opens++;
-    const int fd = open(path, flags, mode);
-    if (files_are_replaced && remove(path) == 0) close(open(path, O_CREAT | O_WRONLY, 0666));
-    return fd;
 }
 
 static int test_fsync(int fd) {
@@ -291,24 +301,47 @@ static void replaced(const char *path) {
     if (wrong) exit(1);
     HOLDS(cvec_vector_close(vector) == CVEC_DONE && found(path) == 0);
     /* Or another each time: it is tried as often as a lock is. */
-    files_are_replaced = 1;
+    replaced_path = path;
     opens = 0;
     HOLDS(cvec_vector_open(&vector, path, 1) == CVEC_IN_USE && vector == NULL && opens == 501);
+    replaced_path = NULL;
+}
+
+/* Each standard stream can't be read or written, and a program that is run hasn't got it. */
+static void are_closed_streams(void) {
+    char byte = 'x';
+    for (int fd = 0; fd <= STDERR_FILENO; fd++) {
+        const int flags = fcntl(fd, F_GETFD);
+        HOLDS(flags == FD_CLOEXEC || (flags == -1 && is_null_gone));
+        HOLDS((fd == STDIN_FILENO ? read(fd, &byte, 1) : write(fd, &byte, 1)) == -1 && errno == EBADF);
+    }
 }
 
 /* The file has none of the numbers of the standard streams, where these are closed, and a program that is run hasn't it. */
-static void streams(const char *path) {
+static void is_beside_streams(const char *path) {
     uint64_t number = 0;
-    const int out = dup(STDOUT_FILENO);
+    const int out = fcntl(STDOUT_FILENO, F_DUPFD, STDERR_FILENO + 1);
+    remove(path);
     for (int fd = 0; fd <= STDERR_FILENO; fd++) close(fd);
+    least_number = INT_MAX;
     make(path, 1);
-    const ssize_t written = write(STDOUT_FILENO, "a line", 6);
+    are_closed_streams();
     HOLDS(grow(0, &number) == CVEC_DONE && cvec_vector_await(seat, number) == CVEC_DONE);
     const int flags = fcntl(vector->fd, F_GETFD);
-    HOLDS(dup2(out, STDOUT_FILENO) == STDOUT_FILENO);
-    HOLDS(written == -1 && flags == FD_CLOEXEC && vector->fd > STDERR_FILENO);
+    HOLDS(dup2(out, STDOUT_FILENO) == STDOUT_FILENO && close(out) == 0);
+    HOLDS(!wrong && flags == FD_CLOEXEC && vector->fd > STDERR_FILENO);
     HOLDS(cvec_vector_close_seat(seat) == CVEC_DONE && cvec_vector_close(vector) == CVEC_DONE);
     HOLDS(found(path) == 1);
+}
+
+/* No file has one for a moment either, where there is a /dev/null: another thread may print then. */
+static void streams(const char *path) {
+    is_beside_streams(path);
+    HOLDS(least_number > STDERR_FILENO);
+    if (wrong) return;
+    is_null_gone = 1;
+    is_beside_streams(path);
+    HOLDS(least_number <= STDERR_FILENO);
 }
 
 static void is_busy(const char *path) {
