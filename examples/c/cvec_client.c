@@ -140,7 +140,28 @@ static void close_pipes(int pipes[][2], int count) {
     errno = why;
 }
 
-/* Where standard streams are closed, a pipe would get their numbers, and be written what the program prints there. */
+static int open_null(int flags) {
+    int descriptor;
+    do
+        descriptor = open("/dev/null", flags);
+    while (descriptor < 0 && errno == EINTR);
+    return descriptor;
+}
+
+/* Where standard streams are closed, a pipe would get their numbers, and be written what another thread prints there, be it for
+ * the moment before it has another one. /dev/null gets them, so that it can't be read or written there: to read and to print
+ * fails as before (EBADF), and a program that is run has those streams closed. */
+static void take_streams(void) {
+    for (int stream = STDIN_FILENO; stream <= STDERR_FILENO; stream++) {
+        if (fcntl(stream, F_GETFD) >= 0)
+            continue;
+        int taken = open_null((stream == STDIN_FILENO ? O_WRONLY : O_RDONLY) | O_CLOEXEC);
+        if (taken > STDERR_FILENO)
+            close(taken);
+    }
+}
+
+/* Where there is no /dev/null a pipe has such a number for that moment alone. */
 static int behind_streams(int descriptor) {
     if (descriptor < 0 || descriptor > STDERR_FILENO)
         return descriptor;
@@ -152,6 +173,7 @@ static int behind_streams(int descriptor) {
 
 /* None of them is left to a program that another thread starts meanwhile. */
 static int open_pipes(int pipes[][2], int count) {
+    take_streams();
     for (int k = 0; k < count; k++) {
         if (pipe2(pipes[k], O_CLOEXEC)) {
             close_pipes(pipes, k);
@@ -170,10 +192,7 @@ static int open_pipes(int pipes[][2], int count) {
 /* In the child: what the server writes at its end isn't to stand among the client's lines, nor does it keep what the client
  * reads. */
 static void mute(void) {
-    int nothing;
-    do
-        nothing = open("/dev/null", O_RDWR);
-    while (nothing < 0 && errno == EINTR);
+    int nothing = open_null(O_RDWR);
     if (nothing < 0 || dup2(nothing, STDIN_FILENO) < 0 || dup2(nothing, STDOUT_FILENO) < 0)
         _exit(127);
     if (nothing > STDOUT_FILENO)

@@ -1,10 +1,20 @@
-/* A client whose standard streams are closed: closed PROGRAM FILE. The status is 0 where no pipe has one of their numbers, what
- * is printed there goes nowhere, and a growth of the record 7 by each of three seats is settled. */
-#define _POSIX_C_SOURCE 200809L
-#include "cvec_client.h"
-
-#include <errno.h>
+/* A client whose standard streams are closed: closed PROGRAM FILE. The status is 0 where no pipe has one of their numbers, be it
+ * for a moment, what is printed there goes nowhere, and a growth of the record 7 by each of three seats is settled. */
+#define _GNU_SOURCE 1
+#include <fcntl.h>
 #include <unistd.h>
+
+static int has_had_theirs; /* whether a pipe has had such a number */
+
+static int test_pipe2(int ends[2], int flags) {
+    const int answer = pipe2(ends, flags);
+    if (answer == 0 && (ends[0] <= STDERR_FILENO || ends[1] <= STDERR_FILENO)) has_had_theirs = 1;
+    return answer;
+}
+
+#define pipe2 test_pipe2
+#include "cvec_client.c"
+#undef pipe2
 
 enum { SEATS = 3 };
 
@@ -21,7 +31,9 @@ int main(int argc, char **argv) {
     if (cvec_server_start(&server, argv[1], "u64", argv[2], SEATS)) return 3;
     for (int k = 0; k < SEATS; k++)
         if (!is_behind_streams(&server.seats[k])) return 4;
-    if (write(STDOUT_FILENO, "a line\n", 7) != -1 || errno != EBADF) return 5;
+    if (has_had_theirs) return 5;
+    for (int stream = STDOUT_FILENO; stream <= STDERR_FILENO; stream++)
+        if (write(stream, "a line\n", 7) != -1 || errno != EBADF) return 5;
     for (int k = 0; k < SEATS; k++) {
         if (cvec_seat_grow(&server.seats[k], &record, 1, &number, &start)) return 6;
         if (cvec_seat_await(&server.seats[k], &settled)) return 7;

@@ -393,7 +393,7 @@ a_client_that_is_killed_ends_its_server() (
 
 a_client_in_c_is_beside_the_standard_streams() (
     has_tables || exit $is_skipped
-    cc -std=c99 -O2 -Wall -Wextra -Werror "-I$c" -o "$work/closed" "$bindings/closed.c" "$c/cvec_client.c"
+    cc -std=c99 -O2 -Wall -Wextra -Werror "-I$c" -o "$work/closed" "$bindings/closed.c"
     run create u64 "$work/t.cv"
     status=0
     timeout 20 "$work/closed" "$top/cvec" "$work/t.cv" || status=$?
