@@ -29,6 +29,7 @@ struct cvec_vector {
     cvec_vector_seat *first; /* of the seats that aren't closed */
     uint32_t seats;          /* so many these are */
     uint32_t flushers;       /* whose loops run */
+    uint32_t asking;         /* so many calls wait for a commit of one of them, and are by no seat */
     uint32_t waiting;        /* so many wait for the commit that is under way */
     uint32_t woken;          /* so many haven't come again of those that the last one woke, and who made it */
     uint64_t written;        /* so many bytes it wrote: who commits has it too */
@@ -426,9 +427,12 @@ static uint32_t settle_listed(cvec_vector *vector) {
     return told(vector, answer == CVEC_DONE ? cvec_phase_settle(&vector->committer, &durable) : answer);
 }
 
-/* A loop of a flusher may commit, though no seat is taken. Meanwhile it hasn't got the mutex. */
+/* A loop of a flusher may commit, though no seat is taken. Meanwhile it hasn't got the mutex. No seat tells a close of who waits
+ * here, and it would free the vector under them: they are counted until they have the mutex, which they keep from then on. */
 static void await_commit(cvec_vector *vector) {
+    vector->asking++;
     while (vector->committing && vector->seats == 0) pthread_cond_wait(&vector->settled, &vector->mutex);
+    vector->asking--;
 }
 
 /* While nobody commits: commits all growths, closes the phase, and has the vector alone. */
@@ -733,7 +737,7 @@ static void end_flushers(cvec_vector *vector) {
 uint32_t cvec_vector_close(cvec_vector *vector) {
     if (vector->process != this_process()) return leave(vector);
     pthread_mutex_lock(&vector->mutex);
-    bool busy = vector->seats > 0;
+    bool busy = vector->seats > 0 || vector->asking > 0;
     if (!busy) end_flushers(vector);
     uint32_t answer = busy ? CVEC_BUSY : vector->broken ? CVEC_BROKEN : commit_all(vector);
     pthread_mutex_unlock(&vector->mutex);

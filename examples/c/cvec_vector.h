@@ -56,8 +56,9 @@ uint32_t cvec_vector_create(cvec_vector **vector, const char *path, uint8_t vers
 uint32_t cvec_vector_open(cvec_vector **vector, const char *path, uint16_t seats);
 
 /* Ends the loops of flushers and waits for these, commits what was grown, and closes the file. CVEC_BUSY, and nothing ends or
- * is closed, while a seat isn't closed. Whatever else it answers, the vector is gone; another number than CVEC_DONE says that
- * growths nobody awaited may be lost. */
+ * is closed, while a seat isn't closed, or a call by no seat waits for a flusher's commit. Whatever else it answers, the vector is
+ * gone; another number than CVEC_DONE says that growths nobody awaited may be lost. But for such a call and for loops of flushers
+ * that have begun, no call may be under way beside it, or begin. */
 uint32_t cvec_vector_close(cvec_vector *vector);
 
 /* Which file it is: the number of its device, and its own there. One that is put in its place has another. */

@@ -67,9 +67,12 @@ static void nap(void) {
     nanosleep(&time, NULL);
 }
 
+static int wait_opens_gate; /* whether who waits opens the gate for whom it waits */
+
 /* While `dozing` is set, who was woken gets the mutex only after others that want it. */
 static int test_wait(pthread_cond_t *condition, pthread_mutex_t *mutex) {
     __atomic_add_fetch(&waits, 1, __ATOMIC_SEQ_CST);
+    if (__atomic_load_n(&wait_opens_gate, __ATOMIC_SEQ_CST)) shut_gate(0);
     int answer = pthread_cond_wait(condition, mutex);
     if (__atomic_load_n(&dozing, __ATOMIC_SEQ_CST) == 0) return answer;
     pthread_mutex_unlock(mutex);
@@ -1097,7 +1100,8 @@ static void *run_take_seat(void *answer) {
     return NULL;
 }
 
-/* What this call answers, of a vector that has no seat to give: it waits for a flusher that commits, and makes no call itself. */
+/* What this call answers, of a vector that has no seat to give: it waits for a flusher that commits, and makes no call itself.
+ * Meanwhile a close is refused, which ends no loop. */
 static uint32_t waits_for_flusher(void *(*call)(void *)) {
     pthread_t flusher, caller;
     uint32_t answer = CVEC_BUSY;
@@ -1108,6 +1112,11 @@ static uint32_t waits_for_flusher(void *(*call)(void *)) {
     pthread_create(&caller, NULL, call, &answer);
     while (__atomic_load_n(&waits, __ATOMIC_SEQ_CST) == before && holds() < 2) nap();
     HOLDS(holds() == 1);
+    __atomic_store_n(&wait_opens_gate, 1, __ATOMIC_SEQ_CST);
+    HOLDS(cvec_vector_close(vector) == CVEC_BUSY);
+    if (wrong) exit(1);
+    __atomic_store_n(&wait_opens_gate, 0, __ATOMIC_SEQ_CST);
+    HOLDS(holds() == 1 && flushers() == 1);
     shut_gate(0);
     pthread_join(caller, NULL);
     HOLDS(cvec_vector_stop_flusher(vector) == CVEC_DONE && end_of_flusher(flusher) == CVEC_DONE);
