@@ -246,16 +246,21 @@ static uint32_t lock_by(int fd, int operation) {
     return errno == EWOULDBLOCK ? CVEC_IN_USE : CVEC_DISK_OPEN;
 }
 
+/* The whole time of a turn, whichever signals come: a timer's would else cut all turns short. */
+static void wait_a_turn(void) {
+    struct timespec left = {0, LOCK_WAIT};
+    while (nanosleep(&left, &left) != 0 && errno == EINTR) {}
+}
+
 /* Commands that only read share the lock, and have it for moments: where it can be shared, it is tried again. */
 static uint32_t lock(int fd, int *turns) {
-    const struct timespec wait = {0, LOCK_WAIT};
     for (;; ++*turns) {
         uint32_t answer = lock_by(fd, LOCK_EX);
         if (answer != CVEC_IN_USE || *turns >= LOCK_TURNS) return answer;
         answer = lock_by(fd, LOCK_SH);
         if (answer == CVEC_DONE) answer = lock_by(fd, LOCK_UN);
         if (answer != CVEC_DONE) return answer;
-        nanosleep(&wait, NULL);
+        wait_a_turn();
     }
 }
 

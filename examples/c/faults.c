@@ -43,12 +43,22 @@ static int faulty_open(const char *path, int flags, mode_t mode) {
     return fd;
 }
 
-/* While a reader has a lock, a sleep takes no time: in it a file gets another name, and the lock ends. */
-static int reader = -1;
+/* While a reader has a lock, a sleep takes no time: in it a file gets another name, and the lock ends. Before, so many signals
+ * come, each in the midst of a sleep; and so many nanoseconds were slept. */
+static int reader = -1, signals;
+static long slept;
 static const char *moved_from, *moved_to;
 
 static int faulty_nanosleep(const struct timespec *time, struct timespec *left_over) {
+    const long all = time->tv_nsec, half = all / 2;
     if (reader < 0) return nanosleep(time, left_over);
+    slept += signals > 0 ? half : all;
+    if (signals > 0) {
+        signals--;
+        if (left_over != NULL) left_over->tv_nsec = all - half;
+        errno = EINTR;
+        return -1;
+    }
     rename(moved_from, moved_to);
     return flock(reader, LOCK_UN);
 }
@@ -173,6 +183,23 @@ static int opens_what_has_the_name(const char *path) {
     return status == CVEC_DONE && found(path) == 4;
 }
 
+/* Whether signals cut no turn short for which a lock is waited. */
+static int waits_whole_turns(const char *path) {
+    cvec_fault fault;
+    cvec_file file;
+    if (!is_made(path, 1)) return 0;
+    reader = open(path, O_RDONLY);
+    if (flock(reader, LOCK_SH) != 0) return 0;
+    moved_from = moved_to = path;
+    signals = 3;
+    slept = 0;
+    uint32_t status = cvec_open(&file, path, CVEC_U64, &fault);
+    close(reader);
+    reader = -1;
+    cvec_close(&file);
+    return status == CVEC_DONE && signals == 0 && slept == LOCK_WAIT;
+}
+
 /* Whether an append that has another flag than 0 or 1 is refused, and one behind it goes on where that would have. */
 static int takes_no_other_flag(const char *path) {
     const uint8_t other = 2;
@@ -222,6 +249,7 @@ int main(int argc, char **argv) {
                  {tells_of_a_folder_that_is_shut, "a folder that can't be read passes for one whose sync has failed"},
                  {stays_behind_streams, "a file has the number of a standard stream"},
                  {opens_what_has_the_name, "a file that has the name no more takes records"},
+                 {waits_whole_turns, "signals cut short how long a lock is waited for"},
                  {takes_no_other_flag, "a flag is neither 0 nor 1"}};
     if (argc != 2) return 2;
     const int calls = loses_nothing(argv[1]);

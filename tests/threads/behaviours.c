@@ -144,12 +144,27 @@ static int test_open(const char *path, int flags, mode_t mode) {
 }
 
 /* While a reader has a lock, a sleep takes no time, and ends that lock where so many have been made. Before, a file may get
- * another name. */
+ * another name. Signals may cut sleeps, each behind 6 milliseconds; it is counted how many were slept. */
 static int reader = -1, naps, naps_of_reader;
 static const char *moved_from, *moved_to;
+static int naps_are_cut, slept;
+
+/* Whether a signal cuts the sleep of this time, and what of it is left then. */
+static int is_cut(const struct timespec *time, struct timespec *left_over) {
+    const long all = time->tv_nsec, piece = 6000000;
+    if (!naps_are_cut || all <= piece) {
+        slept += (int)(all / 1000000);
+        return 0;
+    }
+    slept += (int)(piece / 1000000);
+    if (left_over != NULL) left_over->tv_nsec = all - piece;
+    errno = EINTR;
+    return 1;
+}
 
 static int test_nanosleep(const struct timespec *time, struct timespec *left_over) {
     if (reader < 0 && replaced_path == NULL) return nanosleep(time, left_over);
+    if (is_cut(time, left_over)) return -1;
     if (++naps == naps_of_reader) {
         if (moved_from != NULL) rename(moved_from, moved_to);
         flock(reader, LOCK_UN);
@@ -270,6 +285,11 @@ static void readers(const char *path) {
     HOLDS(cvec_vector_close(vector) == CVEC_DONE);
     HOLDS(beside_reader(opens_it, path, LOCK_SH, 0) == CVEC_IN_USE && naps == 500);
     HOLDS(beside_reader(opens_it, path, LOCK_EX, 0) == CVEC_IN_USE && naps == 0);
+    /* Also where signals come, it is waited for 10 seconds. */
+    naps_are_cut = 1;
+    slept = 0;
+    HOLDS(beside_reader(opens_it, path, LOCK_SH, 0) == CVEC_IN_USE && naps == 500 && slept == 10000);
+    naps_are_cut = 0;
     HOLDS(found(path) == 0);
 }
 
