@@ -5,6 +5,7 @@
 
 #include <errno.h>
 #include <fcntl.h>
+#include <signal.h>
 #include <stdlib.h>
 #include <string.h>
 #include <sys/file.h>
@@ -169,7 +170,7 @@ static uint32_t length_of(int fd, uint64_t *len) {
     return CVEC_DONE;
 }
 
-static uint32_t write_at(int fd, uint64_t at, const uint8_t *bytes, size_t len) {
+static uint32_t write_whole(int fd, uint64_t at, const uint8_t *bytes, size_t len) {
     while (len > 0) {
         ssize_t done = pwrite(fd, bytes, len, (off_t)at);
         if (was_interrupted(done)) continue;
@@ -180,6 +181,24 @@ static uint32_t write_at(int fd, uint64_t at, const uint8_t *bytes, size_t len) 
         len -= (size_t)done;
     }
     return CVEC_DONE;
+}
+
+/* A write past the greatest size of a file raises SIGXFSZ, which would end the process: it is held back in this thread, and
+ * taken, so that the write fails by EFBIG alone. */
+static uint32_t write_at(int fd, uint64_t at, const uint8_t *bytes, size_t len) {
+    sigset_t too_large, before, pending;
+    const struct timespec now = {0, 0};
+    sigemptyset(&too_large);
+    sigaddset(&too_large, SIGXFSZ);
+    sigpending(&pending);
+    pthread_sigmask(SIG_BLOCK, &too_large, &before);
+    uint32_t answer = write_whole(fd, at, bytes, len);
+    int why = errno;
+    if (answer != CVEC_DONE && !sigismember(&pending, SIGXFSZ))
+        while (sigtimedwait(&too_large, NULL, &now) < 0 && errno == EINTR) {}
+    pthread_sigmask(SIG_SETMASK, &before, NULL);
+    errno = why;
+    return answer;
 }
 
 /* A file that ends before that was cut meanwhile. */

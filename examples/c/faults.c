@@ -1,13 +1,16 @@
 /* A test of cvec_file.c: every call of the system fails once, and what the file has then is what it had before the function
- * that was running, or what it has after; a forked process is refused, no file has the number of a standard stream, what is
- * opened has the name, and no record has another flag than 0 or 1. Prints the calls of a run in which none fails: ./faults FILE */
+ * that was running, or what it has after; a forked process is refused, no file ever has the number of a standard stream, no write
+ * past the limit of a file's size ends the process, what is opened has the name, signals cut short no wait for a lock, and no
+ * record has another flag than 0 or 1. Prints the calls of a run in which none fails: ./faults FILE */
 #define _DEFAULT_SOURCE 1
 #include <errno.h>
 #include <fcntl.h>
 #include <limits.h>
+#include <signal.h>
 #include <stdio.h>
 #include <string.h>
 #include <sys/file.h>
+#include <sys/resource.h>
 #include <sys/types.h>
 #include <sys/wait.h>
 #include <time.h>
@@ -148,12 +151,30 @@ static int is_behind_streams(const char *path) {
     return file.fd > STDERR_FILENO && fcntl(file.fd, F_GETFD) == FD_CLOEXEC;
 }
 
-static int stays_behind_streams(const char *path) {
+/* In a process whose files may be no larger than this: whether an append past that is refused, and no signal is held back behind
+ * it. */
+static int is_refused_past_the_limit(const char *path) {
+    static const uint64_t many[1024];
+    struct rlimit most;
+    sigset_t held_back;
+    cvec_file file;
+    if (cvec_create(&file, path, CVEC_U64) != CVEC_DONE || getrlimit(RLIMIT_FSIZE, &most) != 0) return 0;
+    most.rlim_cur = 4096;
+    if (setrlimit(RLIMIT_FSIZE, &most) != 0 || cvec_append(&file, many, 1024) != CVEC_DISK_WRITE || errno != EFBIG) return 0;
+    if (pthread_sigmask(SIG_BLOCK, NULL, &held_back) != 0 || sigismember(&held_back, SIGXFSZ)) return 0;
+    return cvec_append(&file, numbers, 1) == CVEC_BROKEN;
+}
+
+static int holds_in_a_child(int (*holds)(const char *), const char *path) {
     int status = 1;
     pid_t child = fork();
-    if (child == 0) _exit(is_behind_streams(path) ? 0 : 1);
+    if (child == 0) _exit(holds(path) ? 0 : 1);
     return child > 0 && waitpid(child, &status, 0) == child && status == 0;
 }
+
+static int stays_behind_streams(const char *path) { return holds_in_a_child(is_behind_streams, path); }
+
+static int lives_past_the_limit(const char *path) { return holds_in_a_child(is_refused_past_the_limit, path); }
 
 /* A file with these first numbers. */
 static int is_made(const char *path, size_t count) {
@@ -248,6 +269,7 @@ int main(int argc, char **argv) {
     } rules[] = {{stays_of_one_process, "a forked process has the file too"},
                  {tells_of_a_folder_that_is_shut, "a folder that can't be read passes for one whose sync has failed"},
                  {stays_behind_streams, "a file has the number of a standard stream"},
+                 {lives_past_the_limit, "a write past the limit of a file's size ends the process"},
                  {opens_what_has_the_name, "a file that has the name no more takes records"},
                  {waits_whole_turns, "signals cut short how long a lock is waited for"},
                  {takes_no_other_flag, "a flag is neither 0 nor 1"}};
