@@ -266,7 +266,7 @@ static uint32_t open_by(cvec_file *file, const char *path, cvec_type type, int f
     return file->fd < 0 ? CVEC_DISK_OPEN : CVEC_DONE;
 }
 
-/* Whether the path leads to this file. */
+/* Whether the path leads to this file. Where it leads to nothing it doesn't; any other failure is none of the name. */
 static uint32_t ask_name(const char *path, int fd, bool *leads_here) {
     struct stat opened, named;
     int done;
@@ -275,12 +275,13 @@ static uint32_t ask_name(const char *path, int fd, bool *leads_here) {
     if (done != 0) return CVEC_DISK_LENGTH;
     do done = stat(path, &named);
     while (was_interrupted(done));
+    if (done != 0 && errno != ENOENT && errno != ENOTDIR) return CVEC_DISK_OPEN;
     *leads_here = done == 0 && named.st_dev == opened.st_dev && named.st_ino == opened.st_ino;
     return CVEC_DONE;
 }
 
 /* Opens and locks the file to which the path leads then. While a lock is waited for another may be put in its place: what is
- * written to the one from before would be lost. */
+ * written to the one from before would be lost. Each such time takes a turn, as each try of a lock does. */
 static uint32_t open_locked(cvec_file *file, const char *path, cvec_type type, int flags) {
     for (int turns = 0;; turns++) {
         bool leads_here = false;
@@ -290,6 +291,7 @@ static uint32_t open_locked(cvec_file *file, const char *path, cvec_type type, i
         if (answer != CVEC_DONE || leads_here) return answer;
         if (turns >= LOCK_TURNS) return CVEC_IN_USE;
         close_quietly(file->fd);
+        wait_a_turn();
     }
 }
 

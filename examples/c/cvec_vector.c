@@ -598,7 +598,7 @@ static bool is_no_file(const char *path) {
     return stat(path, &found) == 0 && !S_ISREG(found.st_mode);
 }
 
-/* Whether the path leads to this file. */
+/* Whether the path leads to this file. Where it leads to nothing it doesn't; any other failure is none of the name. */
 static uint32_t ask_name(const char *path, int fd, bool *leads_here) {
     struct stat opened, named;
     int done;
@@ -607,12 +607,13 @@ static uint32_t ask_name(const char *path, int fd, bool *leads_here) {
     if (done != 0) return CVEC_DISK_LENGTH;
     do done = stat(path, &named);
     while (was_interrupted(done));
+    if (done != 0 && errno != ENOENT && errno != ENOTDIR) return CVEC_DISK_OPEN;
     *leads_here = done == 0 && named.st_dev == opened.st_dev && named.st_ino == opened.st_ino;
     return CVEC_DONE;
 }
 
 /* Opens and locks the file to which the path leads then. While a lock is waited for another may be put in its place: what is
- * written to the one from before would be lost. */
+ * written to the one from before would be lost. Each such time takes a turn, as each try of a lock does. */
 static uint32_t open_locked(const char *path, int flags, int *fd) {
     for (int turns = 0;; turns++) {
         bool leads_here = false;
@@ -625,6 +626,7 @@ static uint32_t open_locked(const char *path, int flags, int *fd) {
         if (turns >= LOCK_TURNS) return CVEC_IN_USE;
         close_quietly(*fd);
         *fd = -1;
+        wait_a_turn();
     }
 }
 

@@ -180,6 +180,14 @@ static int test_fsync(int fd) {
 
 static int test_fstat(int fd, struct stat *found) { return is_interrupted() ? -1 : fstat(fd, found); }
 
+static int stats = -1, stat_fault; /* the looks for a name that pass before one fails, and why; none does below 0 */
+
+static int test_stat(const char *path, struct stat *found) {
+    if (stats < 0 || stats-- > 0) return stat(path, found);
+    errno = stat_fault;
+    return -1;
+}
+
 static void *test_malloc(size_t len) { return mallocs >= 0 && mallocs-- == 0 ? NULL : malloc(len); }
 
 #define malloc test_malloc
@@ -188,6 +196,7 @@ static void *test_malloc(size_t len) { return mallocs >= 0 && mallocs-- == 0 ? N
 #define fdatasync test_fdatasync
 #define fsync test_fsync
 #define fstat test_fstat
+#define stat(path, found) test_stat(path, found) /* but not the type */
 #define open test_open
 #define pthread_cond_timedwait test_timedwait
 #define pthread_cond_wait test_wait
@@ -200,6 +209,7 @@ static void *test_malloc(size_t len) { return mallocs >= 0 && mallocs-- == 0 ? N
 #undef fdatasync
 #undef fsync
 #undef fstat
+#undef stat
 #undef open
 
 static int wrong;
@@ -302,6 +312,23 @@ static uint32_t beside_move(uint32_t (*call)(const char *), const char *path, co
     return answer;
 }
 
+/* The second look is for the name of what is locked. Where there is none then the file is opened again; any other failure says
+ * nothing of the name. */
+static void looks_for_its_name(const char *path) {
+    static const struct {
+        int fault;
+        uint32_t answer;
+    } looks[] = {{ENOENT, CVEC_DONE}, {ENOTDIR, CVEC_DONE}, {EACCES, CVEC_DISK_OPEN}, {EIO, CVEC_DISK_OPEN}};
+    remove(path);
+    for (size_t k = 0; k < sizeof looks / sizeof *looks; k++) {
+        stats = 1;
+        stat_fault = looks[k].fault;
+        HOLDS(cvec_vector_create(&vector, path, 1, 1) == looks[k].answer && stats == -1);
+        HOLDS(looks[k].answer == CVEC_DONE || (vector == NULL && errno == looks[k].fault));
+        HOLDS(vector == NULL || (cvec_vector_close(vector) == CVEC_DONE && remove(path) == 0));
+    }
+}
+
 /* The file is opened that has the name once its lock is had, whichever had it before. */
 static void replaced(const char *path) {
     char other[4096];
@@ -325,9 +352,11 @@ static void replaced(const char *path) {
     HOLDS(cvec_vector_close(vector) == CVEC_DONE && found(path) == 0);
     /* Or another each time: it is tried as often as a lock is. */
     replaced_path = path;
-    opens = 0;
+    opens = naps = slept = 0;
     HOLDS(cvec_vector_open(&vector, path, 1) == CVEC_IN_USE && vector == NULL && opens == 501);
+    HOLDS(naps == 500 && slept == 10000);
     replaced_path = NULL;
+    looks_for_its_name(path);
 }
 
 /* Each standard stream can't be read or written, and a program that is run hasn't got it. */
