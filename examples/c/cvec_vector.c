@@ -968,6 +968,7 @@ uint32_t cvec_vector_pushed(cvec_vector_seat *seat, const void **records, size_t
 
 /* What can't be grown goes with the seat: else a seat of a full or a broken vector could never be closed, nor the vector. */
 uint32_t cvec_vector_close_seat(cvec_vector_seat *seat) {
+    if (seat == NULL) return CVEC_NOT_SO;
     uint32_t answer = enter(seat);
     if (answer != CVEC_DONE) return answer;
     cvec_vector *vector = seat->vector;

@@ -74,7 +74,7 @@ uint32_t cvec_vector_take_seat(cvec_vector *vector, cvec_vector_seat **seat);
 
 /* Grows by what was pushed and still waits, and gives the seat up. Its growths stay. CVEC_BUSY, CVEC_FORKED: it stays. Whatever
  * else it answers, the seat is gone; another number than CVEC_DONE says why what waited wasn't grown, and is lost: who can't
- * lose that calls cvec_vector_grow_pushed before. */
+ * lose that calls cvec_vector_grow_pushed before. NULL, as a seat that was refused is, is CVEC_NOT_SO. */
 uint32_t cvec_vector_close_seat(cvec_vector_seat *seat);
 
 /* Grows by copies of these records, as one block behind all that was grown before: all of them are in the vector, in a row,

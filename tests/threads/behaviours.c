@@ -592,6 +592,7 @@ static void refusals(const char *path) {
     HOLDS(vector == NULL && access(path, F_OK) != 0);
     make(path, 1);
     HOLDS(cvec_vector_take_seat(vector, &second) == CVEC_NOT_SO && second == NULL);
+    HOLDS(cvec_vector_close_seat(second) == CVEC_NOT_SO);
     HOLDS(cvec_vector_grow(seat, many, 0, &receipt) == CVEC_EMPTY);
     HOLDS(cvec_vector_grow(seat, many, 131072, &receipt) == CVEC_TOO_LARGE);
     HOLDS(receipt.number == 9 && receipt.start == 9 && receipt.len == 9);
