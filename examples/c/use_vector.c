@@ -11,6 +11,7 @@ enum { BLOCK = 3, MOST_THREADS = 64 };
 
 struct job {
     cvec_vector_seat *seat;
+    pthread_t thread;
     uint64_t name, growths;
     uint32_t status;
 };
@@ -33,21 +34,34 @@ static void *run(void *work) {
     return NULL;
 }
 
-/* Runs all threads to their ends, and answers the first refusal. */
+/* With a seat and a thread of its own. CVEC_MEMORY: the system makes no more threads. */
+static uint32_t begin(struct job *job, cvec_vector *vector) {
+    uint32_t status = cvec_vector_take_seat(vector, &job->seat);
+    if (status != CVEC_DONE || pthread_create(&job->thread, NULL, run, job) == 0) return status;
+    cvec_vector_close_seat(job->seat);
+    return CVEC_MEMORY;
+}
+
+static uint32_t end(struct job *job) {
+    pthread_join(job->thread, NULL);
+    uint32_t closed = cvec_vector_close_seat(job->seat);
+    return job->status != CVEC_DONE ? job->status : closed;
+}
+
+/* Runs the threads to their ends, as many as have begun, and answers the first refusal. */
 static uint32_t run_all(cvec_vector *vector, unsigned threads, uint64_t growths) {
     static struct job jobs[MOST_THREADS];
-    static pthread_t ids[MOST_THREADS];
     uint32_t status = CVEC_DONE;
+    unsigned begun = 0;
     for (unsigned k = 0; k < threads && status == CVEC_DONE; k++) {
-        jobs[k] = (struct job){NULL, k, growths, CVEC_DONE};
-        status = cvec_vector_take_seat(vector, &jobs[k].seat);
+        jobs[k].name = k;
+        jobs[k].growths = growths;
+        status = begin(&jobs[k], vector);
+        if (status == CVEC_DONE) begun++;
     }
-    if (status != CVEC_DONE) return status;
-    for (unsigned k = 0; k < threads; k++) pthread_create(&ids[k], NULL, run, &jobs[k]);
-    for (unsigned k = 0; k < threads; k++) {
-        pthread_join(ids[k], NULL);
-        if (status == CVEC_DONE) status = jobs[k].status;
-        cvec_vector_close_seat(jobs[k].seat);
+    for (unsigned k = 0; k < begun; k++) {
+        uint32_t ended = end(&jobs[k]);
+        if (status == CVEC_DONE) status = ended;
     }
     return status;
 }

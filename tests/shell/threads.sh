@@ -45,6 +45,27 @@ threads_of_c_grow_one_vector() (
     [ "$status" -eq 0 ]
 )
 
+# The system makes no third thread: the two before go on to their ends, and it is told (CVEC_MEMORY).
+a_thread_of_c_that_is_not_made_is_told() (
+    make_threads
+    cat >"$work/refused.c" <<'REFUSED'
+#include <errno.h>
+#include <pthread.h>
+int __real_pthread_create(pthread_t *, const pthread_attr_t *, void *(*)(void *), void *);
+int __wrap_pthread_create(pthread_t *thread, const pthread_attr_t *how, void *(*run)(void *), void *with) {
+    static int asked;
+    return ++asked == 3 ? EAGAIN : __real_pthread_create(thread, how, run, with);
+}
+REFUSED
+    compile_threads "$c/use_vector.c" "$c/cvec_vector.c" "$work/refused.c" -Wl,--wrap=pthread_create -o "$work/use"
+    status=0
+    timeout 60 "$work/use" "$work/t.cv" 8 5 >"$out" || status=$?
+    [ "$status" -eq 1 ]
+    [ "$(cat "$out")" = 6 ]
+    run list u64 "$work/t.cv"
+    [ "$(paste -d ' ' - - - <"$out" | sort -n | cut -d ' ' -f -2 | tr '\n' ';')" = '0 0;0 1;0 2;0 3;0 4;1 0;1 1;1 2;1 3;1 4;' ]
+)
+
 # Builds this program of examples/c.
 make_example() {
     has_c || exit $is_skipped
