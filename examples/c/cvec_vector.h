@@ -5,7 +5,11 @@
  * the calls of the system, and is not proved. The second part is libcvec_threads.a, which is proved: what each call makes
  * of the handle that it is passed. docs/use/threads.md tells both.
  *
- * What a function answers is a number of enum cvec_status (cvec.h) or of enum cvec_vector_status. */
+ * What a function answers is a number of enum cvec_status (cvec.h) or of enum cvec_vector_status.
+ *
+ * CVEC_MEMORY and CVEC_FILE_FULL lose no record, and the same call may be made again; but a close that answers one of them has
+ * lost what wasn't durable. Memory that is refused while the calls of a commit or of a fold are listed is CVEC_BROKEN: nothing of
+ * it was written, and what was durable is in the file, which is opened again. */
 #ifndef CVEC_VECTOR_H
 #define CVEC_VECTOR_H
 
@@ -66,7 +70,8 @@ uint32_t cvec_vector_identity(const cvec_vector *vector, uint64_t *device, uint6
 
 /* A seat, for one thread at a time. Each is given once. Where none is left and each is closed, all are given again, and growths
  * are counted from 0. So also where each is closed, and CVEC_FULL, or a call of the whole vector that had it, came between. All
- * growths from before are durable then, and a number from before names none of the new ones.
+ * growths from before are durable then, and a number from before names none of the new ones. CVEC_MEMORY may cost one seat until
+ * each is closed; where all were to be given again, it may cost the vector (CVEC_BROKEN from then on), and the file has all.
  *
  * Where such a call was refused before it had the vector, as for memory, they may be counted on. Who has awaited all sees it by
  * cvec_vector_settled, which answers 0 or as many as before. */
