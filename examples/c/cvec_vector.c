@@ -17,7 +17,7 @@
 
 struct cvec_vector {
     int fd;
-    pid_t process;
+    uint64_t process; /* in which it was begun */
     pthread_mutex_t mutex;   /* guards all below but `committer`, which who commits has */
     pthread_cond_t settled;  /* a commit has ended */
     pthread_cond_t returned; /* each that it woke has come again */
@@ -170,8 +170,11 @@ static bool has_words(const cvec_vector *vector) { return width_of(vector->type)
 
 /* ---- which process this is */
 
-/* The process's number, or 0 behind a fork: the system wipes it in the child. NULL: it is asked for each time. */
-static pid_t *noted_process;
+/* A process that uses vectors gets a number, greater than that of each from which it was forked: by the system's own, a child
+ * in a namespace of its own may have its parent's. It stands here, or 0 behind a fork, since the system wipes it in the child.
+ * NULL: there is no such memory, and the system's number is asked for each time. */
+static uint64_t *noted_process;
+static uint64_t last_process; /* the greatest that was taken, by __atomic: a child goes on from its copy */
 static pthread_once_t noting = PTHREAD_ONCE_INIT;
 
 static void note_process(void) {
@@ -185,15 +188,16 @@ static void note_process(void) {
 #endif
 }
 
-/* As getpid, but mostly without a call of the system. */
-static pid_t this_process(void) {
-    if (noted_process == NULL) return getpid();
-    pid_t process = __atomic_load_n(noted_process, __ATOMIC_RELAXED);
-    if (process == 0) {
-        process = getpid();
-        __atomic_store_n(noted_process, process, __ATOMIC_RELAXED);
-    }
-    return process;
+/* The same in each call by a process, without a call of the system. Of threads that come first at once the number of one stays,
+ * and the others take it. Who reads it knows that it was taken: so each copy of it that a child gets is no greater than the
+ * child's `last_process`. */
+static uint64_t this_process(void) {
+    if (noted_process == NULL) return (uint64_t)getpid();
+    uint64_t process = __atomic_load_n(noted_process, __ATOMIC_ACQUIRE);
+    if (process != 0) return process;
+    const uint64_t fresh = __atomic_add_fetch(&last_process, 1, __ATOMIC_RELAXED);
+    const bool stays = __atomic_compare_exchange_n(noted_process, &process, fresh, false, __ATOMIC_ACQ_REL, __ATOMIC_ACQUIRE);
+    return stays ? fresh : process;
 }
 
 /* ---- calls of the system, each made whole */

@@ -188,8 +188,13 @@ static int test_stat(const char *path, struct stat *found) {
     return -1;
 }
 
+static pid_t number_of_all; /* the number that each process has, or 0: each its own */
+
+static pid_t test_getpid(void) { return number_of_all != 0 ? number_of_all : getpid(); }
+
 static void *test_malloc(size_t len) { return mallocs >= 0 && mallocs-- == 0 ? NULL : malloc(len); }
 
+#define getpid test_getpid
 #define malloc test_malloc
 #define nanosleep test_nanosleep
 #define pwrite test_pwrite
@@ -204,6 +209,7 @@ static void *test_malloc(size_t len) { return mallocs >= 0 && mallocs-- == 0 ? N
 #undef pthread_cond_wait
 #undef pthread_cond_timedwait
 #undef malloc
+#undef getpid
 #undef nanosleep
 #undef pwrite
 #undef fdatasync
@@ -457,17 +463,41 @@ static int has_its_own_in_a_fork(const char *path) {
            cvec_vector_close(vector) == CVEC_DONE;
 }
 
+static void *run_this_process(void *number) {
+    *(uint64_t *)number = this_process();
+    return NULL;
+}
+
+/* Threads of the child that come first at once have one number, and it isn't that of its parent, nor is a grandchild's. */
+static int has_one_number_in_a_fork(void) {
+    enum { THREADS = 8 };
+    uint64_t numbers[THREADS];
+    pthread_t threads[THREADS];
+    int status = 1, differ = 0;
+    for (int k = 0; k < THREADS; k++) pthread_create(&threads[k], NULL, run_this_process, &numbers[k]);
+    for (int k = 0; k < THREADS; k++) pthread_join(threads[k], NULL);
+    for (int k = 0; k < THREADS; k++) differ |= numbers[k] != this_process();
+    const pid_t child = fork();
+    if (child == 0) _exit(this_process() != numbers[0] && this_process() != vector->process ? 0 : 1);
+    return waitpid(child, &status, 0) == child && status == 0 && !differ && numbers[0] != vector->process;
+}
+
+/* Also where the system's number of the child is that of its parent, as in a namespace of its own. */
 static void forks(const char *path) {
     const uint64_t pushed = 1;
     uint64_t number = 0;
     int status = 1;
     make(path, 2);
+    if (noted_process != NULL) number_of_all = getpid();
     HOLDS(cvec_vector_push(seat, &pushed) == CVEC_DONE);
     pid_t child = fork();
     if (child == 0) _exit(is_refused_in_a_fork() ? 0 : 1);
     HOLDS(waitpid(child, &status, 0) == child && status == 0);
     child = fork();
     if (child == 0) _exit(has_its_own_in_a_fork(path) ? 0 : 1);
+    HOLDS(waitpid(child, &status, 0) == child && status == 0);
+    child = fork();
+    if (child == 0) _exit(noted_process == NULL || has_one_number_in_a_fork() ? 0 : 1);
     HOLDS(waitpid(child, &status, 0) == child && status == 0);
     HOLDS(grow(0, &number) == CVEC_DONE);
     HOLDS(cvec_vector_close_seat(seat) == CVEC_DONE);
