@@ -9,6 +9,7 @@
 #include <stdlib.h>
 #include <string.h>
 #include <sys/file.h>
+#include <sys/mman.h>
 #include <sys/stat.h>
 #include <sys/statvfs.h>
 #include <time.h>
@@ -89,6 +90,47 @@ static bool are_records(cvec_type type, const void *records, size_t count) {
     for (size_t k = 0; k < count; k++, flag += sizeof(cvec_flagged))
         if (*flag > 1) return false;
     return true;
+}
+
+/* ---- which process this is */
+
+/* A process that uses files gets a number, greater than that of each from which it was forked: by the system's own, a child in a
+ * namespace of its own may have its parent's. It stands here, or 0 behind a fork, since the system wipes it in the child.
+ * &no_process: there is no such memory, and the system's number is asked for each time. NULL: neither is known yet. */
+static int *noted_process;
+static int no_process;
+static int last_process; /* the greatest that was taken, by __atomic: a child goes on from its copy */
+
+static int *new_note(void) {
+#ifdef MADV_WIPEONFORK
+    void *page = mmap(NULL, sizeof *noted_process, PROT_READ | PROT_WRITE, MAP_PRIVATE | MAP_ANONYMOUS, -1, 0);
+    if (page == MAP_FAILED) return &no_process;
+    if (madvise(page, sizeof *noted_process, MADV_WIPEONFORK) == 0) return page;
+    munmap(page, sizeof *noted_process);
+#endif
+    return &no_process;
+}
+
+/* Of threads that come first at once the memory of one stays, and the others take it. So with the number below. */
+static int *note_of_process(void) {
+    int *note = __atomic_load_n(&noted_process, __ATOMIC_ACQUIRE);
+    if (note != NULL) return note;
+    int *fresh = new_note();
+    if (__atomic_compare_exchange_n(&noted_process, &note, fresh, false, __ATOMIC_ACQ_REL, __ATOMIC_ACQUIRE)) return fresh;
+    if (fresh != &no_process) munmap(fresh, sizeof *fresh);
+    return note;
+}
+
+/* The same in each call by a process. Who reads it knows that it was taken: so each copy of it that a child gets is no greater
+ * than the child's `last_process`. */
+static int this_process(void) {
+    int *note = note_of_process();
+    if (note == &no_process) return (int)getpid();
+    int process = __atomic_load_n(note, __ATOMIC_ACQUIRE);
+    if (process != 0) return process;
+    const int fresh = __atomic_add_fetch(&last_process, 1, __ATOMIC_RELAXED);
+    const bool stays = __atomic_compare_exchange_n(note, &process, fresh, false, __ATOMIC_ACQ_REL, __ATOMIC_ACQUIRE);
+    return stays ? fresh : process;
 }
 
 /* ---- the calls */
@@ -260,7 +302,7 @@ static uint32_t open_by(cvec_file *file, const char *path, cvec_type type, int f
     memset(file, 0, sizeof *file);
     file->fd = -1;
     file->type = type;
-    file->process = (int)getpid();
+    file->process = this_process();
     if (is_no_file(path)) return CVEC_NOT_FILE;
     file->fd = open_path(path, flags);
     return file->fd < 0 ? CVEC_DISK_OPEN : CVEC_DONE;
@@ -308,7 +350,7 @@ static uint32_t open_alone(cvec_file *file, const char *path, cvec_type type, in
 /* Why no call may be made on the file, if none may. The lock is that of a forked process too, so it stops neither. */
 static uint32_t refusal_of(const cvec_file *file) {
     if (file->fd < 0 || file->broken) return CVEC_BROKEN;
-    return file->process == (int)getpid() ? CVEC_DONE : CVEC_FORKED;
+    return file->process == this_process() ? CVEC_DONE : CVEC_FORKED;
 }
 
 /* The bytes of a file, read into memory: of a device that fails a map would end the process. */

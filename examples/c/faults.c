@@ -37,6 +37,10 @@ static int faulty_sync(int fd, int (*sync)(int), const char *name) {
 static int faulty_fdatasync(int fd) { return faulty_sync(fd, fdatasync, "sync"); }
 static int faulty_fsync(int fd) { return faulty_sync(fd, fsync, "sync of the folder"); }
 
+static pid_t number_of_all; /* the number that each process has, or 0: each its own */
+
+static pid_t faulty_getpid(void) { return number_of_all != 0 ? number_of_all : getpid(); }
+
 /* Whether no folder may be read, and the least number that a file had at first. */
 static int folders_are_shut, least_number;
 
@@ -66,12 +70,14 @@ static int faulty_nanosleep(const struct timespec *time, struct timespec *left_o
     return flock(reader, LOCK_UN);
 }
 
+#define getpid faulty_getpid
 #define nanosleep faulty_nanosleep
 #define open faulty_open
 #define pwrite faulty_pwrite
 #define fdatasync faulty_fdatasync
 #define fsync faulty_fsync
 #include "cvec_file.c"
+#undef getpid
 #undef nanosleep
 #undef open
 #undef pwrite
@@ -117,13 +123,16 @@ static int is_refused(cvec_file *file) {
     return appended == CVEC_FORKED && read == CVEC_FORKED;
 }
 
-/* Whether a file whose process has forked has what that appended then. */
+/* Whether a file whose process has forked has what that appended then, also where the system's number of the child is its own, as
+ * in a namespace. */
 static int stays_of_one_process(const char *path) {
     cvec_file file;
     int status = 1;
     if (cvec_create(&file, path, CVEC_U64) != CVEC_DONE) return 0;
+    if (noted_process != &no_process) number_of_all = getpid();
     pid_t child = fork();
     if (child == 0) _exit(is_refused(&file) ? 0 : 1);
+    number_of_all = 0;
     if (child < 0 || waitpid(child, &status, 0) != child) return 0;
     uint32_t appended = cvec_append(&file, numbers, 3);
     cvec_close(&file);
