@@ -46,7 +46,7 @@ enum cvec_status {
     CVEC_IN_USE = 33,      /* open already by cvec_create or cvec_open, in this process too, or locked (flock) otherwise. A lock
                               that readers share is waited for, 10 seconds: what is opened has the name then */
     CVEC_BROKEN = 34,      /* a write or a sync has failed on this file before. Open it again; after a sync, restart first */
-    CVEC_DISK_OPEN = 35,   /* a call of the system failed, errno says why: open, or flock */
+    CVEC_DISK_OPEN = 35,   /* a call of the system failed, errno says why: open, flock, or stat of the name */
     CVEC_DISK_LENGTH = 36, /* fstat */
     CVEC_DISK_READ = 37,   /* pread */
     CVEC_DISK_WRITE = 38,  /* pwrite */

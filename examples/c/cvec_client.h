@@ -60,7 +60,9 @@ struct cvec_server {
 
 /* Starts `program serve type file --seats=count`, with /dev/null as its standard input and output, in a session of its own: a
  * terminal's Ctrl-C reaches the client alone, and the server ends when its seats have ended, or their clients. -1: see errno.
- * A program that can't be run shows as a server that has ended, with status 127. */
+ * A program that can't be run shows as a server that has ended, with status 127. Standard streams that are closed here get
+ * /dev/null, where to read and to print fails as before: else a pipe might have their numbers, and get what another thread
+ * prints. */
 int cvec_server_start(struct cvec_server *server, const char *program, const char *type, const char *file, int count);
 
 /* A seat of a server that another program started, by its descriptors here. -1: there is no such type of records. */
