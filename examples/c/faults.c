@@ -11,6 +11,7 @@
 #include <string.h>
 #include <sys/file.h>
 #include <sys/resource.h>
+#include <sys/stat.h>
 #include <sys/types.h>
 #include <sys/wait.h>
 #include <time.h>
@@ -36,6 +37,14 @@ static int faulty_sync(int fd, int (*sync)(int), const char *name) {
 
 static int faulty_fdatasync(int fd) { return faulty_sync(fd, fdatasync, "sync"); }
 static int faulty_fsync(int fd) { return faulty_sync(fd, fsync, "sync of the folder"); }
+
+static int looks = -1, why_no_look; /* the looks for a name that pass before one fails, and why; none does below 0 */
+
+static int faulty_stat(const char *path, struct stat *found) {
+    if (looks < 0 || looks-- > 0) return stat(path, found);
+    errno = why_no_look;
+    return -1;
+}
 
 static pid_t number_of_all; /* the number that each process has, or 0: each its own */
 
@@ -76,6 +85,7 @@ static int faulty_nanosleep(const struct timespec *time, struct timespec *left_o
 #define pwrite faulty_pwrite
 #define fdatasync faulty_fdatasync
 #define fsync faulty_fsync
+#define stat(path, found) faulty_stat(path, found) /* but not the type */
 #include "cvec_file.c"
 #undef getpid
 #undef nanosleep
@@ -83,6 +93,7 @@ static int faulty_nanosleep(const struct timespec *time, struct timespec *left_o
 #undef pwrite
 #undef fdatasync
 #undef fsync
+#undef stat
 
 static const uint64_t numbers[] = {5, 7, 11, 13};
 
@@ -213,6 +224,19 @@ static int opens_what_has_the_name(const char *path) {
     return status == CVEC_DONE && found(path) == 4;
 }
 
+/* Whether a look for the name of what is locked, the second one, is told where it fails by more than that nothing has the name. */
+static int tells_of_a_look_that_fails(const char *path) {
+    cvec_file file;
+    looks = 1;
+    why_no_look = EIO;
+    if (cvec_create(&file, path, CVEC_U64) != CVEC_DISK_OPEN || errno != EIO || file.fd >= 0) return 0;
+    looks = 1;
+    why_no_look = ENOENT;
+    uint32_t status = cvec_create(&file, path, CVEC_U64);
+    cvec_close(&file);
+    return status == CVEC_DONE && looks == -1;
+}
+
 /* Whether signals cut no turn short for which a lock is waited. */
 static int waits_whole_turns(const char *path) {
     cvec_fault fault;
@@ -280,6 +304,7 @@ int main(int argc, char **argv) {
                  {stays_behind_streams, "a file has the number of a standard stream"},
                  {lives_past_the_limit, "a write past the limit of a file's size ends the process"},
                  {opens_what_has_the_name, "a file that has the name no more takes records"},
+                 {tells_of_a_look_that_fails, "a look for a name that fails passes for a name that is gone"},
                  {waits_whole_turns, "signals cut short how long a lock is waited for"},
                  {takes_no_other_flag, "a flag is neither 0 nor 1"}};
     if (argc != 2) return 2;
