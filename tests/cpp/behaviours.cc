@@ -723,24 +723,51 @@ static void changing_beside(const std::string &path) {
     for (std::size_t at = 2; at < found.size(); ++at) HOLDS(found[at] == 1000 * (at % 2 + 1));
 }
 
-// Changes one behind another hold no call up for long: two readers make their calls, with pauses, while they go on.
-static void reading_beside_changes(const std::string &path) {
-    numbers vector(path);
-    vector.push_back(0);
-    std::atomic<int> changed{0}, read{0};
+// So many threads make this call, each a hundred times with pauses, while others go on with theirs, which hold it up no longer
+// than 10 seconds in all.
+static void comes_soon(std::uint64_t callers, const std::function<bool()> &call, std::uint64_t others,
+                       const std::function<void()> &meanwhile) {
+    std::atomic<int> gone_on{0};
+    std::atomic<std::uint64_t> made{0};
     const auto end = std::chrono::steady_clock::now() + std::chrono::seconds(10);
-    auto is_late = [&] { return std::chrono::steady_clock::now() > end; };
-    auto pause = [] { std::this_thread::sleep_for(std::chrono::microseconds(100)); };
-    std::vector<std::thread> readers;
-    for (int reader = 0; reader < 2; ++reader)
-        readers.emplace_back([&] {
-            while (changed < 5) pause();
-            for (int k = 0; k < 100 && !is_late(); ++k, pause())
-                if (vector.size() == 1) ++read;
-        });
-    for (std::uint64_t turn = 1; read < 200 && !is_late(); ++turn, ++changed) vector.change(0, turn);
-    for (std::thread &reader : readers) reader.join();
-    HOLDS(read == 200);
+    const auto is_late = [&] { return std::chrono::steady_clock::now() > end; };
+    const auto pause = [] { std::this_thread::sleep_for(std::chrono::microseconds(100)); };
+    in_threads(callers + others, [&](std::uint64_t k) {
+        if (k < callers) {
+            while (gone_on < 5) pause();
+            for (int turn = 0; turn < 100 && !is_late(); ++turn, pause())
+                if (call()) ++made;
+        } else {
+            for (; made < callers * 100 && !is_late(); ++gone_on) meanwhile();
+        }
+    });
+    HOLDS(made == callers * 100);
+}
+
+static void rest() { std::this_thread::sleep_for(std::chrono::milliseconds(1)); }
+
+// Changes one behind another hold no call up for long. With more seats than there are calls, and with one, also where each change
+// takes a while, where two threads change, and where the call has a deadline.
+static void reading_beside_changes(const std::string &path) {
+    numbers wide(path), vector(path + ".narrow", {cvec::opening::create, 1, 1});
+    const cvec::growth made = vector.append(std::uint64_t{0});
+    wide.push_back(0);
+    comes_soon(2, [&] { return wide.size() == 1; }, 1, [&] { wide.change(0, 1); });
+    before_change = rest;
+    for (std::uint64_t changers = 1; changers <= 2; ++changers) {
+        comes_soon(1, [&] { return vector.size() == 1; }, changers, [&] { vector.change(0, 1); });
+        comes_soon(1, [&] { return vector.settle_for(made, std::chrono::seconds(5)); }, changers, [&] { vector.change(0, 1); });
+    }
+    before_change = nullptr;
+}
+
+// Nor do calls that take a while, where their threads have every seat nearly all the time.
+static void reading_beside_reads(const std::string &path) {
+    numbers vector(path, {cvec::opening::create, 1, 2});
+    vector.push_back(0);
+    during_read = rest;
+    comes_soon(1, [&] { return vector.size() == 1; }, 2, [&] { static_cast<void>(vector[0]); });
+    during_read = nullptr;
 }
 
 // Threads that have a seat nearly all the time hold no change up: between its call and its turn they make a growth each or two.
@@ -797,6 +824,11 @@ static void changing_breaks(const std::string &path) {
     HOLDS(status_of([&] { static_cast<void>(second.size()); }) == CVEC_BROKEN);
     HOLDS(status_of([&] { second.run_flusher(std::chrono::hours(1)); }) == CVEC_BROKEN);
     HOLDS(rows_of(numbers(path)) == list({1, 2, 3}) && rows_of(numbers(path + ".second")) == list(400, 4));
+    // Also where nothing was grown since it was opened.
+    numbers third(path + ".second");
+    fails(third, rows);
+    HOLDS(status_of([&] { third.settle(); }) == CVEC_BROKEN);
+    HOLDS(status_of([&] { static_cast<void>(third.settle_for(std::chrono::seconds(0))); }) == CVEC_BROKEN);
 }
 
 // Killed behind a change and a fold, neither of which was settled by another call.
@@ -885,6 +917,12 @@ static void closing(const std::string &path) {
     HOLDS(status_of([&] { static_cast<void>(vector.size()); }) == CVEC_NOT_SO);
     HOLDS(status_of([&] { static_cast<void>(*first); }) == CVEC_NOT_SO);
     HOLDS(status_of([&] { vector.settle(); }) == CVEC_NOT_SO);
+    numbers empty(path + ".empty");
+    empty.settle();
+    HOLDS(empty.settle_for(std::chrono::seconds(0)));
+    empty.close();
+    HOLDS(status_of([&] { empty.settle(); }) == CVEC_NOT_SO);
+    HOLDS(status_of([&] { static_cast<void>(empty.settle_for(std::chrono::seconds(0))); }) == CVEC_NOT_SO);
     numbers again(path, {cvec::opening::open}), other(path + ".other");
     HOLDS(rows_of(again) == list({5}));
     numbers moved(std::move(again));
@@ -1056,7 +1094,7 @@ static void versions(const std::string &path) {
 }
 
 static void forking(const std::string &path) {
-    numbers vector(path, {cvec::opening::create, 1, 1});
+    numbers vector(path, {cvec::opening::create, 1, 1}), empty(path + ".empty");
     vector.push_back(5);
     cvec::appender<std::uint64_t> rows(vector);
     rows.push_back(6);
@@ -1064,6 +1102,8 @@ static void forking(const std::string &path) {
     if (child == 0) {
         HOLDS(status_of([&] { vector.push_back(9); }) == CVEC_FORKED);
         HOLDS(status_of([&] { vector.settle(); }) == CVEC_FORKED && status_of([&] { rows.flush(); }) == CVEC_FORKED);
+        HOLDS(status_of([&] { empty.settle(); }) == CVEC_FORKED);
+        HOLDS(status_of([&] { static_cast<void>(empty.settle_for(std::chrono::seconds(0))); }) == CVEC_FORKED);
         HOLDS(status_of([&] { vector.run_flusher(std::chrono::hours(1)); }) == CVEC_FORKED);
         HOLDS(status_of([&] { vector.stop_flusher(); }) == CVEC_FORKED);
         HOLDS(status_of([&] { vector.change(0, 9); }) == CVEC_FORKED && status_of([&] { vector.fold(); }) == CVEC_FORKED);
@@ -1303,6 +1343,7 @@ int main(int argc, char **argv) {
         {"changing_beside", changing_beside},
         {"changing_comes_soon", changing_comes_soon},
         {"reading_beside_changes", reading_beside_changes},
+        {"reading_beside_reads", reading_beside_reads},
         {"changing_breaks", changing_breaks},
         {"changed", changed},
         {"folded", folded},

@@ -209,7 +209,7 @@ a_refusal_has_its_reason_in_cpp() (
 )
 
 threads_share_seats_in_cpp() (
-    behaves few_seats many_threads turns
+    behaves few_seats many_threads turns reading_beside_reads
 )
 
 # Past the growths that an open vector takes, the file is opened again.

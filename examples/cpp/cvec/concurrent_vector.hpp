@@ -162,6 +162,9 @@ class patience {
         nap_ = std::min(nap_ * 2, longest_nap);
     }
 
+    // For so long that each that sleeps so has looked.
+    static void give_way() { std::this_thread::sleep_for(longest_nap * 2); }
+
   private:
     static constexpr std::chrono::microseconds longest_nap{200};
     std::chrono::microseconds nap_{2};
@@ -212,7 +215,8 @@ class word_file {
     // Waits until the growth of this number, and each before it, is durable.
     void await(std::uint64_t number) {
         const lease lent(*this);
-        if (number >= base_) require(cvec_vector_await(lent.seat(), number - base_));
+        if (number < base_) return refuse_forked();
+        require(cvec_vector_await(lent.seat(), number - base_));
     }
 
     // The same, for others so many milliseconds at most: then false.
@@ -220,26 +224,32 @@ class word_file {
         slot *const found = borrow_within(milliseconds);
         if (found == nullptr) return false;
         const lease lent(*found);
-        if (number < base_) return true;
+        if (number < base_) {
+            refuse_forked();
+            return true;
+        }
         const std::uint32_t status = cvec_vector_await_for(lent.seat(), number - base_, milliseconds);
         if (status != CVEC_LATE) require(status);
         return status == CVEC_DONE;
     }
 
-    // Waits for all growths that have returned.
+    // Waits for all growths that have returned. Where there are none it is refused as where there are some.
     void await_all() {
         const std::uint64_t count = grown();
-        if (count > 0) await(count - 1);
+        if (count > 0) return await(count - 1);
+        refuse_ended();
     }
 
     bool await_all_for(std::uint64_t milliseconds) {
         const std::uint64_t count = grown();
-        return count == 0 || await_for(count - 1, milliseconds);
+        if (count > 0) return await_for(count - 1, milliseconds);
+        refuse_ended();
+        return true;
     }
 
     // Waits for all growths that have returned, and so again and again behind such a pause, until stop_flusher or the close.
     void run_flusher(std::uint64_t milliseconds) {
-        if (process_ != ::getpid()) refuse(CVEC_FORKED);
+        refuse_forked();
         const std::chrono::milliseconds pause(std::clamp<std::uint64_t>(milliseconds, 1, longest_pause));
         std::unique_lock<std::mutex> lock(flushing_);
         while (!flushers_end_) {
@@ -251,7 +261,7 @@ class word_file {
     }
 
     void stop_flusher() {
-        if (process_ != ::getpid()) refuse(CVEC_FORKED);
+        refuse_forked();
         const std::lock_guard<std::mutex> lock(flushing_);
         flushers_end_ = true;
         flusher_wakes_->notify_all();
@@ -303,8 +313,12 @@ class word_file {
 
     // For who looks at a length before it grows: one at a time. At a fork another thread may have had it.
     std::unique_lock<std::mutex> take_turn() {
-        if (process_ != ::getpid()) refuse(CVEC_FORKED);
+        refuse_forked();
         return std::unique_lock<std::mutex>(turn_);
+    }
+
+    void refuse_forked() const {
+        if (process_ != ::getpid()) refuse(CVEC_FORKED);
     }
 
     [[noreturn]] void refuse(std::uint32_t status) const { refuse(status, cvec_vector_status_text(status)); }
@@ -356,6 +370,11 @@ class word_file {
         bool operator!=(const identity &other) const noexcept { return device != other.device || file != other.file; }
     };
 
+    void refuse_ended() const {
+        if (closed_.load(std::memory_order_acquire)) refuse_closed();
+        refuse_forked();
+    }
+
     // False where the file was closed meanwhile.
     bool try_await_all() {
         try {
@@ -405,17 +424,39 @@ class word_file {
 
     // -- seats
 
+    // Who has found no seat at once is in line. Meanwhile those that come take none at once, and who has had the vector alone lets
+    // the line go before: else seats would always go to who has just given them back.
+    class place_in_line {
+      public:
+        explicit place_in_line(std::atomic<std::size_t> &count) noexcept : count_(count) { ++count_; }
+        place_in_line(const place_in_line &) = delete;
+        place_in_line &operator=(const place_in_line &) = delete;
+        ~place_in_line() { --count_; }
+
+      private:
+        std::atomic<std::size_t> &count_;
+    };
+
+    [[nodiscard]] bool is_somebody_in_line() const noexcept { return in_line_.load(std::memory_order_relaxed) != 0; }
+
     slot &borrow() {
-        for (patience turn;; turn.wait())
+        if (!is_somebody_in_line())
+            if (slot *found = try_borrow(false)) return *found;
+        const place_in_line mine(in_line_);
+        for (patience turn;;) {
+            turn.wait();
             if (slot *found = try_borrow(true)) return *found;
+        }
     }
 
     // Waits so long at most, and takes what it has waited from that.
     slot *borrow_within(std::uint64_t &milliseconds) {
         const std::uint64_t most = milliseconds;
         const auto begun = std::chrono::steady_clock::now();
+        std::optional<place_in_line> mine;
         for (patience turn;; turn.wait()) {
             if (slot *found = try_borrow(false)) return found;
+            if (!mine) mine.emplace(in_line_);
             const auto waited = std::chrono::steady_clock::now() - begun;
             const auto passed = std::chrono::duration_cast<std::chrono::milliseconds>(waited).count();
             milliseconds = most - std::min(most, static_cast<std::uint64_t>(passed));
@@ -427,7 +468,7 @@ class word_file {
         if (closed_.load(std::memory_order_acquire)) refuse_closed();
         if (slot *found = find_idle()) return found;
         // Who had a seat when this process was forked gives it back in the other process alone.
-        if (process_ != ::getpid()) refuse(CVEC_FORKED);
+        refuse_forked();
         return find_or_seat(has_time);
     }
 
@@ -572,9 +613,18 @@ class word_file {
     // -- having the file alone
 
     // Waits until each call under way has ended, and, where the length is as it is wanted, does this while no seat is taken and
-    // each growth is durable. Later calls wait until it has ended.
+    // each growth is durable. Later calls wait until it has ended, and go before the next that asks for this.
     template <class Wanted, class Action> void run_alone(const Wanted &is_wanted, const Action &act) {
-        if (process_ != ::getpid()) refuse(CVEC_FORKED);
+        refuse_forked();
+        const std::lock_guard<std::mutex> turn(alone_);
+        const std::uint32_t status = act_alone(is_wanted, act);
+        const int why = errno;
+        if (is_somebody_in_line()) patience::give_way();
+        errno = why;
+        require(status);
+    }
+
+    template <class Wanted, class Action> std::uint32_t act_alone(const Wanted &is_wanted, const Action &act) {
         const std::lock_guard<std::mutex> lock(seating_);
         if (closed_.load(std::memory_order_acquire)) refuse_closed();
         take_all_seats();
@@ -586,7 +636,7 @@ class word_file {
             take_seats_anew();
         }
         if (!closed_.load(std::memory_order_acquire)) give_all_seats_back();
-        require(status);
+        return status;
     }
 
     // While no seat is taken. What was changed has to be folded before.
@@ -675,7 +725,9 @@ class word_file {
     std::string path_;
     std::atomic<bool> closed_{false};
     std::atomic<bool> all_wanted_{false}; // somebody takes all seats, or has them
+    std::atomic<std::size_t> in_line_{0}; // so many calls have found no seat at once
     std::uint32_t ended_by_ = CVEC_DONE; // why it was closed but by a call of the user: written before closed_ is
+    std::mutex alone_;    // one behind another has the vector alone
     std::mutex seating_;  // who takes further seats, or all
     std::mutex flushing_;
     std::unique_ptr<std::condition_variable> flusher_wakes_ = std::make_unique<std::condition_variable>();
