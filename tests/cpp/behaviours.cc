@@ -261,6 +261,26 @@ static void reading(const std::string &path) {
     HOLDS(is_out_of_range([&] { static_cast<void>(vector.at(std::size_t{1} << 61)); }));
 }
 
+// What is read is a copy, and nothing is assigned to it.
+template <class T> static constexpr bool is_only_read() {
+    using vector = cvec::concurrent_vector<T>;
+    return !std::is_assignable_v<decltype(std::declval<vector>()[0]), T> && !std::is_assignable_v<decltype(std::declval<vector>().at(0)), T> &&
+           !std::is_assignable_v<decltype(std::declval<vector>().front()), T> &&
+           !std::is_assignable_v<decltype(std::declval<vector>().back()), T> &&
+           !std::is_assignable_v<decltype(*std::declval<vector>().begin()), T> &&
+           !std::is_assignable_v<decltype(std::declval<vector>().begin()[0]), T> &&
+           !std::is_assignable_v<decltype(*std::declval<vector>().rbegin()), T> &&
+           !std::is_assignable_v<typename vector::reference, T> && !std::is_assignable_v<typename vector::range_type::reference, T> &&
+           std::is_same_v<std::decay_t<decltype(std::declval<vector>()[0])>, T>;
+}
+
+union either {
+    std::uint32_t number;
+    float value;
+};
+
+static_assert(is_only_read<sample>() && is_only_read<either>() && is_only_read<std::pair<int, int>>() && is_only_read<double>());
+
 // Rows of growths of different lengths, past several pieces of iterators.
 static list long_list(numbers &vector) {
     list rows(3000);
@@ -335,6 +355,9 @@ static void ranges(const std::string &path) {
     HOLDS(list(whole.begin(), whole.end()) == list({1, 2}) && list(half.begin(), half.end()) == list({3, 4, 5}));
     HOLDS(!whole.is_divisible() && half.is_divisible() && half.grainsize() == 2);
     HOLDS(vector.range(0).grainsize() == 1 && vector.range().grainsize() == 1);
+    const numbers::range_type inner(vector.begin() + 1, vector.begin() + 4, 2), single(vector.begin() + 2, vector.end());
+    HOLDS(list(inner.begin(), inner.end()) == list({2, 3, 4}) && inner.grainsize() == 2);
+    HOLDS(list(single.begin(), single.end()) == list({3, 4, 5}) && single.grainsize() == 1);
     const numbers &only_read = vector;
     numbers::const_range_type part = only_read.range(5);
     HOLDS(!part.is_divisible());
@@ -531,10 +554,18 @@ static void changing(const std::string &path) {
         // A range of its own.
         vector.change(2, vector.begin(), vector.begin() + 2);
         HOLDS(turns_of(vector) == changed);
+        // Braces without a row are one value.
+        vector.change(9, {});
+        HOLDS(vector[9] == (sample{0, 0, 0}) && steps == 6);
+        const sample raw[] = {turned(80), turned(90)};
+        vector.change(8, raw);
+        const std::initializer_list<sample> listed = {turned(50), turned(60)};
+        vector.change(5, listed);
+        vector.change(9, {1, 90, 0.5});
         vector.change(10, two.begin(), two.begin());
         vector.change(0, linked.end(), linked.end());
         before_change = nullptr;
-        HOLDS(turns_of(vector) == changed && steps == 5);
+        HOLDS(turns_of(vector) == changed && steps == 9);
         vector.close();
         HOLDS(status_of([&] { vector.change(0, turned(1)); }) == CVEC_NOT_SO);
         HOLDS(status_of([&] { vector.fold(); }) == CVEC_NOT_SO);

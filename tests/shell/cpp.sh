@@ -110,6 +110,25 @@ a_type_without_rows_is_refused_with_its_reason() (
     compile_cpp -fsyntax-only "$work/other.cc"
 )
 
+# These lines, of a program with a vector of structs, are compiled.
+compiles_with() {
+    printf '#include "cvec/concurrent_vector.hpp"\nstruct sample {\n    double value;\n};\n' >"$work/other.cc"
+    printf 'void use(cvec::concurrent_vector<sample> &v) {\n    %s\n}\n' "$1" >>"$work/other.cc"
+    compile_cpp -fsyntax-only "$work/other.cc" >"$out" 2>"$err"
+}
+
+# It would write to a copy.
+nothing_is_assigned_to_a_row() (
+    has_cpp || exit $is_skipped
+    compiles_with 'sample copy = v[0]; copy = *v.begin(); v.change(0, copy);'
+    for line in 'v[0] = sample{};' '*v.begin() = sample{};' 'std::fill(v.begin(), v.end(), sample{});'; do
+        status=0
+        compiles_with "$line" || status=$?
+        [ "$status" -ne 0 ]
+        tells const
+    done
+)
+
 # ---- members
 
 rows_are_grown_in_cpp() (

@@ -110,16 +110,16 @@ using by_record = std::conditional_t<
 
 template <class T, class Layout> using keeping = std::conditional_t<std::is_same_v<Layout, rows_of_u64>, by_u64, by_record<T>>;
 
-constexpr std::size_t most_seats = 64;
+inline constexpr std::size_t most_seats = 64;
 // What one growth may have: 2^20 bytes of payload, with 8 of its own.
-constexpr std::size_t most_bytes = (std::size_t{1} << 20) - 8;
-constexpr std::uint64_t most_records = std::uint64_t{1} << 32;
-constexpr std::size_t cache_line = 64;
+inline constexpr std::size_t most_bytes = (std::size_t{1} << 20) - 8;
+inline constexpr std::uint64_t most_records = std::uint64_t{1} << 32;
+inline constexpr std::size_t cache_line = 64;
 // For a file that is opened again, and that another process has meanwhile.
-constexpr std::chrono::seconds longest_wait{2};
+inline constexpr std::chrono::seconds longest_wait{2};
 
 // Of a flusher, in milliseconds: a year.
-constexpr std::uint64_t longest_pause = std::uint64_t{365} * 24 * 3600 * 1000;
+inline constexpr std::uint64_t longest_pause = std::uint64_t{365} * 24 * 3600 * 1000;
 
 // As cvec_vector.h counts it, rounded up. A year and more is as long as it can be: it is compared by double, since a year of
 // picoseconds is past 64 bits.
@@ -872,6 +872,9 @@ template <class T, class Layout = one_record> class piece {
     std::array<typename row::word, most_rows * row::words> words_;
 };
 
+// A row as it is given, which is a copy. One of a class is const, since `v[k] = row` would be compiled else, and write nothing.
+template <class T> using given = std::conditional_t<std::is_class_v<T> || std::is_union_v<T>, const T, T>;
+
 // What `->` of an iterator answers: it holds the row that it points to.
 template <class T> class arrow {
   public:
@@ -892,14 +895,14 @@ template <class T, class Layout = one_record> class iterator {
     using value_type = T;
     using difference_type = std::ptrdiff_t;
     using pointer = arrow<T>;
-    using reference = T;
+    using reference = given<T>;
 
     iterator() = default;
     iterator(word_file *file, std::size_t position) noexcept : file_(file), position_(position) {}
 
-    [[nodiscard]] T operator*() const { return row_at(position_); }
+    [[nodiscard]] reference operator*() const { return row_at(position_); }
     [[nodiscard]] arrow<T> operator->() const { return arrow<T>(row_at(position_)); }
-    [[nodiscard]] T operator[](difference_type k) const { return row_at(moved(k)); }
+    [[nodiscard]] reference operator[](difference_type k) const { return row_at(moved(k)); }
 
     // The position in the vector.
     [[nodiscard]] std::size_t position() const noexcept { return position_; }
@@ -930,6 +933,8 @@ template <class T, class Layout = one_record> class iterator {
     friend bool operator>=(const iterator &a, const iterator &b) noexcept { return a.position_ >= b.position_; }
 
   private:
+    template <class, class> friend class range;
+
     [[nodiscard]] std::size_t moved(difference_type k) const noexcept { return position_ + static_cast<std::size_t>(k); }
 
     [[nodiscard]] T row_at(std::size_t position) const {
@@ -962,13 +967,16 @@ template <class T, class Layout = one_record> class range {
     using const_iterator = detail::iterator<T, Layout>;
     using iterator = const_iterator;
     using value_type = T;
-    using reference = T;
-    using const_reference = T;
+    using reference = given<T>;
+    using const_reference = reference;
     using size_type = std::size_t;
     using difference_type = std::ptrdiff_t;
 
     range(word_file *file, size_type first, size_type last, size_type grainsize) noexcept
         : file_(file), first_(first), last_(last), grainsize_(std::max<size_type>(grainsize, 1)) {}
+
+    range(const const_iterator &first, const const_iterator &last, size_type grainsize = 1) noexcept
+        : range(first.file_, first.position_, last.position_, grainsize) {}
 
     // Takes the second half of the other one. A tag is oneTBB's split or proportional_split, or any class.
     template <class Tag, class = std::enable_if_t<std::is_class_v<Tag>>>
@@ -1012,8 +1020,8 @@ template <class T, class Layout = one_record> class concurrent_vector {
     using value_type = T;
     using size_type = std::size_t;
     using difference_type = std::ptrdiff_t;
-    using reference = T; // rows are read as copies: what is written to one changes nothing, and `change` changes no copy
-    using const_reference = T;
+    using reference = detail::given<T>; // a copy, which `change` doesn't change
+    using const_reference = reference;
     using const_iterator = detail::iterator<T, Layout>;
     using iterator = const_iterator;
     using const_reverse_iterator = std::reverse_iterator<const_iterator>;
@@ -1086,7 +1094,13 @@ template <class T, class Layout = one_record> class concurrent_vector {
         row::change_range(file(), first, begin, end);
     }
 
-    void change(size_type first, std::initializer_list<T> rows) { change(first, rows.begin(), rows.end()); }
+    // Neither of the two takes `{}`, which is one value.
+    template <std::size_t N> void change(size_type first, const T (&rows)[N]) { change(first, rows, rows + N); }
+
+    template <class U, class = std::enable_if_t<std::is_same_v<U, T>>>
+    void change(size_type first, std::initializer_list<U> rows) {
+        change(first, rows.begin(), rows.end());
+    }
 
     // Writes what was changed to its place in the file, which costs a write for each changed record. Without it the file
     // keeps each change besides.
@@ -1143,22 +1157,22 @@ template <class T, class Layout = one_record> class concurrent_vector {
     // Ends the loops of flushers, each that is begun later too. It doesn't wait for them.
     void stop_flusher() { file().stop_flusher(); }
 
-    // How many growths are durable: the first ones are. It doesn't wait.
+    // How many growths are durable: the first ones are. It waits for no commit, but, as each call, for a seat.
     [[nodiscard]] std::uint64_t settled() const { return file().settled(); }
 
     [[nodiscard]] bool is_settled(const growth &made) const { return made.number < settled(); }
 
     // -- reading, what is durable and what isn't yet
 
-    [[nodiscard]] T at(size_type position) const {
+    [[nodiscard]] reference at(size_type position) const {
         const std::optional<T> found = row::read(file(), position);
         if (!found) detail::refuse_position(position);
         return *found;
     }
 
-    [[nodiscard]] T operator[](size_type position) const { return at(position); }
-    [[nodiscard]] T front() const { return at(0); }
-    [[nodiscard]] T back() const { return at(size() - 1); }
+    [[nodiscard]] reference operator[](size_type position) const { return at(position); }
+    [[nodiscard]] reference front() const { return at(0); }
+    [[nodiscard]] reference back() const { return at(size() - 1); }
 
     [[nodiscard]] size_type size() const { return static_cast<size_type>(file().size()) / row::words; }
     [[nodiscard]] bool empty() const { return size() == 0; }
