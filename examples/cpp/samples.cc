@@ -4,6 +4,7 @@
 
 #include <cmath>
 #include <cstdio>
+#include <exception>
 
 struct sample {
     std::uint64_t sensor, number;
@@ -21,6 +22,24 @@ static void measure(cvec::concurrent_vector<sample> &samples, std::uint64_t sens
     }
 }
 
+// Does this in so many threads. What one of them throws first is thrown here, once all have ended.
+template <class Work> static void in_threads(std::size_t count, const Work &work) {
+    std::mutex mutex;
+    std::exception_ptr first;
+    std::vector<std::thread> threads;
+    for (std::size_t k = 0; k < count; ++k)
+        threads.emplace_back([&, k] {
+            try {
+                work(k);
+            } catch (...) {
+                const std::lock_guard<std::mutex> lock(mutex);
+                if (!first) first = std::current_exception();
+            }
+        });
+    for (std::thread &thread : threads) thread.join();
+    if (first) std::rethrow_exception(first);
+}
+
 int main(int argc, char **argv) {
     if (argc != 2) return 2;
     try {
@@ -31,10 +50,8 @@ int main(int argc, char **argv) {
         for (const std::uint64_t count : next) std::printf(" %llu", static_cast<unsigned long long>(count));
         std::printf("\n");
         std::fflush(stdout);
-        std::vector<std::thread> threads;
-        for (std::uint64_t k = 0; k < sensors; ++k) threads.emplace_back([&samples, &next, k] { measure(samples, k, next[k]); });
-        for (std::thread &thread : threads) thread.join();
-    } catch (const cvec::error &refusal) {
+        in_threads(sensors, [&](std::size_t k) { measure(samples, k, next[k]); });
+    } catch (const std::exception &refusal) {
         std::fprintf(stderr, "%s\n", refusal.what());
         return 1;
     }

@@ -3,6 +3,7 @@
 #include <cvec/concurrent_vector.hpp>
 
 #include <cctype>
+#include <exception>
 #include <fstream>
 #include <iostream>
 #include <set>
@@ -45,6 +46,7 @@ static std::vector<std::vector<entry>> work_left(const index_of &index, char **t
         std::string line;
         for (std::uint32_t number = 1; std::getline(lines, line); ++number)
             if (done.count({text, number}) == 0) left.push_back(entries_of(line, {text, number}));
+        if (!lines.eof()) throw std::runtime_error(std::string(texts[text]) + ": this text can't be read");
     }
     return left;
 }
@@ -57,24 +59,41 @@ static void work(index_of &index, const std::vector<std::vector<entry>> &left, s
     }
 }
 
+// Does this in so many threads. What one of them throws first is thrown here, once all have ended.
+template <class Work> static void in_threads(std::size_t count, const Work &work) {
+    std::mutex mutex;
+    std::exception_ptr first;
+    std::vector<std::thread> threads;
+    for (std::size_t k = 0; k < count; ++k)
+        threads.emplace_back([&, k] {
+            try {
+                work(k);
+            } catch (...) {
+                const std::lock_guard<std::mutex> lock(mutex);
+                if (!first) first = std::current_exception();
+            }
+        });
+    for (std::thread &thread : threads) thread.join();
+    if (first) std::rethrow_exception(first);
+}
+
 int main(int argc, char **argv) {
     if (argc < 4) return 2;
     try {
+        const std::vector<entry> wanted = entries_of(argv[2], {0, 0});
+        if (wanted.size() != 1) throw std::runtime_error(std::string(argv[2]) + ": this is no word");
         index_of index(argv[1]);
         std::cout << "found " << index.size() << " words" << std::endl;
         const auto left = work_left(index, argv + 3);
         std::atomic<std::size_t> next{0};
-        std::vector<std::thread> threads;
-        for (int k = 0; k < 4; ++k) threads.emplace_back([&] { work(index, left, next); });
-        for (std::thread &thread : threads) thread.join();
+        in_threads(4, [&](std::size_t) { work(index, left, next); });
         index.settle();
         std::set<place> lines;
-        const entry wanted = entries_of(argv[2], {0, 0}).at(0);
         for (const entry &one : index)
-            if (std::equal(one.word, one.word + sizeof one.word, wanted.word)) lines.emplace(one.text, one.line);
+            if (std::equal(one.word, one.word + sizeof one.word, wanted[0].word)) lines.emplace(one.text, one.line);
         for (const place &at : lines) std::cout << argv[3 + at.first] << ":" << at.second << "\n";
         index.close();
-    } catch (const cvec::error &refusal) {
+    } catch (const std::exception &refusal) {
         std::cerr << refusal.what() << "\n";
         return 1;
     }

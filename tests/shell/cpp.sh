@@ -317,11 +317,31 @@ the_program_of_the_page_for_cpp_runs() (
     did '5\n7\n11\n5\n7\n11\n'
 )
 
+# The program is refused, and one line has this text.
+is_refused_in_a_line() {
+    text=$1
+    shift
+    status=0
+    timeout 60 "$@" >"$out" 2>"$err" || status=$?
+    [ "$status" -eq 1 ]
+    [ "$(wc -l <"$err")" -eq 1 ]
+    grep -q "$text" "$err"
+}
+
+# The greatest size of a file stands for a full disk. Of threads that wait one is told the first, and others the second.
+tells_of_a_full_disk() {
+    (
+        ulimit -f 8
+        is_refused_in_a_line ": the file can't be written: File too large\$\|: a write or a sync has failed before: " "$@"
+    )
+}
+
 samples_of_sensors_go_on_in_cpp() (
     has_cpp || exit $is_skipped
     make_cpp
     link_cpp -o "$work/samples" "$cpp/samples.cc"
     goes_on_with_its_samples "$work/samples"
+    tells_of_a_full_disk "$work/samples" "$work/full.cv"
 )
 
 words_are_indexed_in_cpp() (
@@ -329,6 +349,11 @@ words_are_indexed_in_cpp() (
     make_cpp
     link_cpp -o "$work/word_index" "$cpp/word_index.cc"
     indexes_words 4 "$work/word_index"
+    tells_of_a_full_disk "$work/word_index" "$work/full.cv" Thread "$work"/*.txt
+    is_refused_in_a_line '^-2: this is no word$' "$work/word_index" "$work/t.cv" -2 "$work/c.txt"
+    for text in none.txt .; do
+        is_refused_in_a_line "/$text: this text can't be read\$" "$work/word_index" "$work/t.cv" Thread "$work/$text"
+    done
 )
 
 results_of_a_pool_are_kept_in_cpp() (
@@ -336,6 +361,10 @@ results_of_a_pool_are_kept_in_cpp() (
     make_cpp
     link_cpp -o "$work/pool" "$cpp/pool.cc"
     has_results_of_a_pool pair 1 "$work/pool"
+    tells_of_a_full_disk "$work/pool" "$work/full.cv" 5000
+    # For fewer numbers there is nothing left to do.
+    "$work/pool" "$work/t.cv" 10 >"$out"
+    sed 1d "$out" | cmp "$work/wanted" -
 )
 
 has_tbb() {

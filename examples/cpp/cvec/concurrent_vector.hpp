@@ -162,6 +162,8 @@ class patience {
         nap_ = std::min(nap_ * 2, longest_nap);
     }
 
+    [[nodiscard]] bool is_long() const noexcept { return nap_ == longest_nap; }
+
     // For so long that each that sleeps so has looked.
     static void give_way() { std::this_thread::sleep_for(longest_nap * 2); }
 
@@ -424,43 +426,57 @@ class word_file {
 
     // -- seats
 
-    // Who has found no seat at once is in line. Meanwhile those that come take none at once, and who has had the vector alone lets
-    // the line go before: else seats would always go to who has just given them back.
+    // A call that has found no seat at once. It sleeps between looks. Once its sleeps are long it is overdue: until it has a seat
+    // calls that come take none at once, and wait until they are overdue too. Else seats would always go to who has just given
+    // them back. Sooner they may pass, since seats would be idle while all sleep.
     class place_in_line {
       public:
-        explicit place_in_line(std::atomic<std::size_t> &count) noexcept : count_(count) { ++count_; }
+        explicit place_in_line(word_file &file) noexcept : file_(file) { ++file_.waiting_; }
         place_in_line(const place_in_line &) = delete;
         place_in_line &operator=(const place_in_line &) = delete;
-        ~place_in_line() { --count_; }
+        ~place_in_line() {
+            --file_.waiting_;
+            if (is_overdue_) --file_.overdue_;
+        }
+
+        // Sleeps once, and answers whether it may look for a seat.
+        bool wait() {
+            turn_.wait();
+            if (!is_overdue_ && turn_.is_long()) {
+                is_overdue_ = true;
+                ++file_.overdue_;
+            }
+            return is_overdue_ || !file_.is_somebody_overdue();
+        }
 
       private:
-        std::atomic<std::size_t> &count_;
+        word_file &file_;
+        patience turn_;
+        bool is_overdue_ = false;
     };
 
-    [[nodiscard]] bool is_somebody_in_line() const noexcept { return in_line_.load(std::memory_order_relaxed) != 0; }
+    [[nodiscard]] bool is_somebody_overdue() const noexcept { return overdue_.load(std::memory_order_relaxed) != 0; }
 
     slot &borrow() {
-        if (!is_somebody_in_line())
+        if (!is_somebody_overdue())
             if (slot *found = try_borrow(false)) return *found;
-        const place_in_line mine(in_line_);
-        for (patience turn;;) {
-            turn.wait();
-            if (slot *found = try_borrow(true)) return *found;
-        }
+        for (place_in_line mine(*this);;)
+            if (mine.wait())
+                if (slot *found = try_borrow(true)) return *found;
     }
 
-    // Waits so long at most, and takes what it has waited from that.
+    // Waits so long at most, and takes what it has waited from that. It looks once in any case.
     slot *borrow_within(std::uint64_t &milliseconds) {
         const std::uint64_t most = milliseconds;
         const auto begun = std::chrono::steady_clock::now();
-        std::optional<place_in_line> mine;
-        for (patience turn;; turn.wait()) {
-            if (slot *found = try_borrow(false)) return found;
-            if (!mine) mine.emplace(in_line_);
+        if (slot *found = try_borrow(false)) return found;
+        for (place_in_line mine(*this);;) {
             const auto waited = std::chrono::steady_clock::now() - begun;
             const auto passed = std::chrono::duration_cast<std::chrono::milliseconds>(waited).count();
             milliseconds = most - std::min(most, static_cast<std::uint64_t>(passed));
             if (milliseconds == 0) return nullptr;
+            if (mine.wait())
+                if (slot *found = try_borrow(false)) return found;
         }
     }
 
@@ -619,7 +635,7 @@ class word_file {
         const std::lock_guard<std::mutex> turn(alone_);
         const std::uint32_t status = act_alone(is_wanted, act);
         const int why = errno;
-        if (is_somebody_in_line()) patience::give_way();
+        if (waiting_.load(std::memory_order_relaxed) != 0) patience::give_way();
         errno = why;
         require(status);
     }
@@ -725,7 +741,7 @@ class word_file {
     std::string path_;
     std::atomic<bool> closed_{false};
     std::atomic<bool> all_wanted_{false}; // somebody takes all seats, or has them
-    std::atomic<std::size_t> in_line_{0}; // so many calls have found no seat at once
+    std::atomic<std::size_t> waiting_{0}, overdue_{0}; // so many calls wait for a seat, and so many of those for long
     std::uint32_t ended_by_ = CVEC_DONE; // why it was closed but by a call of the user: written before closed_ is
     std::mutex alone_;    // one behind another has the vector alone
     std::mutex seating_;  // who takes further seats, or all
