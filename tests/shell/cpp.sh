@@ -300,7 +300,7 @@ memory_is_used_rightly_in_cpp() (
 # none reads here what others grow beside it.
 threads_are_in_order_in_cpp() (
     no_complaint_of thread 0 deadlines_for_a_seat flushing shortening shared_iterator closing_meanwhile few_seats many_threads \
-        turns renewing
+        turns reading_beside_reads renewing
 )
 
 # ---- the page, the examples, and oneTBB
