@@ -62,13 +62,20 @@ a_server_whose_client_has_gone_before_ends() (
     mkfifo "$work/requests" "$work/answers"
     for answers in "$work/answers" /dev/null; do
         echo "answers to $answers"
-        cat "$work/answers" >/dev/null &
+        rm -f "$work/opened" "$work/gone"
+        timeout 60 cat "$work/answers" >/dev/null &
         reader=$!
-        (exec 3<"$work/requests" 4>"$answers" && sleep 0.5 && exec timeout 20 "$program" serve u64 "$work/t.cv" --seats=1) \
-            >"$out" 2>"$err" &
+        (
+            exec 3<"$work/requests" 4>"$answers" && : >"$work/opened"
+            until [ -e "$work/gone" ]; do sleep 0.05; done
+            exec timeout 20 "$program" serve u64 "$work/t.cv" --seats=1
+        ) >"$out" 2>"$err" &
         server=$!
         printf '\1\0\0\0\1\0\0\0\0\0\0\0\0\0\0\0\5\0\0\0\0\0\0\0' >"$work/requests"
+        until [ -e "$work/opened" ]; do sleep 0.05; done
         kill $reader 2>/dev/null || :
+        wait $reader || :
+        : >"$work/gone"
         wait $server
         [ "$(cat "$out")" = 'served 1 growths' ]
     done
