@@ -176,8 +176,11 @@ a_new_file_that_a_full_device_takes_no_more_is_emptied() (
     seq -s ' ' 1 100 >"$in"
     run load u64 "$work/t.cv"
     sum=$(cksum <"$work/t.cv")
-    for of in upgrade:upgraded copy:copied; do
+    # NEW isn't there, or has what a stopped creation left.
+    for of in upgrade:upgraded: copy:copied: 'upgrade:upgraded:\0CVECSEG\02\010\0\0' 'copy:copied:\0CVECSEG\02\010\0\0'; do
         rm -f "$work/n.cv"
+        left=${of##*:} of=${of%:*}
+        [ -z "$left" ] || printf '%b' "$left" >"$work/n.cv"
         on_a_full_device "${of%:*}" u64 "$work/t.cv" "$work/n.cv"
         was_refused 'new disk write' "cvec: $work/n.cv: the system didn't write it, or put it on the device, which may be full; it may have a part; "
         [ "$(cksum <"$work/t.cv")" = "$sum" ]

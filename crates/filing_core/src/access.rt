@@ -147,11 +147,23 @@ pub fn known_of(file: &File) -> io::Result<Metadata> {
     Err(ErrorKind::Interrupted.into())
 }
 
-/// How many bytes an open file has, or none where the system doesn't tell.
-pub fn length_of(file: &File) -> u64 {
+/// Whether an open file has a vector's header, whose gate stands in front of it and is open.
+fn is_born(file: &File) -> bool {
+    let mut gate = [0];
+    for _ in 0..u64::MAX {
+        match file.read_at(&mut gate, 0) {
+            Err(error) if error.kind() == ErrorKind::Interrupted => {}
+            read => return matches!(read, Ok(1)) && gate[0] == 1,
+        }
+    }
+    false
+}
+
+/// How many bytes of an open file are a vector's: all, or none where it has no header, or where the system doesn't tell.
+pub fn vector_len(file: &File) -> u64 {
     match known_of(file) {
-        Ok(known) => known.len(),
-        Err(_) => 0,
+        Ok(known) if is_born(file) => known.len(),
+        _ => 0,
     }
 }
 

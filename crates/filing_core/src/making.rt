@@ -10,7 +10,7 @@ ghost use Rattle.filing_core.specs.Complaints.{Disk, IsJustOpened};
 ghost use Rattle.filing_core.specs.Commands.{HasMadeBeside, HasMadeNew, IsCopyRun, IsUpgradeRun, MayBeMadeOn};
 ghost use Rattle.filing_core.specs.Copying.{HasCopiedBeside, IsCopyBesideFault, IsUpgradedBeside, IsUpgradeBesideFault};
 
-use crate::access::{Opened, Readable, check_readable, length_of, open_beside, open_for_copy};
+use crate::access::{Opened, Readable, check_readable, open_beside, open_for_copy, vector_len};
 use crate::beside::status_of_copy;
 use crate::copying::{copy_beside, upgrade_beside};
 use crate::ending::status_on;
@@ -42,7 +42,7 @@ impl<'a, F: Files<File = File> + Clock + AllocGlobal, P: Progress + Sync> Filing
             (λ disk asked left left_new. HasCopied R.form KeepsSoFar states_of KeepsSoFar states_of faults_of disk asked left left_new format piece)
             (λ disk asked left left_new. IsCopyCommandFault R.form KeepsSoFar states_of KeepsSoFar states_of faults_of disk asked left left_new format piece) }
     {
-        let before = length_of(&new.lock);
+        let before = vector_len(&new.lock);
         let Opened { disk, lock } = old;
         let new_disk = ReleasingDisk::new(new.disk, ReadLock::of(lock));
         let (old, _new, ended) = copy_file::<
@@ -77,7 +77,7 @@ impl<'a, F: Files<File = File> + Clock + AllocGlobal, P: Progress + Sync> Filing
     {
         let mut file = file;
         let Opened { disk, lock } = new;
-        let before = length_of(&lock);
+        let before = vector_len(&lock);
         let (_new, ended) = copy_beside::<R, SharedFile, FileDisk, W>(
             self.alloc, &mut file, disk, format, piece, writer,
         );
@@ -114,7 +114,7 @@ impl<'a, F: Files<File = File> + Clock + AllocGlobal, P: Progress + Sync> Filing
             → HasMadeNew R.form (W.contents writer.old) (W.contents writer.new) result (Some Two)
             (IsUpgraded R.form KeepsSoFar states_of KeepsSoFar states_of faults_of) (IsUpgradeRefusal R.form KeepsSoFar states_of KeepsSoFar states_of faults_of) }
     {
-        let before = length_of(&new.lock);
+        let before = vector_len(&new.lock);
         let Opened { disk, lock } = old;
         let old = self.watched(disk);
         let new_disk = ReleasingDisk::new(new.disk, ReadLock::of(lock));
@@ -140,7 +140,7 @@ impl<'a, F: Files<File = File> + Clock + AllocGlobal, P: Progress + Sync> Filing
     {
         let mut file = file;
         let Opened { disk, lock } = new;
-        let before = length_of(&lock);
+        let before = vector_len(&lock);
         let (_new, ended) = upgrade_beside::<R, SharedFile, FileDisk, W>(
             self.alloc, &mut file, disk, writer,
         );

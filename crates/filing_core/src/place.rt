@@ -59,8 +59,8 @@ pub fn new_place<R: TextRecord>(
     }
 }
 
-/// Takes away what a copy that was refused has written of its new file behind so many bytes, which stood there before: that would
-/// look like a vector. Where the system doesn't, it stays, and the next one refuses to write over it.
+/// Takes away what a copy that was refused has written of its new file: that would look like a vector. A vector of so many bytes
+/// that stood there before is left. Where the system doesn't take it away, it stays, and the next one refuses to write over it.
 pub fn take_back(file: &File, before: u64, ended: Ended) {
     match ended {
         Ended::Refused(FileFault::Upgrade(UpgradeFault::New(VaultFault::Pen(PenFault::Exists)))) =>
