@@ -8,7 +8,7 @@ use Rattle.pen_core.specs.Typed.{OpensTo}
 use Rattle.directory_core.specs.Chain.{grown_records}
 use Rattle.directory_core.specs.Known.{KnowsAll}
 use Rattle.book_core.specs.Lists.{opening_of}
-use Rattle.flush_core.specs.Flusher.{FlusherOf, FlusherLearns}
+use Rattle.flush_core.specs.Flusher.{FlusherOf, IsFlusherOf, FlusherLearns}
 use Rattle.relay_core.specs.declared.relay_disk.RelayDisk.{RelayDisk}
 use Rattle.phase_core.specs.declared.ending.GatherFault.{GatherFault}
 use Rattle.phase_core.specs.declared.ending.GatherFault.TheVariants.{Shared, Broken, Strayed, Unsettled, Memory}
@@ -36,6 +36,7 @@ module _ {R D : Type 0} {record_of : Record.Ghosts R} {eq_of : PartialEq.Ghosts 
   -- Whatever a crash leaves of the file as it is to be opens to that list.
   pub record Gathers (old : Committer R D record_of eq_of disk) (new : HostVault R D disk) : Type 0 where
     pub flusher : FlusherOf R (RelayDisk D disk)
+    pub of : IsFlusherOf (disk.keeps flusher.pen.disk.inner) (phase_of old) flusher
     pub learns : FlusherLearns old.flusher flusher
     pub ended : HasEnded flusher
     pub list : list_of new ≡ opening_of (phase_of old) ++ grown_records flusher.pass.entries

@@ -1,6 +1,6 @@
 //! Who commits for all threads of a phase.
 
-ghost use Rattle.std.specs.Prelude.{◌≡◌, ◌+◌, None, IsNone, IfOk, IfErr, IfSome, OnOk, MatchResult};
+ghost use Rattle.std.specs.Prelude.{◌≡◌, ◌+◌, ◌<◌, length, None, IsNone, IfOk, IfErr, IfSome, OnOk, MatchResult};
 ghost use Rattle.std.specs.Arc.{arc_value};
 ghost use Rattle.disk_core.specs.Moments.{clock};
 ghost use Rattle.flush_core.specs.Flusher.{IsFlusherOf, ToldIsLeft};
@@ -31,6 +31,7 @@ pub struct Committer<R: Record, D: Disk> {
 fn settle_job<R: Record, D: Disk>(flusher: &mut Flusher<R, RelayDisk<D>>) -> Result<(), FlushFault>
     ensures goes_on { GoesOn (λ disk. D.keeps disk.inner) flusher.old flusher.new }
     ensures taken { flusher.new.taken ≡ flusher.old.taken }
+    ensures pass { flusher.new.pass ≡ flusher.old.pass }
     ensures idle { OnOk result (flusher.new.pen.job ≡ None) }
     ensures refused { IfErr result IsCallFault }
 {
@@ -48,6 +49,8 @@ fn take<R: Record, D: Disk>(
     ensures taken { MatchResult result
         (λ count. flusher.new.taken ≡ flusher.old.taken + count)
         (λ _. flusher.new.taken ≡ flusher.old.taken) }
+    ensures some { IfOk result (λ count. flusher.old.taken < length flusher.old.pass.entries → 0 < count) }
+    ensures pass { OnOk result (flusher.new.pass ≡ flusher.old.pass) }
 {
     flusher.take_group(live)
 }
@@ -74,6 +77,7 @@ fn commit<R: Record, D: Disk>(
     requires { IsFlusherOf (D.keeps flusher.old.pen.disk.inner) live.now flusher.old }
     ensures goes_on { GoesOn (λ disk. D.keeps disk.inner) flusher.old flusher.new }
     ensures taken { IfOk result (λ count. flusher.new.taken ≡ flusher.old.taken + count) }
+    ensures some { IfOk result (λ count. flusher.new.taken < length flusher.new.pass.entries → 0 < count) }
     ensures idle { OnOk result (flusher.new.pen.job ≡ None) }
     ensures refused { IfErr result (λ fault. IsUnplanned fault flusher.old flusher.new) }
 {
@@ -103,13 +107,15 @@ impl<R: Record, D: Disk> Committer<R, D> {
         }
     }
 
-    /// Lists the calls that commit what was grown, and answers how many growths they commit: as many as one payload holds.
+    /// Lists the calls that commit what was grown, and answers how many growths they commit: as many as one payload holds, and 0
+    /// only where all that are known are taken.
     /// Refused as the flusher is: `Strayed`; `Pen(FileFull)` and `Pen(Memory)`, after which it may be called again;
     /// `Pen(Broken)` and `Pen(Disk)`, where a call has failed.
     pub fn plan(&mut self) -> Result<u64, FlushFault>
         ensures phase { phase_of self.new ≡ phase_of self.old }
         ensures goes_on { GoesOn (λ disk. D.keeps disk.inner) self.old.flusher self.new.flusher }
         ensures taken { IfOk result (λ count. self.new.flusher.taken ≡ self.old.flusher.taken + count) }
+        ensures some { IfOk result (λ count. self.new.flusher.taken < length self.new.flusher.pass.entries → 0 < count) }
         ensures idle { OnOk result (self.new.flusher.pen.job ≡ None) }
         ensures made { self.new.made ≡ self.old.made }
         ensures refused { IfErr result (λ fault. IsUnplanned fault self.old.flusher self.new.flusher) }

@@ -17,6 +17,7 @@ use crate::lending::lend_new;
 use book_core::{Live, Seat};
 use pen_core::{OpenFault, PenFault};
 use record_core::Record;
+use relay_core::HostFile;
 use segment_core::Format;
 use std::alloc::Global;
 use std::sync::Arc;
@@ -56,14 +57,19 @@ impl<R: Record> Phase<R> {
         ensures seats { IfOk result (λ r. length r.0.seats.items ≡ seats) }
         ensures may { OnOk result (MayBegin growth_limit seats) }
     {
-        match Vault::create_as(alloc, host_disk(alloc, bytes), format) {
+        let Some((disk, held)) = host_disk::<HostFile>(alloc, bytes) else {
+            return Err(BeginFault::Pen(PenFault::Memory));
+        };
+        let made = Vault::create_as(alloc, disk, format);
+        held.give_up(alloc);
+        match made {
             Ok(vault) => lend_new(alloc, vault, seats),
             Err((_, fault)) => Err(BeginFault::Pen(fault)),
         }
     }
 
     /// A phase over a file that holds these bytes, with so many seats: from 1 to 64. What the file has stands in it from
-    /// before. Who commits lists a sync first: what was read is durable from then on.
+    /// before, and the bytes are given up. Who commits lists a sync first: what was read is durable from then on.
     pub fn open(
         alloc: Global,
         bytes: Vec<u8>,
@@ -76,7 +82,12 @@ impl<R: Record> Phase<R> {
         ensures seats { IfOk result (λ r. length r.0.seats.items ≡ seats) }
         ensures may { OnOk result (MayBegin growth_limit seats) }
     {
-        match Vault::open(alloc, host_disk(alloc, bytes)) {
+        let Some((disk, held)) = host_disk::<HostFile>(alloc, bytes) else {
+            return Err(BeginFault::Pen(PenFault::Memory));
+        };
+        let opened = Vault::open(alloc, disk);
+        held.give_up(alloc);
+        match opened {
             Ok(vault) => lend_new(alloc, vault, seats),
             Err((_, fault)) => Err(BeginFault::Open(fault)),
         }

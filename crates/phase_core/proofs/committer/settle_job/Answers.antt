@@ -5,7 +5,7 @@ use Rattle.phase_core.proofs.GoesOnLemmas.{GoesOn-refl, GoesOn-join, GoesOn-tick
 use Rattle.phase_core.proofs.committer.settle_job.Goals as goal
 
 pub loop-init : goal.loop-init
-loop-init g c = record { so_far = GoesOn-refl (λ (disk : _). g.D.Disk.keeps disk.inner) c.args.flusher.now; taken = refl }
+loop-init g c = record { so_far = GoesOn-refl (λ (disk : _). g.D.Disk.keeps disk.inner) c.args.flusher.now; taken = refl; pass = refl }
 
 pub loop-smaller : goal.loop-smaller
 loop-smaller g c =
@@ -19,6 +19,7 @@ loop-preserved g c =
       so_far = GoesOn-join (λ (disk : _). g.D.Disk.keeps disk.inner) c.args.flusher.now c.loop.flusher c.tick.new.self c.loop.invariant.so_far
           (GoesOn-tick (λ (disk : _). g.D.Disk.keeps disk.inner) c.loop.flusher c.tick.new.self e.same e.no_less e.opening e.model);
       taken = e.same.taken_same ∙ c.loop.invariant.taken;
+      pass = e.same.pass_same ∙ c.loop.invariant.pass;
     }
 
 pub returns-in_err-tick-clause-goes_on : goal.returns-in_err-tick-clause-goes_on

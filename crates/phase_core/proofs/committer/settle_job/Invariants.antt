@@ -7,6 +7,7 @@ abbrev pub invariant-loop : goal.invariant-loop
 invariant-loop g l = record {
   so_far : GoesOn (λ (disk : _). g.D.Disk.keeps disk.inner) l.fn.flusher l.flusher;
   taken : l.flusher.taken ≡ l.fn.flusher.taken;
+  pass : l.flusher.pass ≡ l.fn.flusher.pass;
 }
 
 abbrev pub decreases-loop : goal.decreases-loop

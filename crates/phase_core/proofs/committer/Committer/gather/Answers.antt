@@ -1,4 +1,4 @@
-use Rattle.std.proofs.Common.{◌++◌, ◌∙◌, refl, ap}
+use Rattle.std.proofs.Common.{◌++◌, ◌∙◌, refl, rules, ap}
 use Rattle.directory_core.specs.Chain.{grown_records}
 use Rattle.book_core.specs.Lists.{opening_of}
 use Rattle.phase_core.proofs.committer.Committer.gather.Goals as goal
@@ -10,6 +10,7 @@ returns-in-Ok-try_unwrap-clause-gathers g c =
     let learns = c.end_phase.ensures.learns in
     record {
       flusher = flusher;
+      of = search rules;
       learns = learns;
       ended = c.in-Ok.ensures.ended;
       list = e.list ∙ ap (λ live. opening_of live ++ grown_records flusher.pass.entries) c.in-Ok-try_unwrap.ensures.ok;
