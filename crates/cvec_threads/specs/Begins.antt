@@ -1,41 +1,27 @@
--- A vector that begins.
-use Rattle.std.specs.Prelude.{◌≡◌, ◌⊎◌, ℕ, List, [], length, Option, None, Some}
-use Rattle.std.specs.Arc.{arc_value}
-use Rattle.std.specs.declared.cmp.PartialEq as PartialEq
-use Rattle.record_core.specs.declared.record.Record as Record
-use Rattle.disk_core.specs.FileDisk.{KeepsSoFar}
-use Rattle.segment_core.specs.Shape.{version_of}
-use Rattle.pen_core.specs.Births.{IsExisting}
-use Rattle.pen_core.specs.Opening.{IsOpened}
-use Rattle.book_core.specs.Lists.{opening_of}
+-- What handles have of a vector that begins.
+use Rattle.std.specs.Prelude.{◌≡◌, ◌⊎◌, ℕ, [], Option, None, Some}
+use Rattle.segment_core.specs.declared.format.Format.{Format}
+use Rattle.handle_core.specs.declared.refusal.Refusal.TheVariants.{NotSo}
+use Rattle.handle_core.specs.Refusal.{code_of}
+use Rattle.handle_core.specs.Begins.{HasRead, Begins, RefusesBeginning}
 use Rattle.handle_core.specs.Roles.{Seats}
-use Rattle.handle_core.specs.Ends.{AllAt, width_of}
+use Rattle.handle_core.specs.Handles.{Refused}
+use Rattle.handle_core.specs.Ends.{OfAny, AtAny, AllAt, width_of}
 use Rattle.handle_core.specs.declared.session.End.{End}
-use Rattle.handle_core.specs.declared.session.Role.{Role}
-use Rattle.handle_core.specs.declared.session.Role.TheVariants as roles
 
-module _ {R : Type 0} {record_of : Record.Ghosts R} {eq_of : PartialEq.Ghosts R} where
-  -- the one has a phase with so many seats, the other who commits for it; no growth was made, and no record stands in it from
-  -- before; the bytes were no file yet, which is to have that version
-  abbrev pub BeginsEmpty : List ℕ → ℕ → ℕ → Role R record_of eq_of → Role R record_of eq_of → Type 0
-  BeginsEmpty bytes version seats (roles.Phase phase) (roles.Committer committer) =
-      (version_of committer.flusher.pen.shape.format ≡ version) × (length phase.seats.items ≡ seats)
-      × ((arc_value phase.live).blocks ≡ []) × (KeepsSoFar committer.flusher.pen.disk.inner → IsExisting bytes → ⊥) × (arc_value committer.live ≡ arc_value phase.live)
-      × (committer.flusher.settled ≡ 0) × (committer.flusher.pass.entries ≡ [])
-  BeginsEmpty bytes version seats phase committer = ⊥
+-- the handle has a file whose records have so many bytes, and of which nothing is read
+abbrev pub HasFile : ℕ → Option End → Type 0
+HasFile width (Some file) = (width_of file ≡ width) × OfAny (λ _ _ _. HasRead []) file
+HasFile width None = ⊥
 
-  -- so over a file that holds these bytes: what stands in it from before are its records
-  abbrev pub BeginsOver : List ℕ → ℕ → Role R record_of eq_of → Role R record_of eq_of → Type 0
-  BeginsOver bytes seats (roles.Phase phase) (roles.Committer committer) =
-      (length phase.seats.items ≡ seats) × (KeepsSoFar committer.flusher.pen.disk.inner → IsOpened record_of.form bytes committer.flusher.pen (opening_of (arc_value phase.live)))
-      × (arc_value committer.live ≡ arc_value phase.live)
-      × (committer.flusher.settled ≡ 0) × (committer.flusher.pass.entries ≡ [])
-  BeginsOver bytes seats phase committer = ⊥
+-- the one handle had a file and has who commits, and the other has the phase, with so many seats
+abbrev pub HasBegun : Option Format → ℕ → Option End → Option End → Option End → Type 0
+HasBegun made seats (Some old) (Some new) (Some phase) = AllAt (λ _ _ _. Begins made seats) phase old new
+HasBegun made seats old new phase = ⊥
 
--- both handles have an end of one vector whose records have so many bytes, and these are so related
-abbrev pub HasBegun : ℕ → (End → End → Type 0) → Option End → Option End → Type 0
-HasBegun width P (Some phase) (Some committer) = (width_of phase ≡ width) × P phase committer
-HasBegun width P phase committer = ⊥
+-- Why it isn't so: the file is refused, and what is left of it; or something else was asked for, and the handle is as it was.
+abbrev pub IsNotBegun : ℕ → Option End → Option End → Type 0
+IsNotBegun code old new = Refused (λ refusal. AtAny (λ _ _ _. RefusesBeginning refusal)) code old new ⊎ ((code ≡ code_of NotSo) × (new ≡ old))
 
 -- the handle has what it had, or nothing
 abbrev pub IsLeft : Option End → Option End → Type 0

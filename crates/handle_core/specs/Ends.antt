@@ -30,6 +30,10 @@ width_of (ends.U64 role) = 8
 width_of (ends.Pair role) = 16
 width_of (ends.Flagged role) = 9
 
+-- such a width is there
+abbrev pub IsWidth : ℕ → Type 0
+IsWidth width = (end : End) × (width_of end ≡ width)
+
 -- ---- whatever its records are
 
 -- what is said of an end, of any records

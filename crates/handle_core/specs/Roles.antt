@@ -1,5 +1,5 @@
 -- What a call makes of an end of a phase.
-use Rattle.std.specs.Prelude.{◌≡◌, ◌⊎◌, ℕ, ◌+◌, ◌≤◌, List, [], ◌∷◌, ◌++◌, length, None}
+use Rattle.std.specs.Prelude.{◌≡◌, ◌⊎◌, ℕ, ◌+◌, ◌<◌, ◌≤◌, List, [], ◌∷◌, ◌++◌, length, None}
 use Rattle.std.specs.Arc.{arc_value}
 use Rattle.std.specs.declared.cmp.PartialEq as PartialEq
 use Rattle.record_core.specs.declared.record.Record as Record
@@ -78,12 +78,12 @@ module _ {R : Type 0} {record_of : Record.Ghosts R} {eq_of : PartialEq.Ghosts R}
 
   -- ---- who commits
 
-  -- it lists the calls that commit so many growths more, and tells nobody yet
+  -- it lists the calls that commit so many growths more, none only where all that are known are taken, and tells nobody yet
   abbrev pub Plans : ℕ → Role R record_of eq_of → Role R record_of eq_of → Type 0
   Plans count (roles.Committer old) (roles.Committer new) =
       (arc_value new.live ≡ arc_value old.live) × (new.made ≡ old.made)
       × GoesOn (λ disk. KeepsSoFar disk.inner) old.flusher new.flusher
-      × (new.flusher.taken ≡ old.flusher.taken + count) × (new.flusher.pen.job ≡ None)
+      × (new.flusher.taken ≡ old.flusher.taken + count) × (new.flusher.taken < length new.flusher.pass.entries → 0 < count) × (new.flusher.pen.job ≡ None)
   Plans count old new = ⊥
 
   -- Why it plans no calls: nothing more was taken then, but where a call has failed; nobody is told anything. Or it is another

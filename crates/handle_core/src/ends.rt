@@ -1,6 +1,9 @@
 //! The calls of an end that name no record, whatever records its vector has.
 
 ghost use Rattle.std.specs.Prelude.{◌≡◌, true, IfOk, IfErr, OnOk};
+ghost use Rattle.directory_core.specs.Limits.{growth_limit};
+ghost use Rattle.book_core.specs.Beginning.{MayBegin};
+ghost use Rattle.handle_core.specs.Begins.{Feeds, RefusesFeeding, Begins, RefusesBeginning};
 ghost use Rattle.handle_core.specs.Roles.{Seats, RefusesSeat, Tells, IsNoGrower, Sizes, RefusesLook, Plans, RefusesPlan, Lists, Settles, RefusesSettle};
 ghost use Rattle.handle_core.specs.Vaults.{GathersIn, RefusesGathering, SharesOut, RefusesSharing, Measures, IsNoVault, Clears, RefusesClear, FoldsAll, RefusesFolding};
 ghost use Rattle.handle_core.specs.Ends.{AtAny, AllAt, OfAny};
@@ -9,9 +12,68 @@ use crate::refusal::Refusal;
 use crate::session::{End, Role, Session};
 use book_core::MarkState;
 use relay_core::Call;
+use segment_core::Format;
 use std::alloc::Global;
 
 impl Session {
+    /// Puts a piece behind the bytes of a file that were read before. `Memory`.
+    pub fn feed(&mut self, piece: &[u8]) -> Result<(), Refusal>
+        ensures feeds { OnOk result (AtAny (λ _ _ _. Feeds piece.now) self.old.end self.new.end) }
+        ensures refused { IfErr result (λ refusal. AtAny (λ _ _ _. RefusesFeeding refusal) self.old.end self.new.end) }
+    {
+        match &mut self.end {
+            End::U32(role) => role.feed(piece),
+            End::U64(role) => role.feed(piece),
+            End::Pair(role) => role.feed(piece),
+            End::Flagged(role) => role.feed(piece),
+        }
+    }
+
+    /// Begins the vector of a file whose bytes are all read, or, of a format, an empty one over what a stopped creation left there,
+    /// for so many seats, from 1 to 64: the phase's end is answered, and it is who commits. Refused as a file is, or for want of
+    /// memory. The bytes are given up then, but where there was none for the answered end.
+    pub fn begin(
+        &mut self,
+        alloc: Global,
+        made: Option<Format>,
+        seats: u16,
+    ) -> Result<Box<Session>, Refusal>
+        ensures begins { IfOk result (λ phase. AllAt (λ _ _ _. Begins made seats) phase.value.end self.old.end self.new.end) }
+        ensures may { OnOk result (MayBegin growth_limit seats) }
+        ensures refused { IfErr result (λ refusal. AtAny (λ _ _ _. RefusesBeginning refusal) self.old.end self.new.end) }
+    {
+        let room = Box::new(alloc, Session::nothing()).ok();
+        let phase = self.begin_file(alloc, made, seats, room.is_some())?;
+        match room {
+            Some(mut end) => {
+                end.put(phase);
+                Ok(end)
+            }
+            None => unreachable!(),
+        }
+    }
+
+    /// The same, with the phase's end by itself. `Memory` too where its caller has no room for that.
+    fn begin_file(
+        &mut self,
+        alloc: Global,
+        made: Option<Format>,
+        seats: u16,
+        has_room: bool,
+    ) -> Result<End, Refusal>
+        ensures begins { IfOk result (λ phase. AllAt (λ _ _ _. Begins made seats) phase self.old.end self.new.end) }
+        ensures may { OnOk result (MayBegin growth_limit seats) }
+        ensures room { OnOk result (has_room ≡ true) }
+        ensures refused { IfErr result (λ refusal. AtAny (λ _ _ _. RefusesBeginning refusal) self.old.end self.new.end) }
+    {
+        match &mut self.end {
+            End::U32(role) => Ok(End::U32(role.begin(alloc, made, seats, has_room)?)),
+            End::U64(role) => Ok(End::U64(role.begin(alloc, made, seats, has_room)?)),
+            End::Pair(role) => Ok(End::Pair(role.begin(alloc, made, seats, has_room)?)),
+            End::Flagged(role) => Ok(End::Flagged(role.begin(alloc, made, seats, has_room)?)),
+        }
+    }
+
     /// The end of one more thread. `NotSo` where each seat is taken, or there is no memory.
     pub fn seat(&mut self) -> Result<End, Refusal>
         ensures seated { IfOk result (λ seat. AllAt (λ _ _ _. Seats) seat self.old.end self.new.end) }

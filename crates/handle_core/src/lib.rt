@@ -4,6 +4,7 @@
 mod committer_calls;
 mod end_record;
 mod ends;
+mod file_calls;
 mod grower_calls;
 mod handle;
 mod kept;

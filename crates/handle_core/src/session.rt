@@ -8,6 +8,8 @@ use record_core::{Flagged, Pair, Record};
 /// Which end it is.
 #[derive(Drop)]
 pub enum Role<R: Record> {
+    /// The bytes of a file, as far as they are read.
+    File(Vec<u8>),
     /// The phase, with the seats that nobody has.
     Phase(Phase<R>),
     /// A thread's own end.

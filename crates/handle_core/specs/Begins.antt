@@ -1,0 +1,64 @@
+-- A vector that begins.
+use Rattle.std.specs.Prelude.{◌≡◌, ⊤, ℕ, List, [], ◌++◌, length, Option, None, Some}
+use Rattle.std.specs.Arc.{arc_value}
+use Rattle.std.specs.declared.cmp.PartialEq as PartialEq
+use Rattle.record_core.specs.declared.record.Record as Record
+use Rattle.disk_core.specs.FileDisk.{KeepsSoFar}
+use Rattle.segment_core.specs.Shape.{version_of}
+use Rattle.segment_core.specs.declared.format.Format.{Format}
+use Rattle.pen_core.specs.Births.{IsExisting}
+use Rattle.pen_core.specs.Opening.{IsOpened}
+use Rattle.book_core.specs.Lists.{opening_of}
+use Rattle.handle_core.specs.declared.refusal.Refusal.{Refusal}
+use Rattle.handle_core.specs.declared.refusal.Refusal.TheVariants.{Memory, NotSo}
+use Rattle.handle_core.specs.declared.session.Role.{Role}
+use Rattle.handle_core.specs.declared.session.Role.TheVariants as roles
+
+module _ {R : Type 0} {record_of : Record.Ghosts R} {eq_of : PartialEq.Ghosts R} where
+  -- of its file these bytes are read
+  abbrev pub HasRead : List ℕ → Role R record_of eq_of → Type 0
+  HasRead bytes (roles.File read) = read.items ≡ bytes
+  HasRead bytes role = ⊥
+
+  -- this piece stands behind the bytes that were read
+  abbrev pub Feeds : List ℕ → Role R record_of eq_of → Role R record_of eq_of → Type 0
+  Feeds piece (roles.File old) (roles.File new) = new.items ≡ old.items ++ piece
+  Feeds piece old new = ⊥
+
+  -- there was no memory for the piece, or it is another end; it is as it was
+  abbrev pub RefusesFeeding : Refusal → Role R record_of eq_of → Role R record_of eq_of → Type 0
+  RefusesFeeding refusal (roles.File old) (roles.File new) = (refusal ≡ Memory) × (new.items ≡ old.items)
+  RefusesFeeding refusal (roles.File old) new = ⊥
+  RefusesFeeding refusal old new = (refusal ≡ NotSo) × (new ≡ old)
+
+  -- the one has a phase with so many seats, the other who commits for it; no growth was made, and no record stands in it from
+  -- before; the bytes were no file yet, which is to have that version
+  abbrev pub BeginsEmpty : List ℕ → ℕ → ℕ → Role R record_of eq_of → Role R record_of eq_of → Type 0
+  BeginsEmpty bytes version seats (roles.Phase phase) (roles.Committer committer) =
+      (version_of committer.flusher.pen.shape.format ≡ version) × (length phase.seats.items ≡ seats)
+      × ((arc_value phase.live).blocks ≡ []) × (KeepsSoFar committer.flusher.pen.disk.inner → IsExisting bytes → ⊥) × (arc_value committer.live ≡ arc_value phase.live)
+      × (committer.flusher.settled ≡ 0) × (committer.flusher.pass.entries ≡ [])
+  BeginsEmpty bytes version seats phase committer = ⊥
+
+  -- so over a file that holds these bytes: what stands in it from before are its records
+  abbrev pub BeginsOver : List ℕ → ℕ → Role R record_of eq_of → Role R record_of eq_of → Type 0
+  BeginsOver bytes seats (roles.Phase phase) (roles.Committer committer) =
+      (length phase.seats.items ≡ seats) × (KeepsSoFar committer.flusher.pen.disk.inner → IsOpened record_of.form bytes committer.flusher.pen (opening_of (arc_value phase.live)))
+      × (arc_value committer.live ≡ arc_value phase.live)
+      × (committer.flusher.settled ≡ 0) × (committer.flusher.pass.entries ≡ [])
+  BeginsOver bytes seats phase committer = ⊥
+
+  -- The vector of the bytes that were read begins, or, of a format, the empty one in their place: the first of these ends has its
+  -- phase, the last who commits.
+  abbrev pub Begins : Option Format → ℕ → Role R record_of eq_of → Role R record_of eq_of → Role R record_of eq_of → Type 0
+  Begins None seats phase (roles.File read) committer = BeginsOver read.items seats phase committer
+  Begins (Some format) seats phase (roles.File read) committer = BeginsEmpty read.items (version_of format) seats phase committer
+  Begins format seats phase old new = ⊥
+
+  -- The bytes are given up, as those over which no vector begins, or for whose vector there was no memory; or there was none for C's
+  -- end of the phase, or it is another end, and is as it was.
+  abbrev pub RefusesBeginning : Refusal → Role R record_of eq_of → Role R record_of eq_of → Type 0
+  RefusesBeginning refusal (roles.File read) roles.Nothing = ⊤
+  RefusesBeginning refusal (roles.File read) (roles.File left) = (refusal ≡ Memory) × (left ≡ read)
+  RefusesBeginning refusal (roles.File read) new = ⊥
+  RefusesBeginning refusal old new = (refusal ≡ NotSo) × (new ≡ old)

@@ -1,0 +1,103 @@
+//! How a file is read, and how its vector begins.
+
+ghost use Rattle.std.specs.Prelude.{◌≡◌, [], true, IfOk, IfErr, OnOk, MatchOption};
+ghost use Rattle.directory_core.specs.Limits.{growth_limit};
+ghost use Rattle.book_core.specs.Beginning.{MayBegin};
+ghost use Rattle.handle_core.specs.Begins.{HasRead, Feeds, RefusesFeeding, Begins, RefusesBeginning};
+ghost use Rattle.handle_core.specs.Ends.{IsWidth, OfAny, width_of};
+
+use crate::refusal::Refusal;
+use crate::session::{End, Role};
+use phase_core::Phase;
+use record_core::Record;
+use segment_core::Format;
+use std::alloc::Global;
+use std::mem;
+
+impl End {
+    /// A file whose records have so many bytes, with memory for its own. `None` where the width is none of 4, 8, 9 and 16.
+    pub fn file(width: u16, room: Vec<u8>) -> Option<End>
+        requires { room.items ≡ [] }
+        ensures file { MatchOption result (IsWidth width → ⊥) (λ end. (width_of end ≡ width) × OfAny (λ _ _ _. HasRead []) end) }
+    {
+        match width {
+            4 => Some(End::U32(Role::File(room))),
+            8 => Some(End::U64(Role::File(room))),
+            9 => Some(End::Flagged(Role::File(room))),
+            16 => Some(End::Pair(Role::File(room))),
+            _ => None,
+        }
+    }
+}
+
+impl<R: Record> Role<R> {
+    /// Puts a piece behind the bytes of a file that were read before. `Memory`.
+    pub(crate) fn feed(&mut self, piece: &[u8]) -> Result<(), Refusal>
+        ensures feeds { OnOk result (Feeds piece.now self.old self.new) }
+        ensures refused { IfErr result (λ refusal. RefusesFeeding refusal self.old self.new) }
+    {
+        match self {
+            Role::File(read) => match read.extend_from_slice(piece) {
+                Ok(()) => Ok(()),
+                Err(_) => Err(Refusal::Memory),
+            },
+            _ => Err(Refusal::NotSo),
+        }
+    }
+
+    /// Begins the vector of a file whose bytes are all read, or, of a format, an empty one over what a stopped creation left there,
+    /// for so many seats: the phase's end is answered, and it is who commits. `Memory` too where its caller has no room for that
+    /// end. Otherwise the bytes are given up where it is refused.
+    pub(crate) fn begin(
+        &mut self,
+        alloc: Global,
+        made: Option<Format>,
+        seats: u16,
+        has_room: bool,
+    ) -> Result<Role<R>, Refusal>
+        ensures begins { IfOk result (λ phase. Begins made seats phase self.old self.new) }
+        ensures may { OnOk result (MayBegin growth_limit seats) }
+        ensures room { OnOk result (has_room ≡ true) }
+        ensures refused { IfErr result (λ refusal. RefusesBeginning refusal self.old self.new) }
+    {
+        match mem::replace(self, Role::Nothing) {
+            Role::File(read) => {
+                if has_room {
+                    return self.begin_over(alloc, read, made, seats);
+                }
+                self.put(Role::File(read));
+                Err(Refusal::Memory)
+            }
+            other => {
+                self.put(other);
+                Err(Refusal::NotSo)
+            }
+        }
+    }
+
+    /// So over the bytes that it had.
+    fn begin_over(
+        &mut self,
+        alloc: Global,
+        read: Vec<u8>,
+        made: Option<Format>,
+        seats: u16,
+    ) -> Result<Role<R>, Refusal>
+        requires { self.old ≡ Role.Nothing }
+        ensures begins { IfOk result (λ phase. Begins made seats phase (Role.File read) self.new) }
+        ensures may { OnOk result (MayBegin growth_limit seats) }
+        ensures refused { IfErr result (λ refusal. RefusesBeginning refusal (Role.File read) self.new) }
+    {
+        let begun = match made {
+            Some(format) => Phase::create(alloc, read, format, seats),
+            None => Phase::open(alloc, read, seats),
+        };
+        match begun {
+            Ok((phase, committer)) => {
+                self.put(Role::Committer(committer));
+                Ok(Role::Phase(phase))
+            }
+            Err(fault) => Err(Refusal::of_begin(fault)),
+        }
+    }
+}
