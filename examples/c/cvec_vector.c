@@ -60,6 +60,9 @@ static cvec_pair no_room[1];
 /* The seats of one vector, and how far apart in memory lies what no two processors take from one another. */
 enum { MOST_SEATS = 64, APART = 128 };
 
+/* How many bytes of a file are read at once where it is opened. */
+#define PIECE_LEN ((size_t)1 << 18)
+
 /* How often a growth that came second is tried again at once; then for how many nanoseconds it sleeps at first, and at most. */
 enum { TRIES_AT_ONCE = 3, FIRST_NAP = 2000, LONGEST_NAP = 200000 };
 
@@ -279,13 +282,15 @@ static uint32_t length_of(int fd, uint64_t *len) {
     return CVEC_DONE;
 }
 
-static uint32_t read_at(int fd, uint8_t *bytes, size_t len) {
-    for (size_t at = 0; at < len;) {
-        ssize_t done = pread(fd, bytes + at, len - at, (off_t)at);
+static uint32_t read_at(int fd, uint64_t at, uint8_t *bytes, size_t len) {
+    while (len > 0) {
+        ssize_t done = pread(fd, bytes, len, (off_t)at);
         if (was_interrupted(done)) continue;
         if (done == 0) errno = EIO;
         if (done <= 0) return CVEC_DISK_READ;
-        at += (size_t)done;
+        bytes += done;
+        at += (uint64_t)done;
+        len -= (size_t)done;
     }
     return CVEC_DONE;
 }
@@ -641,35 +646,44 @@ static uint32_t open_alone(cvec_vector *vector, const char *path, int flags) {
     return answer == CVEC_DONE ? sync_data(vector->fd) : answer;
 }
 
-/* Whether so few bytes are what a stopped creation leaves: each is 0, or the one that the empty file gets. Others are
- * somebody's, and a creation would write over them. */
-static bool is_vacant(const uint8_t *there, size_t len, uint16_t width, uint8_t version) {
+/* Whether what the file holds is what a stopped creation leaves: few bytes, of which each is 0, or the one that the empty file
+ * gets. Others are somebody's, and a creation would write over them. */
+static uint32_t check_vacant(int fd, uint64_t len, uint16_t width, uint8_t version) {
     const uint8_t empty[CVEC_EMPTY_LEN] = {1, 'C', 'V', 'E', 'C', 'S', 'E', 'G', version, (uint8_t)width, 0, 0};
-    for (size_t at = 0; at < len; at++)
-        if (there[at] != 0 && there[at] != empty[at]) return false;
-    return true;
+    uint8_t there[CVEC_EMPTY_LEN];
+    if (len > CVEC_EMPTY_LEN) return CVEC_EXISTS;
+    uint32_t answer = read_at(fd, 0, there, (size_t)len);
+    for (size_t at = 0; answer == CVEC_DONE && at < (size_t)len; at++)
+        if (there[at] != 0 && there[at] != empty[at]) answer = CVEC_EXISTS;
+    return answer;
 }
 
-/* Begins the vector over these bytes; a version of 0 opens it. */
-static uint32_t begin_over(cvec_vector *vector, const uint8_t *bytes, size_t len, uint8_t version, uint16_t seats) {
-    const uint16_t width = width_of(vector->type);
-    if (version == 0) return cvec_phase_open(bytes, len, width, seats, &vector->phase, &vector->committer);
-    if (!is_vacant(bytes, len, width, version)) return CVEC_EXISTS;
-    return cvec_phase_create(bytes, len, width, version, seats, &vector->phase, &vector->committer);
+/* Gives the handle what its file holds, from the front on, piece by piece. */
+static uint32_t feed(cvec_handle *file, int fd, uint64_t len) {
+    uint32_t answer = CVEC_DONE;
+    uint8_t *piece = malloc(PIECE_LEN);
+    if (piece == NULL) return CVEC_MEMORY;
+    for (uint64_t at = 0; answer == CVEC_DONE && at < len; at += PIECE_LEN) {
+        const size_t count = len - at < PIECE_LEN ? (size_t)(len - at) : PIECE_LEN;
+        answer = read_at(fd, at, piece, count);
+        if (answer == CVEC_DONE) answer = cvec_phase_feed(file, piece, count);
+    }
+    free(piece);
+    return answer;
 }
 
-/* So over what the file holds. */
+/* Begins the vector over what the file holds; a version of 0 opens it. */
 static uint32_t begin(cvec_vector *vector, uint8_t version, uint16_t seats) {
+    const uint16_t width = width_of(vector->type);
+    cvec_handle *file = &vector->committer; /* which it becomes */
     uint64_t len = 0;
     uint32_t answer = length_of(vector->fd, &len);
+    if (answer == CVEC_DONE && version != 0) answer = check_vacant(vector->fd, len, width, version);
+    if (answer == CVEC_DONE) answer = cvec_phase_file(len, width, file);
+    if (answer == CVEC_DONE) answer = feed(file, vector->fd, len);
     if (answer != CVEC_DONE) return answer;
-    if (version != 0 && len > CVEC_EMPTY_LEN) return CVEC_EXISTS;
-    uint8_t *bytes = len < SIZE_MAX ? malloc((size_t)len + 1) : NULL;
-    if (bytes == NULL) return CVEC_MEMORY;
-    answer = read_at(vector->fd, bytes, (size_t)len);
-    if (answer == CVEC_DONE) answer = begin_over(vector, bytes, (size_t)len, version, seats);
-    free(bytes);
-    return answer;
+    if (version == 0) return cvec_phase_open(file, seats, &vector->phase);
+    return cvec_phase_create(file, version, seats, &vector->phase);
 }
 
 static uint32_t begin_at(cvec_vector **begun, const char *path, cvec_type type, int flags, uint8_t version, uint16_t seats) {

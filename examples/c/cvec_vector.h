@@ -185,12 +185,15 @@ typedef struct cvec_call {
     uint32_t kind;        /* 0 a write, 1 a sync (fdatasync) */
 } cvec_call;
 
-/* Begins a vector over a file that holds these bytes, and fills two handles: the phase, which gives seats, and who commits.
- * width: the bytes of a record, 4 of u32, 8 of u64 and i64, 16 of pair, 9 of flagged; else CVEC_WIDTH. */
-uint32_t cvec_phase_create(const uint8_t *bytes, size_t len, uint16_t width, uint8_t version, uint16_t seats,
-                           cvec_handle *phase, cvec_handle *committer);
-uint32_t cvec_phase_open(const uint8_t *bytes, size_t len, uint16_t width, uint16_t seats, cvec_handle *phase,
-                         cvec_handle *committer);
+/* A file whose bytes are to be read: file has memory for len of them, and cvec_phase_feed puts them there, from the front on,
+ * piece by piece. width: the bytes of a record, 4 of u32, 8 of u64 and i64, 16 of pair, 9 of flagged; else CVEC_WIDTH. */
+uint32_t cvec_phase_file(uint64_t len, uint16_t width, cvec_handle *file);
+uint32_t cvec_phase_feed(cvec_handle *file, const uint8_t *piece, size_t len);
+
+/* Begins the vector of a file whose bytes are all read: its handle has who commits then, and phase the seats. Refused, the bytes
+ * are given up, and the handle is to be closed. */
+uint32_t cvec_phase_create(cvec_handle *file, uint8_t version, uint16_t seats, cvec_handle *phase);
+uint32_t cvec_phase_open(cvec_handle *file, uint16_t seats, cvec_handle *phase);
 uint32_t cvec_phase_seat(cvec_handle *phase, cvec_handle *grower);
 uint32_t cvec_phase_close(cvec_handle *handle);
 

@@ -200,6 +200,20 @@ memory_that_a_vector_in_c_is_refused_loses_nothing() (
     a_behaviour_of_a_vector_in_c memory
 )
 
+# 64 MB of records: while they are opened the file's bytes stand beside them, and then they alone.
+opening_in_c_holds_the_bytes_of_a_file_once() (
+    make_threads
+    compile_threads "$top/tests/threads/opening.c" "$c/cvec_vector.c" -o "$work/opening"
+    seq 0 7999999 >"$work/records"
+    run create u64 "$work/t.cv"
+    run append u64 "$work/t.cv" --block=131071 <"$work/records"
+    [ "$status" -eq 0 ]
+    "$work/opening" "$work/t.cv" 8000000 >"$out"
+    read -r most stays <"$out"
+    [ "$most" -lt 240 ]
+    [ "$stays" -lt 140 ]
+)
+
 a_vector_in_c_that_is_full_goes_on_with_new_seats() (
     a_behaviour_of_a_vector_in_c full
 )

@@ -1467,7 +1467,9 @@ static void widths(const char *path) {
     HOLDS(cvec_vault_count_u32(&seat->grower, 5, &count) == CVEC_WIDTH && count == 9);
     HOLDS(cvec_vault_count_u64(&seat->grower, 5, &count) == CVEC_NOT_SO && count == 9);
     HOLDS(grow(5, &out) == CVEC_DONE && out == 0);
-    HOLDS(cvec_phase_create(NULL, 0, 5, 1, 1, &vector->phase, &vector->committer) == CVEC_WIDTH);
+    HOLDS(cvec_phase_file(0, 5, &seat->grower) == CVEC_WIDTH);
+    HOLDS(cvec_phase_feed(&seat->grower, (const uint8_t *)"x", 1) == CVEC_NOT_SO);
+    HOLDS(cvec_phase_open(&seat->grower, 1, &vector->phase) == CVEC_NOT_SO);
     HOLDS(cvec_vector_close_seat(seat) == CVEC_DONE);
     HOLDS(cvec_vector_clear(vector) == CVEC_DONE);
     HOLDS(cvec_vault_change_flagged(&vector->committer, 0, (cvec_flagged[1]){{1, true}}, 1) == CVEC_WIDTH);

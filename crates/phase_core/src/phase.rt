@@ -57,12 +57,7 @@ impl<R: Record> Phase<R> {
         ensures seats { IfOk result (λ r. length r.0.seats.items ≡ seats) }
         ensures may { OnOk result (MayBegin growth_limit seats) }
     {
-        let Some((disk, held)) = host_disk::<HostFile>(alloc, bytes) else {
-            return Err(BeginFault::Pen(PenFault::Memory));
-        };
-        let made = Vault::create_as(alloc, disk, format);
-        held.give_up(alloc);
-        match made {
+        match Vault::create_as(alloc, host_disk::<HostFile>(alloc, bytes), format) {
             Ok(vault) => lend_new(alloc, vault, seats),
             Err((_, fault)) => Err(BeginFault::Pen(fault)),
         }
@@ -82,12 +77,7 @@ impl<R: Record> Phase<R> {
         ensures seats { IfOk result (λ r. length r.0.seats.items ≡ seats) }
         ensures may { OnOk result (MayBegin growth_limit seats) }
     {
-        let Some((disk, held)) = host_disk::<HostFile>(alloc, bytes) else {
-            return Err(BeginFault::Pen(PenFault::Memory));
-        };
-        let opened = Vault::open(alloc, disk);
-        held.give_up(alloc);
-        match opened {
+        match Vault::open(alloc, host_disk::<HostFile>(alloc, bytes)) {
             Ok(vault) => lend_new(alloc, vault, seats),
             Err((_, fault)) => Err(BeginFault::Open(fault)),
         }

@@ -3,40 +3,29 @@
 ghost use Rattle.std.specs.Prelude.{◌≤◌, length};
 
 use std::alloc::Global;
+use std::cell::RefCell;
 use std::fs::{Metadata, OpenFile};
 use std::io;
 use std::os::unix::fs::FileExt;
-use std::sync::{Arc, Mutex};
 
-/// A file whose calls a host makes. It reads from bytes that the host has read before, until these are given up. A write and a
-/// sync are answered as if they had succeeded: the host makes them later, and goes no further where one fails.
+/// A file whose calls a host makes. It reads from bytes that the host has read before: once, since a read that reaches their end
+/// gives up their memory. A write and a sync are answered as if they had succeeded: the host makes them later, and goes no
+/// further where one fails.
 #[derive(Drop)]
 pub struct HostFile {
-    bytes: Arc<Mutex<Vec<u8>>, Global>,
+    alloc: Global,
+    bytes: RefCell<Vec<u8>>,
     len: u64,
 }
 
-/// The bytes of a host's file, for whoever opens it: what was opened reads them no more.
-#[derive(Drop)]
-pub struct HostBytes {
-    bytes: Arc<Mutex<Vec<u8>>, Global>,
-}
-
 impl HostFile {
-    /// A file with these bytes, and what gives them up. `None` where there is no memory for what both share.
-    pub fn of(alloc: Global, bytes: Vec<u8>) -> Option<(HostFile, HostBytes)> {
+    /// A file with these bytes.
+    pub fn of(alloc: Global, bytes: Vec<u8>) -> HostFile {
         let len = bytes.len() as u64;
-        let bytes = Arc::new(alloc, Mutex::new(bytes)).ok()?;
-        let other = bytes.clone().ok()?;
-        Some((HostFile { bytes, len }, HostBytes { bytes: other }))
-    }
-}
-
-impl HostBytes {
-    /// Gives up their memory: whoever reads the file from then on finds nothing.
-    pub fn give_up(self, alloc: Global) {
-        if let Some(mut bytes) = self.bytes.try_lock() {
-            *bytes = Vec::new(alloc);
+        HostFile {
+            alloc,
+            bytes: RefCell::new(bytes),
+            len,
         }
     }
 }
@@ -56,10 +45,14 @@ fn copy_from(bytes: &[u8], offset: u64, buf: &mut [u8]) -> usize
 
 impl FileExt for HostFile {
     fn read_at(&self, buf: &mut [u8], offset: u64) -> io::Result<usize> {
-        match self.bytes.try_lock() {
-            Some(bytes) => Ok(copy_from(bytes.as_slice(), offset, buf)),
-            None => Err(io::ErrorKind::WouldBlock.into()),
+        let Ok(mut bytes) = self.bytes.try_borrow_mut() else {
+            return Err(io::ErrorKind::WouldBlock.into());
+        };
+        let count = copy_from(bytes.as_slice(), offset, buf);
+        if offset.saturating_add(count as u64) == self.len {
+            *bytes = Vec::new(self.alloc);
         }
+        Ok(count)
     }
 
     fn write_at(&self, buf: &[u8], _offset: u64) -> io::Result<usize> {

@@ -7,5 +7,5 @@ mod host_file;
 mod relay_disk;
 
 pub use call::Call;
-pub use host_file::{HostBytes, HostFile};
+pub use host_file::HostFile;
 pub use relay_disk::RelayDisk;
