@@ -88,16 +88,30 @@ impl<R: Record> Role<R> {
         ensures may { OnOk result (MayBegin growth_limit seats) }
         ensures refused { IfErr result (λ refusal. RefusesBeginning refusal (Role.File read) self.new) }
     {
-        let begun = match made {
-            Some(format) => Phase::create(alloc, read, format, seats),
-            None => Phase::open(alloc, read, seats),
-        };
-        match begun {
-            Ok((phase, committer)) => {
-                self.put(Role::Committer(committer));
-                Ok(Role::Phase(phase))
-            }
+        let (phase, committer) = ends_over(alloc, read, made, seats)?;
+        self.put(committer);
+        Ok(phase)
+    }
+}
+
+/// Both ends of the vector of these bytes, or, of a format, of an empty one over them: the phase, and who commits.
+fn ends_over<R: Record>(
+    alloc: Global,
+    read: Vec<u8>,
+    made: Option<Format>,
+    seats: u16,
+) -> Result<(Role<R>, Role<R>), Refusal>
+    ensures begins { IfOk result (λ ends. Begins made seats ends.0 (Role.File read) ends.1) }
+    ensures may { OnOk result (MayBegin growth_limit seats) }
+{
+    match made {
+        Some(format) => match Phase::create(alloc, read, format, seats) {
+            Ok((phase, committer)) => Ok((Role::Phase(phase), Role::Committer(committer))),
             Err(fault) => Err(Refusal::of_begin(fault)),
-        }
+        },
+        None => match Phase::open(alloc, read, seats) {
+            Ok((phase, committer)) => Ok((Role::Phase(phase), Role::Committer(committer))),
+            Err(fault) => Err(Refusal::of_begin(fault)),
+        },
     }
 }
