@@ -18,39 +18,62 @@
 struct cvec_vector {
     int fd;
     uint64_t process; /* in which it was begun */
-    pthread_mutex_t mutex;   /* guards all below but `committer`, which who commits has */
+    pthread_mutex_t mutex;   /* guards all below but what who commits has, and who has all handles */
     pthread_cond_t settled;  /* a commit has ended */
     pthread_cond_t returned; /* each that it woke has come again */
     pthread_cond_t flushing; /* a loop of a flusher is to end, or has */
+    pthread_cond_t released; /* nobody has all handles any more */
     cvec_handle phase, committer;
-    cvec_type type;   /* of the records */
-    uint64_t durable; /* so many growths are */
-    uint64_t begun;   /* so many growths there are of seats that are closed */
+    cvec_type type;     /* of the records */
+    uint64_t durable;   /* so many growths are */
+    uint64_t committed; /* the same, as who commits knows it */
+    uint64_t begun;     /* so many growths there are of seats that are closed */
+    uint64_t base;      /* so many there were before this phase: who has all handles writes it, and what follows */
+    uint64_t phases;    /* so many began, this one too */
+    bool unseated;      /* a renewal was refused halfway: the seats have no growers until it is ended */
+    bool alone;         /* `committer` has a vault, and `phase` nothing */
     cvec_vector_seat *first; /* of the seats that aren't closed */
-    uint32_t seats;          /* so many these are */
+    cvec_vector_seat *idle;  /* of those that are, and have a grower for the next one */
+    struct in_line *line;    /* of the calls that wait for a seat, the one that came first */
+    uint32_t queued;         /* so many these are */
+    uint32_t seats;          /* so many aren't closed */
+    uint32_t taken;          /* so many were taken */
     uint32_t flushers;       /* whose loops run */
-    uint32_t asking;         /* so many calls wait for a commit of one of them, and are by no seat */
+    uint32_t asking;         /* so many calls by no seat are under way that wait, or have all handles */
     uint32_t waiting;        /* so many wait for the commit that is under way */
     uint32_t woken;          /* so many haven't come again of those that the last one woke, and who made it */
     uint64_t written;        /* so many bytes it wrote: who commits has it too */
     uint16_t most_seats;
     bool committing, stopped; /* stopped: no loop of a flusher goes on */
-    bool broken;              /* is written with the mutex, and by __atomic */
-    bool full;  /* a growth was refused for it: once each seat is closed, the next one begins a new phase */
-    bool alone; /* `committer` has a vault, and `phase` nothing */
+    bool held;       /* one call has all handles, those of the seats too, or waits for them: it commits then */
+    uint32_t shut;   /* by __atomic: it is held or unseated */
+    uint32_t broken; /* by __atomic */
 };
+
+/* What a seat's thread does: nothing by it, a call that may use its grower, or one that doesn't. */
+enum { FREE, INSIDE, ASIDE };
+
+/* The first phase is 1. */
+enum { NO_PHASE, FIRST_PHASE };
 
 struct cvec_vector_seat {
     cvec_vector *vector;
     cvec_handle grower;
     uint64_t begun; /* by __atomic: so many growths of this seat there are, or are coming */
     size_t room;    /* so many bytes are left of the memory that was asked for at once */
-    cvec_vector_seat *next; /* of those that aren't closed: with the vector's mutex */
+    cvec_vector_seat *next; /* of those that aren't closed, or of those that are: with the vector's mutex */
+    uint16_t number;        /* how many were taken before it */
     uint8_t *pushed; /* room for a block of records, or NULL: none was pushed since it was given back */
     size_t waiting;  /* so many of them were pushed and aren't grown: fewer than a block */
     size_t block;    /* so many are grown at once */
     cvec_receipt last; /* of the last growth by what was pushed; one of no records: there is none */
-    bool busy;         /* by __atomic */
+    uint32_t busy;     /* by __atomic */
+};
+
+/* A call that waits for a seat. */
+struct in_line {
+    pthread_cond_t turn; /* it may be its turn */
+    struct in_line *next;
 };
 
 /* What is lent in place of no records. */
@@ -364,6 +387,20 @@ static struct timespec moment_behind(time_t seconds, long nanoseconds) {
     return moment;
 }
 
+/* So many milliseconds from now on. */
+static struct timespec moment_in(uint64_t milliseconds) {
+    if (milliseconds > LONGEST_WAIT) milliseconds = LONGEST_WAIT;
+    return moment_behind((time_t)(milliseconds / 1000), (long)(milliseconds % 1000) * 1000000);
+}
+
+/* No moment never passes. */
+static bool has_passed(const struct timespec *moment) {
+    struct timespec now;
+    if (moment == NULL) return false;
+    clock_gettime(CLOCK_MONOTONIC, &now);
+    return now.tv_sec > moment->tv_sec || (now.tv_sec == moment->tv_sec && now.tv_nsec >= moment->tv_nsec);
+}
+
 /* Makes the listed call of that number: a write writes what stands in the library. */
 static uint32_t make_call(cvec_vector *vector, uint64_t number) {
     cvec_call call;
@@ -381,12 +418,15 @@ static uint32_t make_calls(cvec_vector *vector) {
     return answer;
 }
 
-/* For who has the committer: commits one group of what was grown. */
-static uint32_t commit(cvec_vector *vector, uint64_t *growths, uint64_t *durable) {
+/* For who has the committer: commits one group of what was grown. The library counts the growths of this phase. */
+static uint32_t commit(cvec_vector *vector, uint64_t *growths) {
+    uint64_t durable = 0;
     vector->written = 0;
     uint32_t answer = cvec_phase_plan(&vector->committer, growths);
     if (answer == CVEC_DONE) answer = make_calls(vector);
-    return answer == CVEC_DONE ? cvec_phase_settle(&vector->committer, durable) : answer;
+    if (answer == CVEC_DONE) answer = cvec_phase_settle(&vector->committer, &durable);
+    if (answer == CVEC_DONE) vector->committed = vector->base + durable;
+    return answer;
 }
 
 /* Whether the answer of a commit leaves a vector that commits no more: else the same commit may be tried again. */
@@ -407,26 +447,93 @@ static void await_woken(cvec_vector *vector) {
     vector->woken = 0;
 }
 
-/* With the mutex, while nobody commits: commits one group for all who wait. Meanwhile it hasn't got the mutex. */
-static uint32_t lead(cvec_vector *vector, uint64_t *growths) {
-    uint64_t durable = 0;
-    vector->committing = true;
-    if (vector->woken > 0 && vector->written < LARGE_GROUP) await_woken(vector);
-    pthread_mutex_unlock(&vector->mutex);
-    uint32_t answer = commit(vector, growths, &durable);
-    pthread_mutex_lock(&vector->mutex);
+static void set_broken(cvec_vector *vector) { __atomic_store_n(&vector->broken, 1, __ATOMIC_RELAXED); }
+
+static bool is_broken(const cvec_vector *vector) { return __atomic_load_n(&vector->broken, __ATOMIC_RELAXED) != 0; }
+
+/* With the mutex: nobody commits any more, and who waited for it goes on. */
+static void end_commit(cvec_vector *vector) {
     vector->committing = false;
-    if (answer == CVEC_DONE) vector->durable = durable;
-    if (is_lasting(answer)) __atomic_store_n(&vector->broken, true, __ATOMIC_RELAXED);
+    vector->durable = vector->committed;
     vector->woken = vector->waiting;
     vector->waiting = 0;
     pthread_cond_broadcast(&vector->settled);
+}
+
+/* With the mutex, while nobody commits: commits one group for all who wait. Meanwhile it hasn't got the mutex. */
+static uint32_t lead(cvec_vector *vector, uint64_t *growths) {
+    vector->committing = true;
+    if (vector->woken > 0 && vector->written < LARGE_GROUP) await_woken(vector);
+    pthread_mutex_unlock(&vector->mutex);
+    uint32_t answer = commit(vector, growths);
+    pthread_mutex_lock(&vector->mutex);
+    if (is_lasting(answer)) set_broken(vector);
+    end_commit(vector);
     return answer;
 }
 
-/* ---- the whole vector, while no seat is taken: who asks has the mutex, and all handles */
+/* A condition whose deadlines are of the clock that nobody sets. */
+static void begin_condition(pthread_cond_t *condition) {
+    pthread_condattr_t steady;
+    pthread_condattr_init(&steady);
+    pthread_condattr_setclock(&steady, CLOCK_MONOTONIC);
+    pthread_cond_init(condition, &steady);
+    pthread_condattr_destroy(&steady);
+}
 
-static void set_broken(cvec_vector *vector) { __atomic_store_n(&vector->broken, true, __ATOMIC_RELAXED); }
+/* ---- having all handles: of the whole vector, while no seat is taken; and of a new phase, beside seats */
+
+/* Sleeps so that who came first can go on, each time longer. */
+static void give_way(long *nap) {
+    struct timespec time = {0, *nap};
+    nanosleep(&time, NULL);
+    if (*nap < LONGEST_NAP) *nap *= 2;
+}
+
+/* With the mutex: whether calls by seats wait. */
+static void shut(cvec_vector *vector) {
+    __atomic_store_n(&vector->shut, (uint32_t)(vector->held || vector->unseated), __ATOMIC_SEQ_CST);
+}
+
+/* With the mutex. Of a call that begins later it sees that, or the call sees that it is shut out, and goes aside. */
+static bool is_somebody_inside(const cvec_vector *vector) {
+    for (const cvec_vector_seat *seat = vector->first; seat != NULL; seat = seat->next)
+        if (__atomic_load_n(&seat->busy, __ATOMIC_SEQ_CST) == INSIDE) return true;
+    return false;
+}
+
+/* With the mutex, while nobody has all handles: has them. Calls inside end by themselves, since none of them waits for another
+ * thread's: who awaits a commit, and who is to have another phase, is aside. It hasn't got the mutex from then on. */
+static void take_all(cvec_vector *vector) {
+    long nap = FIRST_NAP;
+    vector->asking++;
+    vector->held = true;
+    shut(vector);
+    while (vector->committing) pthread_cond_wait(&vector->settled, &vector->mutex);
+    vector->committing = true;
+    while (is_somebody_inside(vector)) {
+        pthread_mutex_unlock(&vector->mutex);
+        give_way(&nap);
+        pthread_mutex_lock(&vector->mutex);
+    }
+    pthread_mutex_unlock(&vector->mutex);
+}
+
+/* With the mutex: who came first to wait for a seat looks again. */
+static void call_first(cvec_vector *vector) {
+    if (vector->line != NULL) pthread_cond_signal(&vector->line->turn);
+}
+
+/* Others have them again. It has the mutex from then on. */
+static void give_all_back(cvec_vector *vector) {
+    pthread_mutex_lock(&vector->mutex);
+    vector->asking--;
+    vector->held = false;
+    shut(vector);
+    end_commit(vector);
+    pthread_cond_broadcast(&vector->released);
+    call_first(vector);
+}
 
 /* Behind an answer after which nothing can be committed the vector is broken. */
 static uint32_t told(cvec_vector *vector, uint32_t answer) {
@@ -441,27 +548,37 @@ static uint32_t settle_listed(cvec_vector *vector) {
     return told(vector, answer == CVEC_DONE ? cvec_phase_settle(&vector->committer, &durable) : answer);
 }
 
-/* A loop of a flusher may commit, though no seat is taken. Meanwhile it hasn't got the mutex. No seat tells a close of who waits
- * here, and it would free the vector under them: they are counted until they have the mutex, which they keep from then on. */
-static void await_commit(cvec_vector *vector) {
-    vector->asking++;
-    while (vector->committing && vector->seats == 0) pthread_cond_wait(&vector->settled, &vector->mutex);
-    vector->asking--;
+/* The growers of closed seats, which would be given to the next ones. */
+static void drop_idle(cvec_vector *vector) {
+    while (vector->idle != NULL) {
+        cvec_vector_seat *seat = vector->idle;
+        vector->idle = seat->next;
+        cvec_phase_close(&seat->grower);
+        free(seat);
+    }
 }
 
-/* While nobody commits: commits all growths, closes the phase, and has the vector alone. */
+/* Closes the phase and each grower. What seats keep and have counted stays. */
+static void unseat(cvec_vector *vector) {
+    drop_idle(vector);
+    for (cvec_vector_seat *seat = vector->first; seat != NULL; seat = seat->next) cvec_phase_close(&seat->grower);
+    cvec_phase_close(&vector->phase);
+    vector->unseated = vector->seats > 0;
+}
+
+/* Commits all growths, closes the phase and all growers, and has the vector alone. Refused before it closes them, all is as it was. */
 static uint32_t gather(cvec_vector *vector) {
     uint64_t growths = 1;
     uint32_t answer = CVEC_DONE;
-    while (answer == CVEC_DONE && growths > 0) answer = commit(vector, &growths, &vector->durable);
+    while (answer == CVEC_DONE && growths > 0) answer = commit(vector, &growths);
     if (answer != CVEC_DONE) return told(vector, answer);
-    cvec_phase_close(&vector->phase);
+    unseat(vector);
     answer = cvec_phase_gather(&vector->committer);
     vector->alone = answer == CVEC_DONE;
     return told(vector, answer);
 }
 
-/* Threads have it again. Where even the vault is lost, for want of memory, the file has all. */
+/* Threads have it again, and growths are counted on. Where even the vault is lost, for want of memory, the file has all. */
 static uint32_t share(cvec_vector *vector) {
     uint64_t size;
     uint32_t answer = cvec_phase_share(&vector->committer, vector->most_seats, &vector->phase);
@@ -469,40 +586,62 @@ static uint32_t share(cvec_vector *vector) {
         if (cvec_vault_size(&vector->committer, &size) != CVEC_DONE) set_broken(vector);
         return told(vector, answer);
     }
-    vector->alone = vector->full = false;
-    vector->durable = vector->begun = 0;
+    vector->alone = false;
+    vector->base = vector->committed;
+    vector->phases++;
     return answer;
 }
 
-/* While nobody commits, and no seat is taken: a new phase, with all its seats. */
+/* Each seat that isn't closed has a grower of the new phase; or none has, where memory is refused. */
+static uint32_t seat_all(cvec_vector *vector) {
+    uint32_t answer = CVEC_DONE;
+    for (cvec_vector_seat *seat = vector->first; seat != NULL && answer == CVEC_DONE; seat = seat->next)
+        answer = cvec_phase_seat(&vector->phase, &seat->grower);
+    if (answer == CVEC_DONE)
+        vector->unseated = false;
+    else
+        unseat(vector);
+    return answer;
+}
+
+/* With the mutex, which it hasn't got meanwhile, and while nobody has all handles: a new phase, with all its seats. Others only
+ * wait longer. Refused, nothing is lost, and it may be tried again. */
 static uint32_t renew(cvec_vector *vector) {
-    if (vector->broken) return CVEC_BROKEN;
-    uint32_t answer = vector->alone ? CVEC_DONE : gather(vector);
-    return answer == CVEC_DONE ? share(vector) : answer;
+    take_all(vector);
+    uint32_t answer = is_broken(vector) ? CVEC_BROKEN : vector->alone ? CVEC_DONE : gather(vector);
+    if (answer == CVEC_DONE) answer = share(vector);
+    if (answer == CVEC_DONE) answer = seat_all(vector);
+    give_all_back(vector);
+    return answer;
 }
 
-/* A seat of the phase, or, where each of its seats was closed, of a new one. */
-static uint32_t seat_of(cvec_vector *vector, cvec_handle *grower) {
-    bool is_over = vector->alone || (vector->full && vector->seats == 0);
-    uint32_t answer = is_over ? CVEC_NOT_SO : cvec_phase_seat(&vector->phase, grower);
-    if (answer != CVEC_NOT_SO || vector->seats > 0) return answer;
-    await_commit(vector);
-    answer = vector->seats == 0 ? renew(vector) : CVEC_DONE;
-    return answer == CVEC_DONE ? cvec_phase_seat(&vector->phase, grower) : answer;
+/* With the mutex: until one may have all handles. A loop of a flusher may commit, or another call be of the whole vector, though
+ * no seat is taken. No seat tells a close of who waits here, and it would free the vector under them: they are counted. */
+static void await_handles(cvec_vector *vector) {
+    vector->asking++;
+    while (vector->seats == 0 && (vector->held || vector->committing))
+        pthread_cond_wait(vector->held ? &vector->released : &vector->settled, &vector->mutex);
+    vector->asking--;
 }
 
-/* Takes the mutex but in a forked process, and has the vector alone where it answers CVEC_DONE. */
+static void leave_alone(cvec_vector *vector) {
+    give_all_back(vector);
+    pthread_mutex_unlock(&vector->mutex);
+}
+
+/* For a call of the whole vector: it has all handles where it answers CVEC_DONE. */
 static uint32_t enter_alone(cvec_vector *vector) {
     if (vector->process != this_process()) return CVEC_FORKED;
     pthread_mutex_lock(&vector->mutex);
-    await_commit(vector);
-    if (vector->seats > 0) return CVEC_BUSY;
-    if (vector->broken) return CVEC_BROKEN;
-    return vector->alone ? CVEC_DONE : gather(vector);
-}
-
-static uint32_t leave_alone(cvec_vector *vector, uint32_t answer) {
-    if (answer != CVEC_FORKED) pthread_mutex_unlock(&vector->mutex);
+    await_handles(vector);
+    uint32_t answer = vector->seats > 0 ? CVEC_BUSY : is_broken(vector) ? CVEC_BROKEN : CVEC_DONE;
+    if (answer == CVEC_DONE)
+        take_all(vector);
+    else
+        pthread_mutex_unlock(&vector->mutex);
+    if (answer != CVEC_DONE || vector->alone) return answer;
+    answer = gather(vector);
+    if (answer != CVEC_DONE) leave_alone(vector);
     return answer;
 }
 
@@ -510,15 +649,15 @@ static uint32_t leave_alone(cvec_vector *vector, uint32_t answer) {
 static uint32_t settle_alone(cvec_vector *vector, uint32_t answer) {
     if (answer == CVEC_DONE) answer = settle_listed(vector);
     else if (answer == CVEC_BROKEN) set_broken(vector);
-    return leave_alone(vector, answer);
+    leave_alone(vector);
+    return answer;
 }
 
 uint32_t cvec_vector_change_records(cvec_vector *vector, uint64_t start, const void *records, size_t count) {
     if (!are_records(vector->type, records, count)) return CVEC_NO_RECORD;
     uint32_t answer = enter_alone(vector);
-    if (answer == CVEC_DONE)
-        answer = vault_change(vector->type, &vector->committer, start, count > 0 ? records : no_records, count);
-    return settle_alone(vector, answer);
+    if (answer != CVEC_DONE) return answer;
+    return settle_alone(vector, vault_change(vector->type, &vector->committer, start, count > 0 ? records : no_records, count));
 }
 
 uint32_t cvec_vector_change(cvec_vector *vector, uint64_t start, const uint64_t *records, size_t count) {
@@ -528,8 +667,8 @@ uint32_t cvec_vector_change(cvec_vector *vector, uint64_t start, const uint64_t 
 uint32_t cvec_vector_resize_by(cvec_vector *vector, uint64_t size, const void *record) {
     if (!are_records(vector->type, record, 1)) return CVEC_NO_RECORD;
     uint32_t answer = enter_alone(vector);
-    if (answer == CVEC_DONE) answer = vault_resize(vector->type, &vector->committer, size, record);
-    return settle_alone(vector, answer);
+    if (answer != CVEC_DONE) return answer;
+    return settle_alone(vector, vault_resize(vector->type, &vector->committer, size, record));
 }
 
 uint32_t cvec_vector_resize(cvec_vector *vector, uint64_t size, uint64_t record) {
@@ -538,21 +677,21 @@ uint32_t cvec_vector_resize(cvec_vector *vector, uint64_t size, uint64_t record)
 
 uint32_t cvec_vector_clear(cvec_vector *vector) {
     uint32_t answer = enter_alone(vector);
-    if (answer == CVEC_DONE) answer = cvec_vault_clear(&vector->committer);
-    return settle_alone(vector, answer);
+    return answer == CVEC_DONE ? settle_alone(vector, cvec_vault_clear(&vector->committer)) : answer;
 }
 
 uint32_t cvec_vector_fold(cvec_vector *vector) {
     uint32_t answer = enter_alone(vector);
-    if (answer == CVEC_DONE) answer = cvec_vault_fold(&vector->committer);
-    return settle_alone(vector, answer);
+    return answer == CVEC_DONE ? settle_alone(vector, cvec_vault_fold(&vector->committer)) : answer;
 }
 
 uint32_t cvec_vector_count_record(cvec_vector *vector, const void *record, uint64_t *count) {
     if (!are_records(vector->type, record, 1)) return CVEC_NO_RECORD;
     uint32_t answer = enter_alone(vector);
-    if (answer == CVEC_DONE) answer = vault_count(vector->type, &vector->committer, record, count);
-    return leave_alone(vector, answer);
+    if (answer != CVEC_DONE) return answer;
+    answer = vault_count(vector->type, &vector->committer, record, count);
+    leave_alone(vector);
+    return answer;
 }
 
 uint32_t cvec_vector_count(cvec_vector *vector, uint64_t record, uint64_t *count) {
@@ -562,8 +701,10 @@ uint32_t cvec_vector_count(cvec_vector *vector, uint64_t record, uint64_t *count
 uint32_t cvec_vector_find_record(cvec_vector *vector, const void *record, uint64_t from, uint64_t *place) {
     if (!are_records(vector->type, record, 1)) return CVEC_NO_RECORD;
     uint32_t answer = enter_alone(vector);
-    if (answer == CVEC_DONE) answer = vault_find(vector->type, &vector->committer, record, from, place);
-    return leave_alone(vector, answer);
+    if (answer != CVEC_DONE) return answer;
+    answer = vault_find(vector->type, &vector->committer, record, from, place);
+    leave_alone(vector);
+    return answer;
 }
 
 uint32_t cvec_vector_find(cvec_vector *vector, uint64_t record, uint64_t from, uint64_t *place) {
@@ -574,30 +715,30 @@ uint32_t cvec_vector_find(cvec_vector *vector, uint64_t record, uint64_t from, u
 
 /* Gives up what a vector has. */
 static void give_up(cvec_vector *vector) {
+    drop_idle(vector);
     cvec_phase_close(&vector->phase);
     cvec_phase_close(&vector->committer);
     if (vector->fd >= 0) close_quietly(vector->fd);
     pthread_cond_destroy(&vector->settled);
     pthread_cond_destroy(&vector->returned);
     pthread_cond_destroy(&vector->flushing);
+    pthread_cond_destroy(&vector->released);
     pthread_mutex_destroy(&vector->mutex);
     free(vector);
 }
 
 static cvec_vector *vector_of(void) {
-    pthread_condattr_t steady;
     cvec_vector *vector = calloc(1, sizeof *vector);
     if (vector == NULL) return NULL;
     vector->fd = -1;
     pthread_once(&noting, note_process);
     vector->process = this_process();
-    pthread_condattr_init(&steady);
-    pthread_condattr_setclock(&steady, CLOCK_MONOTONIC);
+    vector->phases = FIRST_PHASE;
     pthread_mutex_init(&vector->mutex, NULL);
-    pthread_cond_init(&vector->settled, &steady);
-    pthread_cond_init(&vector->returned, &steady);
-    pthread_cond_init(&vector->flushing, &steady);
-    pthread_condattr_destroy(&steady);
+    begin_condition(&vector->settled);
+    begin_condition(&vector->returned);
+    begin_condition(&vector->flushing);
+    begin_condition(&vector->released);
     return vector;
 }
 
@@ -697,7 +838,7 @@ static uint32_t begin_at(cvec_vector **begun, const char *path, cvec_type type, 
     vector->most_seats = seats;
     uint32_t answer = open_alone(vector, path, flags);
     if (answer == CVEC_DONE) answer = begin(vector, version, seats);
-    if (answer == CVEC_DONE) answer = commit(vector, &growths, &vector->durable);
+    if (answer == CVEC_DONE) answer = commit(vector, &growths);
     if (answer == CVEC_DONE)
         *begun = vector;
     else
@@ -764,7 +905,7 @@ uint32_t cvec_vector_close(cvec_vector *vector) {
     pthread_mutex_lock(&vector->mutex);
     bool busy = vector->seats > 0 || vector->asking > 0;
     if (!busy) end_flushers(vector);
-    uint32_t answer = busy ? CVEC_BUSY : vector->broken ? CVEC_BROKEN : commit_all(vector);
+    uint32_t answer = busy ? CVEC_BUSY : is_broken(vector) ? CVEC_BROKEN : commit_all(vector);
     pthread_mutex_unlock(&vector->mutex);
     if (busy) return answer;
     give_up(vector);
@@ -788,59 +929,183 @@ static cvec_vector_seat *new_seat(cvec_vector *vector) {
 static void list_seat(cvec_vector *vector, cvec_vector_seat *seat) {
     seat->next = vector->first;
     vector->first = seat;
+    seat->number = (uint16_t)vector->taken++;
     vector->seats++;
 }
 
-/* With the mutex. What was grown by the seat is counted on. */
+/* With the mutex, while nobody has all handles. What was grown by the seat is counted on, and the next one has its grower. */
 static void drop_seat(cvec_vector *vector, cvec_vector_seat *seat) {
     cvec_vector_seat **at = &vector->first;
     while (*at != seat) at = &(*at)->next;
     *at = seat->next;
     vector->begun += seat->begun;
     vector->seats--;
+    free(seat->pushed);
+    if (vector->unseated) {
+        free(seat);
+    } else {
+        seat->next = vector->idle;
+        vector->idle = seat;
+    }
+    call_first(vector);
 }
 
-uint32_t cvec_vector_take_seat(cvec_vector *vector, cvec_vector_seat **taken) {
-    *taken = NULL;
-    if (vector->process != this_process()) return CVEC_FORKED;
+/* For who has the seat: it alone counts. */
+static void count_begun(cvec_vector_seat *seat, uint64_t count) { __atomic_store_n(&seat->begun, count, __ATOMIC_RELAXED); }
+
+static void set_busy(cvec_vector_seat *seat, uint32_t busy) { __atomic_store_n(&seat->busy, busy, __ATOMIC_RELEASE); }
+
+/* With the mutex: until nobody has all handles. */
+static void await_release(cvec_vector *vector) {
+    while (vector->held) pthread_cond_wait(&vector->released, &vector->mutex);
+}
+
+/* With the mutex, while nobody has all handles: a seat of the phase, or, where each of its seats was given, of a new one. */
+static uint32_t fresh_seat(cvec_vector *vector, cvec_vector_seat **taken) {
     cvec_vector_seat *seat = new_seat(vector);
     if (seat == NULL) return CVEC_MEMORY;
-    pthread_mutex_lock(&vector->mutex);
-    uint32_t answer = seat_of(vector, &seat->grower);
-    if (answer == CVEC_DONE) list_seat(vector, seat);
-    pthread_mutex_unlock(&vector->mutex);
+    uint32_t answer = cvec_phase_seat(&vector->phase, &seat->grower);
+    if (answer == CVEC_NOT_SO) answer = renew(vector);
+    if (answer == CVEC_DONE && !seat->grower.full) answer = cvec_phase_seat(&vector->phase, &seat->grower);
     if (answer == CVEC_DONE)
         *taken = seat;
     else
         free(seat);
     return answer;
 }
-
-/* Takes the seat for one call. Two calls at once on one handle would be undefined. */
-static uint32_t enter(cvec_vector_seat *seat) {
-    if (seat->vector->process != this_process()) return CVEC_FORKED;
-    return __atomic_exchange_n(&seat->busy, true, __ATOMIC_ACQUIRE) ? CVEC_BUSY : CVEC_DONE;
+/* The grower of a seat that was closed has what its threads read of the vector, and no more than that is theirs. */
+static cvec_vector_seat *reused_seat(cvec_vector *vector) {
+    cvec_vector_seat *seat = vector->idle;
+    vector->idle = seat->next;
+    count_begun(seat, 0);
+    set_busy(seat, FREE);
+    seat->pushed = NULL;
+    seat->waiting = 0;
+    seat->block = PUSHED_AT_ONCE;
+    memset(&seat->last, 0, sizeof seat->last);
+    return seat;
 }
 
-static void leave_seat(cvec_vector_seat *seat) { __atomic_store_n(&seat->busy, false, __ATOMIC_RELEASE); }
+/* With the mutex, while nobody has all handles. */
+static uint32_t seat_of(cvec_vector *vector, cvec_vector_seat **taken) {
+    uint32_t answer = CVEC_DONE;
+    if (vector->seats == vector->most_seats) return CVEC_NOT_SO;
+    if (vector->idle != NULL)
+        *taken = reused_seat(vector);
+    else
+        answer = fresh_seat(vector, taken);
+    if (answer == CVEC_DONE) list_seat(vector, *taken);
+    call_first(vector);
+    return answer;
+}
 
-/* For who has the seat: it alone counts. */
-static void count_begun(cvec_vector_seat *seat, uint64_t count) { __atomic_store_n(&seat->begun, count, __ATOMIC_RELAXED); }
+/* With the mutex: whether there is a seat for who hasn't waited for one. */
+static bool is_one_spare(const cvec_vector *vector) { return vector->seats + vector->queued < vector->most_seats; }
+
+uint32_t cvec_vector_take_seat(cvec_vector *vector, cvec_vector_seat **taken) {
+    *taken = NULL;
+    if (vector->process != this_process()) return CVEC_FORKED;
+    pthread_mutex_lock(&vector->mutex);
+    vector->asking++;
+    await_release(vector);
+    vector->asking--;
+    uint32_t answer = is_one_spare(vector) ? seat_of(vector, taken) : CVEC_NOT_SO;
+    pthread_mutex_unlock(&vector->mutex);
+    return answer;
+}
+
+/* With the mutex: the last in line is this call. It is none that a close could overtake. */
+static void begin_line(cvec_vector *vector, struct in_line *mine) {
+    struct in_line **last = &vector->line;
+    while (*last != NULL) last = &(*last)->next;
+    *last = mine;
+    mine->next = NULL;
+    begin_condition(&mine->turn);
+    vector->queued++;
+    vector->asking++;
+}
+
+static void end_line(cvec_vector *vector, struct in_line *mine) {
+    struct in_line **at = &vector->line;
+    while (*at != mine) at = &(*at)->next;
+    *at = mine->next;
+    pthread_cond_destroy(&mine->turn);
+    vector->queued--;
+    vector->asking--;
+}
+
+/* With the mutex: waits in line for a seat, and while another call has all handles, and no longer than to this moment. */
+static uint32_t await_turn(cvec_vector *vector, const struct timespec *until) {
+    struct in_line mine;
+    uint32_t answer = CVEC_DONE;
+    begin_line(vector, &mine);
+    while (answer == CVEC_DONE && (vector->line != &mine || vector->held || vector->seats == vector->most_seats)) {
+        if (has_passed(until))
+            answer = CVEC_LATE;
+        else
+            pthread_cond_timedwait(&mine.turn, &vector->mutex, until);
+    }
+    end_line(vector, &mine);
+    return answer;
+}
+
+uint32_t cvec_vector_seat_within(cvec_vector *vector, uint64_t milliseconds, cvec_vector_seat **taken) {
+    const struct timespec until = moment_in(milliseconds);
+    *taken = NULL;
+    if (vector->process != this_process()) return CVEC_FORKED;
+    pthread_mutex_lock(&vector->mutex);
+    uint32_t answer = !vector->held && is_one_spare(vector) ? CVEC_DONE : await_turn(vector, &until);
+    if (answer == CVEC_DONE)
+        answer = seat_of(vector, taken);
+    else
+        call_first(vector);
+    pthread_mutex_unlock(&vector->mutex);
+    return answer;
+}
+
+/* ---- a call by a seat */
+
+/* Takes the seat for one call, that is inside or aside. Two calls at once on one handle would be undefined. */
+static uint32_t enter_so(cvec_vector_seat *seat, uint32_t busy) {
+    uint32_t was = FREE;
+    if (seat->vector->process != this_process()) return CVEC_FORKED;
+    return __atomic_compare_exchange_n(&seat->busy, &was, busy, false, __ATOMIC_SEQ_CST, __ATOMIC_RELAXED) ? CVEC_DONE : CVEC_BUSY;
+}
+
+static void leave_seat(cvec_vector_seat *seat) { set_busy(seat, FREE); }
+
+/* For a call by this seat: it is inside once its grower is one of another phase than this. Where another thread is at that it
+ * waits for it, and else begins that phase. Refused, it is aside. */
+static uint32_t come_in(cvec_vector_seat *seat, uint64_t past_phase) {
+    cvec_vector *vector = seat->vector;
+    uint32_t answer = CVEC_DONE;
+    set_busy(seat, ASIDE);
+    pthread_mutex_lock(&vector->mutex);
+    await_release(vector);
+    while (answer == CVEC_DONE && (vector->unseated || vector->phases == past_phase)) {
+        answer = renew(vector);
+        await_release(vector);
+    }
+    if (answer == CVEC_DONE) set_busy(seat, INSIDE);
+    pthread_mutex_unlock(&vector->mutex);
+    return answer;
+}
+
+/* For a call that uses its grower. */
+static uint32_t enter(cvec_vector_seat *seat) {
+    uint32_t answer = enter_so(seat, INSIDE);
+    if (answer != CVEC_DONE || !__atomic_load_n(&seat->vector->shut, __ATOMIC_SEQ_CST)) return answer;
+    answer = come_in(seat, NO_PHASE);
+    if (answer != CVEC_DONE) leave_seat(seat);
+    return answer;
+}
+
+/* ---- growths */
 
 static uint32_t begin_growth(cvec_vector_seat *seat) {
-    if (__atomic_load_n(&seat->vector->broken, __ATOMIC_RELAXED)) return CVEC_BROKEN;
+    if (is_broken(seat->vector)) return CVEC_BROKEN;
     count_begun(seat, seat->begun + 1);
     return CVEC_DONE;
-}
-
-/* A growth that has begun was refused. */
-static void take_back(cvec_vector_seat *seat, uint32_t answer) {
-    cvec_vector *vector = seat->vector;
-    count_begun(seat, seat->begun - 1);
-    if (answer != CVEC_FULL) return;
-    pthread_mutex_lock(&vector->mutex);
-    vector->full = true;
-    pthread_mutex_unlock(&vector->mutex);
 }
 
 /* The first touch of a page is dear: for small growths all of them are touched by one call. In that, threads would wait for one
@@ -871,13 +1136,6 @@ static void make_room(cvec_vector_seat *seat, size_t count) {
     seat->room -= len;
 }
 
-/* Sleeps so that who came first can go on, each time longer. */
-static void give_way(long *nap) {
-    struct timespec time = {0, *nap};
-    nanosleep(&time, NULL);
-    if (*nap < LONGEST_NAP) *nap *= 2;
-}
-
 static uint32_t grow_in_turn(cvec_vector_seat *seat, const void *records, size_t count, cvec_receipt *receipt) {
     uint64_t size;
     long nap = FIRST_NAP;
@@ -891,13 +1149,30 @@ static uint32_t grow_in_turn(cvec_vector_seat *seat, const void *records, size_t
     }
 }
 
-/* For who has the seat: all of the records are grown, or none. */
+/* Where the phase takes no more growths, it is made in the next one. */
+static uint32_t grow_by(cvec_vector_seat *seat, const void *records, size_t count, cvec_receipt *receipt) {
+    for (;;) {
+        const uint64_t phase = seat->vector->phases;
+        uint32_t answer = grow_in_turn(seat, records, count, receipt);
+        if (answer != CVEC_FULL) return answer;
+        answer = come_in(seat, phase);
+        if (answer != CVEC_DONE) return answer;
+    }
+}
+
+/* For a call inside: all of the records are grown, or none. What the library counts of a phase is counted on here. */
 static uint32_t grow_block(cvec_vector_seat *seat, const void *records, size_t count, cvec_receipt *receipt) {
     uint32_t answer = begin_growth(seat);
     if (answer != CVEC_DONE) return answer;
     make_room(seat, count);
-    answer = grow_in_turn(seat, count > 0 ? records : no_records, count, receipt);
-    if (answer != CVEC_DONE) take_back(seat, answer);
+    answer = grow_by(seat, count > 0 ? records : no_records, count, receipt);
+    if (answer != CVEC_DONE) {
+        count_begun(seat, seat->begun - 1);
+        return answer;
+    }
+    receipt->number += seat->vector->base;
+    receipt->serial = seat->begun - 1;
+    receipt->seat = seat->number;
     return answer;
 }
 
@@ -976,7 +1251,7 @@ uint32_t cvec_vector_grow_pushed(cvec_vector_seat *seat, cvec_receipt *receipt) 
 }
 
 uint32_t cvec_vector_pushed(cvec_vector_seat *seat, const void **records, size_t *count) {
-    uint32_t answer = enter(seat);
+    uint32_t answer = enter_so(seat, ASIDE);
     if (answer != CVEC_DONE) return answer;
     *records = seat->waiting > 0 ? (const void *)seat->pushed : no_records;
     *count = seat->waiting;
@@ -984,37 +1259,23 @@ uint32_t cvec_vector_pushed(cvec_vector_seat *seat, const void **records, size_t
     return answer;
 }
 
-/* What can't be grown goes with the seat: else a seat of a full or a broken vector could never be closed, nor the vector. */
+/* What can't be grown goes with the seat: else a seat of a broken vector could never be closed, nor the vector. */
 uint32_t cvec_vector_close_seat(cvec_vector_seat *seat) {
     if (seat == NULL) return CVEC_NOT_SO;
-    uint32_t answer = enter(seat);
+    uint32_t answer = enter_so(seat, ASIDE);
     if (answer != CVEC_DONE) return answer;
     cvec_vector *vector = seat->vector;
-    answer = grow_waiting(seat);
-    cvec_phase_close(&seat->grower);
+    if (seat->waiting > 0) answer = come_in(seat, NO_PHASE);
+    if (answer == CVEC_DONE) answer = grow_waiting(seat);
+    set_busy(seat, ASIDE);
     pthread_mutex_lock(&vector->mutex);
+    await_release(vector);
     drop_seat(vector, seat);
     pthread_mutex_unlock(&vector->mutex);
-    free(seat->pushed);
-    free(seat);
     return answer;
 }
 
 /* ---- waiting, and who commits for nobody */
-
-/* So many milliseconds from now on. */
-static struct timespec moment_in(uint64_t milliseconds) {
-    if (milliseconds > LONGEST_WAIT) milliseconds = LONGEST_WAIT;
-    return moment_behind((time_t)(milliseconds / 1000), (long)(milliseconds % 1000) * 1000000);
-}
-
-/* No moment never passes. */
-static bool has_passed(const struct timespec *moment) {
-    struct timespec now;
-    if (moment == NULL) return false;
-    clock_gettime(CLOCK_MONOTONIC, &now);
-    return now.tv_sec > moment->tv_sec || (now.tv_sec == moment->tv_sec && now.tv_nsec >= moment->tv_nsec);
-}
 
 /* With the mutex: until a commit of another has ended, and no longer than to this moment. Whether the moment has come. */
 static bool await_other(cvec_vector *vector, const struct timespec *until) {
@@ -1027,7 +1288,7 @@ static bool await_other(cvec_vector *vector, const struct timespec *until) {
 static uint32_t await_count(cvec_vector *vector, uint64_t count, const struct timespec *until) {
     uint64_t growths = 0;
     for (bool late = false; vector->durable < count; late = has_passed(until)) {
-        if (vector->broken) return CVEC_BROKEN;
+        if (is_broken(vector)) return CVEC_BROKEN;
         if (late) return CVEC_LATE;
         come(vector);
         if (vector->committing) {
@@ -1035,6 +1296,7 @@ static uint32_t await_count(cvec_vector *vector, uint64_t count, const struct ti
             if (await_other(vector, until) && vector->waiting > 0) vector->waiting--;
             continue;
         }
+        if (vector->unseated) return CVEC_OUT_OF_RANGE; /* all are durable, and the committer may be a vault */
         uint32_t answer = lead(vector, &growths);
         if (answer != CVEC_DONE) return answer;
         if (vector->woken > 0) vector->woken++; /* who made it comes again too */
@@ -1044,7 +1306,7 @@ static uint32_t await_count(cvec_vector *vector, uint64_t count, const struct ti
 }
 
 static uint32_t await_until(cvec_vector_seat *seat, uint64_t number, const struct timespec *until) {
-    uint32_t answer = enter(seat);
+    uint32_t answer = enter_so(seat, ASIDE);
     if (answer != CVEC_DONE) return answer;
     pthread_mutex_lock(&seat->vector->mutex);
     answer = number == UINT64_MAX ? CVEC_OUT_OF_RANGE : await_count(seat->vector, number + 1, until);
@@ -1068,17 +1330,19 @@ static uint64_t all_begun(const cvec_vector *vector) {
     return count;
 }
 
-/* With the mutex: commits what there is now, by as many commits as that takes. While it waits for another's, growths may be
- * counted from 0 again, and the committer become a vault, which has none to commit. */
+/* With the mutex: commits what there is now, by as many commits as that takes. While it waits for another's the committer may
+ * become a vault: then all that was wanted is durable. */
 static uint32_t flush(cvec_vector *vector) {
     const uint64_t wanted = all_begun(vector);
     uint64_t growths = 1;
     uint32_t answer = CVEC_DONE;
-    while (answer == CVEC_DONE && growths > 0 && vector->durable < wanted && !vector->stopped && !vector->alone) {
-        if (vector->broken)
+    while (answer == CVEC_DONE && growths > 0 && vector->durable < wanted && !vector->stopped) {
+        if (is_broken(vector))
             answer = CVEC_BROKEN;
         else if (vector->committing)
             await_other(vector, NULL);
+        else if (vector->alone || vector->unseated)
+            growths = 0;
         else
             answer = lead(vector, &growths);
     }
@@ -1096,7 +1360,7 @@ uint32_t cvec_vector_run_flusher(cvec_vector *vector, uint64_t every_millisecond
     pthread_mutex_lock(&vector->mutex);
     vector->flushers++;
     while (answer == CVEC_DONE && !vector->stopped) {
-        answer = vector->broken ? CVEC_BROKEN : flush(vector);
+        answer = is_broken(vector) ? CVEC_BROKEN : flush(vector);
         if (answer == CVEC_DONE) rest(vector, moment_in(every_milliseconds > 0 ? every_milliseconds : 1));
     }
     vector->flushers--;
@@ -1121,6 +1385,7 @@ uint32_t cvec_vector_settled(cvec_vector_seat *seat, uint64_t *count) {
     uint32_t answer = enter(seat);
     if (answer != CVEC_DONE) return answer;
     answer = cvec_phase_settled(&seat->grower, count, &state);
+    if (answer == CVEC_DONE) *count += seat->vector->base;
     leave_seat(seat);
     return answer;
 }
@@ -1206,9 +1471,9 @@ const char *cvec_vector_status_text(uint32_t status) {
     case CVEC_NOT_FILE: return "a folder, a pipe or a device has this name";
     case CVEC_NOT_SO: return "every seat is taken, or there is no such version or type";
     case CVEC_AGAIN: return "another growth came first";
-    case CVEC_FULL: return "it was grown 1,048,568 times: close each seat, and take new ones";
+    case CVEC_FULL: return "it was grown 1,048,568 times";
     case CVEC_BUSY: return "another thread is inside a call, or a seat isn't closed";
-    case CVEC_LATE: return "the time has passed: it may yet become durable";
+    case CVEC_LATE: return "the time has passed: what was waited for may yet come";
     case CVEC_UNFOLDED: return "a change isn't folded: fold first";
     case CVEC_UNSETTLED: return "a growth isn't committed";
     default: return "an unknown status";

@@ -22,9 +22,9 @@ extern "C" {
 enum cvec_vector_status {
     CVEC_NOT_SO = 64, /* every seat is taken, or there is no such version or type; of the library: a handle of another end, or none */
     CVEC_AGAIN = 65,  /* of the library alone: another growth came first */
-    CVEC_FULL = 66,   /* it was grown 1,048,568 times: close each seat, and the next one goes on */
+    CVEC_FULL = 66,   /* of the library alone: it was grown 1,048,568 times */
     CVEC_BUSY = 67,   /* another thread is inside a call by this seat; of a vector's call: a seat isn't closed */
-    CVEC_LATE = 68,   /* of cvec_vector_await_for: the time has passed. The growth may yet become durable */
+    CVEC_LATE = 68,   /* of cvec_vector_await_for and cvec_vector_seat_within: the time has passed */
     CVEC_UNFOLDED = 69, /* a resize that takes records away, or a clear, while a change isn't folded: fold first */
     CVEC_UNSETTLED = 70 /* of the library alone: a growth isn't committed */
 };
@@ -36,11 +36,11 @@ typedef struct cvec_vector_seat cvec_vector_seat;
 
 /* Where a growth stands. */
 typedef struct cvec_receipt {
-    uint64_t number; /* how many growths stand before it */
+    uint64_t number; /* how many growths stand before it, since the vector was begun; of the library's, in this phase */
     uint64_t start;  /* how many records stand before it */
     uint64_t len;    /* how many it has */
     uint64_t serial; /* how many growths of its seat stand before it */
-    uint16_t seat;   /* whose growth it is */
+    uint16_t seat;   /* whose growth it is: how many seats were taken before that one, where they are fewer than 65,536 */
 } cvec_receipt;
 
 /* Makes a file of version 1 or 2, or opens one that is there, for so many seats: 1 to 64. The file is locked (flock) until
@@ -60,7 +60,7 @@ uint32_t cvec_vector_create(cvec_vector **vector, const char *path, uint8_t vers
 uint32_t cvec_vector_open(cvec_vector **vector, const char *path, uint16_t seats);
 
 /* Ends the loops of flushers and waits for these, commits what was grown, and closes the file. CVEC_BUSY, and nothing ends or
- * is closed, while a seat isn't closed, or a call by no seat waits for a flusher's commit. Whatever else it answers, the vector is
+ * is closed, while a seat isn't closed, or a call by no seat waits, or has the whole vector. Whatever else it answers, the vector is
  * gone; another number than CVEC_DONE says that growths nobody awaited may be lost. But for such a call and for loops of flushers
  * that have begun, no call may be under way beside it, or begin. */
 uint32_t cvec_vector_close(cvec_vector *vector);
@@ -68,14 +68,14 @@ uint32_t cvec_vector_close(cvec_vector *vector);
 /* Which file it is: the number of its device, and its own there. One that is put in its place has another. */
 uint32_t cvec_vector_identity(const cvec_vector *vector, uint64_t *device, uint64_t *file);
 
-/* A seat, for one thread at a time. Each is given once. Where none is left and each is closed, all are given again, and growths
- * are counted from 0. So also where each is closed, and CVEC_FULL, or a call of the whole vector that had it, came between. All
- * growths from before are durable then, and a number from before names none of the new ones. CVEC_MEMORY may cost one seat until
- * each is closed; where all were to be given again, it may cost the vector (CVEC_BROKEN from then on), and the file has all.
- *
- * Where such a call was refused before it had the vector, as for memory, they may be counted on. Who has awaited all sees it by
- * cvec_vector_settled, which answers 0 or as many as before. */
+/* A seat, for one thread at a time. CVEC_NOT_SO: as many are taken, or waited for, as the vector has. It waits for nothing but a
+ * pause: while the whole vector is changed, or growths are about to pass 1,048,568, 2,097,136, .. since the last such change, which
+ * settles them all first. */
 uint32_t cvec_vector_take_seat(cvec_vector *vector, cvec_vector_seat **seat);
+
+/* The same, but it waits so many milliseconds at most for a seat that another thread closes, and for a pause: CVEC_LATE. Who came
+ * first has the first one. With 0 it only looks. So any number of threads work by the seats that there are. */
+uint32_t cvec_vector_seat_within(cvec_vector *vector, uint64_t milliseconds, cvec_vector_seat **seat);
 
 /* Grows by what was pushed and still waits, and gives the seat up. Its growths stay. CVEC_BUSY, CVEC_FORKED: it stays. Whatever
  * else it answers, the seat is gone; another number than CVEC_DONE says why what waited wasn't grown, and is lost: who can't
@@ -83,7 +83,10 @@ uint32_t cvec_vector_take_seat(cvec_vector *vector, cvec_vector_seat **seat);
 uint32_t cvec_vector_close_seat(cvec_vector_seat *seat);
 
 /* Grows by copies of these records, as one block behind all that was grown before: all of them are in the vector, in a row,
- * or none. Others read them from then on; durable they are once they are awaited. receipt may be NULL. */
+ * or none. Others read them from then on; durable they are once they are awaited. receipt may be NULL.
+ *
+ * Once in 1,048,568 growths it settles all that was grown, and begins a new phase, while other calls wait: so it may answer what
+ * a commit does. Refused for memory, it may be made again; until then calls by other seats may be refused so too. */
 uint32_t cvec_vector_grow_records(cvec_vector_seat *seat, const void *records, size_t count, cvec_receipt *receipt);
 
 /* Puts a copy of one record into a buffer of the seat, where it waits. The 1,024th there grows the vector by all of them, as
@@ -103,8 +106,7 @@ uint32_t cvec_vector_push_block(cvec_vector_seat *seat, size_t records);
  * the seat pushed, also where a push has made it. CVEC_EMPTY: there is none yet. Where it is refused all wait as before. */
 uint32_t cvec_vector_grow_pushed(cvec_vector_seat *seat, cvec_receipt *receipt);
 
-/* Lends what waits, *count records in their order, until the next call by this seat. So records that this seat can't grow by
- * any more (CVEC_FULL) are pushed by a new one. */
+/* Lends what waits, *count records in their order, until the next call by this seat. */
 uint32_t cvec_vector_pushed(cvec_vector_seat *seat, const void **records, size_t *count);
 
 /* Waits until the growth of that number, and each before it, is durable. Who finds that nobody commits commits for all. */
@@ -135,8 +137,9 @@ uint32_t cvec_vector_read_records(cvec_vector_seat *seat, uint64_t from, void *o
 /* Copies the record at this position, durable or not. CVEC_OUT_OF_RANGE: the vector has none there. */
 uint32_t cvec_vector_at(cvec_vector_seat *seat, uint64_t position, void *record);
 
-/* Of the whole vector, while no seat is taken, else CVEC_BUSY. What they do is durable when they return. Growths behind them
- * are counted from 0. CVEC_MEMORY and CVEC_FILE_FULL: the same call may be made again.
+/* Of the whole vector, while no seat is taken, else CVEC_BUSY. What they do is durable when they return. CVEC_MEMORY and
+ * CVEC_FILE_FULL: the same call may be made again. Where memory for the vault itself is refused, the vector is CVEC_BROKEN from then
+ * on, and the file has all.
  *
  * Writes the records over those from position `start` on, as one frame. */
 uint32_t cvec_vector_change_records(cvec_vector *vector, uint64_t start, const void *records, size_t count);

@@ -7,7 +7,7 @@ use std::io::{Write, stdout};
 use std::path::Path;
 use std::sync::atomic::{AtomicU64, Ordering};
 use std::thread;
-use std::time::Duration;
+use std::time::{Duration, Instant};
 
 unsafe extern "C" {
     fn fork() -> i32;
@@ -28,7 +28,7 @@ fn block(round: u64, name: u64, turn: u64) -> Vec<u64> {
 
 const TOO_LARGE: &str = "more than 1,048,568 bytes of records in a growth, or not 1 to 64 seats";
 const IN_USE: &str = "the file is in use";
-const FULL: &str = "it was grown 1,048,568 times: close each seat, and take new ones";
+const LATE: &str = "the time has passed: what was waited for may yet come";
 const UNFOLDED: &str = "a change isn't folded: fold first";
 const OUT_OF_RANGE: &str = "there is no such growth or position, or the vector would pass 2^32 records";
 const BUSY: &str = "another thread is inside a call, or a seat isn't closed";
@@ -251,7 +251,7 @@ fn has_a_deadline(path: &Path) -> Result<(), Error> {
         }
         let second = seat.grow(&[6])?;
         for (receipt, longest) in [(first, Duration::ZERO), (second, Duration::from_nanos(1)), (second, Duration::from_millis(9))] {
-            refused(seat.settle_for(&receipt, longest), "the time has passed: it may yet become durable");
+            refused(seat.settle_for(&receipt, longest), LATE);
         }
         assert_eq!(seat.settled()?, 0);
         let (vector, begun) = (&vector, &begun);
@@ -296,41 +296,98 @@ fn flushes(path: &Path) -> Result<(), Error> {
     Ok(())
 }
 
-/// It takes no more growths until each seat is dropped. Then they are counted on.
+/// Where a phase is full it goes on by the same seats: each record of an appender is a growth, and numbers count on.
 fn is_full(path: &Path) -> Result<(), Error> {
+    const MOST: u64 = 1_048_568;
     let vector = Vector::create(path, 2)?;
     let (seat, other) = (vector.seat()?, vector.seat()?);
     let first = seat.grow(&[0])?;
     let mut out = seat.appender(1)?;
-    for number in 1..=1_048_568 {
+    for number in 1..=MOST {
         out.push(number)?;
     }
-    assert_eq!((refused(out.push(5), FULL), out.kept(), seat.len()?), (Error::Full, &[1_048_568][..], 1_048_568));
-    refused(out.flush(), FULL);
+    assert_eq!((out.kept(), seat.len()?, seat.settled()?), (&[MOST][..], MOST, 0));
+    assert_eq!(out.flush()?, Some(Receipt { number: MOST, start: MOST, length: 1 }));
     drop(out);
-    drop(seat);
-    refused(vector.seat()?.grow(&[5]), FULL);
-    refused(other.grow(&[5]), FULL);
-    assert_eq!(other.settled()?, 0);
-    drop(other);
     // All from before is settled, and what is behind it isn't yet.
-    let seat = vector.seat()?;
-    assert_eq!(seat.settled()?, 1_048_568);
-    let behind = seat.grow(&[9])?;
-    assert_eq!(behind, Receipt { number: 1_048_568, start: 1_048_568, length: 1 });
-    for receipt in [first, Receipt { number: 1_048_567, ..first }] {
-        seat.settle(&receipt)?;
-        seat.settle_for(&receipt, Duration::ZERO)?;
+    assert_eq!((seat.settled()?, other.settled()?, other.len()?), (MOST, MOST, MOST + 1));
+    for receipt in [first, Receipt { number: MOST - 1, ..first }] {
+        other.settle(&receipt)?;
+        other.settle_for(&receipt, Duration::ZERO)?;
     }
-    assert_eq!(seat.settled()?, 1_048_568);
+    let behind = other.grow(&[MOST + 1])?;
+    assert_eq!((behind, seat.settled()?), (Receipt { number: MOST + 1, start: MOST + 1, length: 1 }, MOST));
     seat.settle(&behind)?;
-    assert_eq!(seat.settled()?, 1_048_569);
-    refused(seat.settle(&Receipt { number: 1_048_569, ..first }), OUT_OF_RANGE);
-    // From then on a seat that is taken settles nothing.
-    seat.grow(&[10])?;
-    drop(seat);
-    assert_eq!(vector.seat()?.settled()?, 1_048_569);
+    assert_eq!(seat.settled()?, MOST + 2);
+    refused(seat.settle(&Receipt { number: MOST + 2, ..first }), OUT_OF_RANGE);
+    assert_eq!(seat.read(MOST - 1..)?, [MOST - 1, MOST, MOST + 1]);
+    drop((seat, other));
+    assert_eq!(vector.seat()?.settled()?, MOST + 2);
     vector.close()
+}
+
+/// Threads that grow one record each time, past 1,048,568 growths together, beside a flusher: none is refused.
+fn is_full_by_threads(path: &Path) -> Result<(), Error> {
+    const THREADS: u64 = 16;
+    const EACH: u64 = 70_000;
+    let vector = &Vector::<u32>::create_of(path, 16, Version::Two)?;
+    let run = |name: u64| -> Result<(), Error> {
+        let seat = vector.seat()?;
+        for number in 0..EACH {
+            let receipt = seat.grow(&[(name << 20 | number) as u32])?;
+            assert_eq!((receipt.number, receipt.length), (receipt.start, 1));
+            if number % 10_000 == 0 {
+                seat.settle(&receipt)?;
+            }
+        }
+        Ok(())
+    };
+    thread::scope(|scope| {
+        let flusher = scope.spawn(|| vector.run_flusher(Duration::from_millis(5)));
+        let running: Vec<_> = (0..THREADS).map(|name| scope.spawn(move || run(name))).collect();
+        running.into_iter().try_for_each(|it| it.join().unwrap())?;
+        vector.stop_flusher()?;
+        flusher.join().unwrap()
+    })?;
+    let records = vector.seat()?.read(..)?;
+    for name in 0..THREADS {
+        let own: Vec<u64> = records.iter().map(|&it| u64::from(it)).filter(|it| it >> 20 == name).map(|it| it & 0xf_ffff).collect();
+        assert_eq!(own, (0..EACH).collect::<Vec<_>>());
+    }
+    assert_eq!(records.len() as u64, THREADS * EACH);
+    Ok(())
+}
+
+/// A seat is waited for, no longer than it is asked for; a pool of 200 threads works by 64.
+fn waits_for_a_seat(path: &Path) -> Result<(), Error> {
+    let vector = &Vector::create(path, MOST_SEATS)?;
+    let mut seats: Vec<_> = (0..MOST_SEATS).map(|_| vector.seat().unwrap()).collect();
+    for longest in [Duration::ZERO, Duration::from_millis(30)] {
+        let begun = Instant::now();
+        assert_eq!(refused(vector.seat_within(longest), LATE), Error::Late);
+        assert!(begun.elapsed() >= longest && begun.elapsed() < Duration::from_secs(5));
+    }
+    thread::scope(|scope| {
+        let waiter = scope.spawn(|| vector.seat_within(Duration::MAX)?.grow(&[1_000_000]));
+        thread::sleep(Duration::from_millis(20));
+        seats.pop();
+        waiter.join().unwrap()
+    })?;
+    drop(seats);
+    let work = |name: u64| -> Result<(), Error> {
+        for turn in 0..10 {
+            let seat = vector.seat_within(Duration::from_secs(60))?;
+            seat.grow(&[name * 10 + turn])?;
+            if turn % 5 == 0 {
+                thread::sleep(Duration::from_millis(1));
+            }
+        }
+        Ok(())
+    };
+    thread::scope(|scope| {
+        let pool: Vec<_> = (0..200).map(|name| scope.spawn(move || work(name))).collect();
+        pool.into_iter().try_for_each(|it| it.join().unwrap())
+    })
 }
 
 /// It reads just these records.
@@ -584,6 +641,8 @@ fn main() {
         "has_a_deadline" => has_a_deadline(path),
         "flushes" => flushes(path),
         "is_full" => is_full(path),
+        "is_full_by_threads" => is_full_by_threads(path),
+        "waits_for_a_seat" => waits_for_a_seat(path),
         "is_changed" => is_changed(path),
         "is_broken" => is_broken(path),
         "is_refused" => is_refused(path),

@@ -9,7 +9,8 @@ make_threads() {
     make_threads_library
     mkdir -p "$built"
     [ -e "$built/use" ] || compile_threads "$c/use_vector.c" "$c/cvec_vector.c" -o "$built/use"
-    [ -e "$built/behaviours" ] || compile_threads "$top/tests/threads/behaviours.c" -o "$built/behaviours"
+    [ -e "$built/behaviours" ] || compile_threads "$top/tests/threads/behaviours.c" -Wl,--wrap=malloc,--wrap=realloc -o "$built/behaviours"
+    [ -e "$built/fill" ] || compile_threads "$top/tests/threads/fill.c" "$c/cvec_vector.c" -o "$built/fill"
     [ -e "$built/writer" ] || compile_threads "$top/tests/threads/writer.c" "$c/cvec_vector.c" -o "$built/writer"
 }
 
@@ -214,8 +215,88 @@ opening_in_c_holds_the_bytes_of_a_file_once() (
     [ "$stays" -lt 140 ]
 )
 
-a_vector_in_c_that_is_full_goes_on_with_new_seats() (
+a_vector_in_c_that_is_full_goes_on_by_its_seats() (
     a_behaviour_of_a_vector_in_c full
+)
+
+# Past 1,048,568 growths of one record each, by 1, 4 and 16 threads, beside a flusher, waits and calls of the whole vector.
+threads_of_c_fill_phases() (
+    make_threads
+    for threads in 1 4 16; do
+        rm -f "$work/t.cv"
+        timeout 60 "$built/fill" "$work/t.cv" "$threads" 1200000 >"$out"
+        [ "$(cat "$out")" = '1200000 growths, each there once' ]
+        run check u32 "$work/t.cv"
+        [ "$(cut -d ' ' -f -7 "$out")" = 'ok version 2 width 4 size 1200000' ]
+    done
+)
+
+# What is in the file after a kill: of each thread a row from 0 on, with what it was told. The numbers of its growths are printed.
+holds_what_was_told() {
+    PYTHONDONTWRITEBYTECODE=1 PYTHONPATH=$top/examples/python python3 - "$work/t.cv" "$out" <<'PY'
+import array
+import sys
+
+import beside
+
+records = array.array("I", beside.Reader(sys.argv[1], "u32").look())
+rows = [[] for _ in range(16)]
+for record in records:
+    rows[record >> 24].append(record & 0xffffff)
+assert all(row == list(range(len(row))) for row in rows)
+with open(sys.argv[2]) as told:
+    for line in told:
+        name, settled = map(int, line.split())
+        assert len(rows[name]) >= settled
+print(len(records))
+PY
+}
+
+# Killed in place of each sync, of which some are those of a phase that ends, it leaves what was settled.
+threads_of_c_that_are_killed_as_a_phase_ends_lose_nothing_settled() (
+    has python3 'what reads a file' || exit $is_skipped
+    make_threads
+    cc -shared -fPIC -o "$work/syncs.so" "$top/tests/bindings/syncs.c"
+    kill_at=4 # the first ones make the file
+    while
+        rm -f "$work/t.cv"
+        status=0
+        KILL_AT=$kill_at LD_PRELOAD=$work/syncs.so timeout 60 "$built/fill" "$work/t.cv" 4 1100000 told >"$out" || status=$?
+        [ "$status" -ne 0 ]
+    do
+        [ "$status" -eq 137 ]
+        holds_what_was_told >>"$work/left"
+        kill_at=$((kill_at + 1))
+        [ "$kill_at" -lt 40 ]
+    done
+    # Some were killed before the first phase was durable, and some behind it.
+    [ "$(awk '$1 < 1048568' "$work/left" | wc -l)" -gt 0 ]
+    [ "$(awk '$1 >= 1048568' "$work/left" | wc -l)" -gt 0 ]
+)
+
+a_phase_of_c_that_ends_beside_calls_refuses_none() (
+    for behaviour in renewal_waits renewal_after_commit renewals; do
+        rm -f "$work/t.cv"
+        a_behaviour_of_a_vector_in_c $behaviour
+    done
+)
+
+a_phase_of_c_that_can_not_end_loses_nothing() (
+    for behaviour in renewal_fails renewal_memory renewal_is_killed; do
+        rm -f "$work/t.cv"
+        a_behaviour_of_a_vector_in_c $behaviour
+    done
+)
+
+a_seat_in_c_is_waited_for() (
+    for behaviour in seat_within seat_within_change; do
+        rm -f "$work/t.cv"
+        a_behaviour_of_a_vector_in_c $behaviour
+    done
+)
+
+more_threads_of_c_than_seats_work() (
+    a_behaviour_of_a_vector_in_c pool
 )
 
 a_vector_in_c_past_the_greatest_file_lives() (
@@ -283,7 +364,7 @@ a_whole_vector_in_c_is_changed_while_no_seat_is_taken() (
     rm "$work/t.cv"
     a_behaviour_of_a_vector_in_c alone_waits
     rm "$work/t.cv"
-    a_behaviour_of_a_vector_in_c seat_waits
+    a_behaviour_of_a_vector_in_c seat_again
     rm "$work/t.cv"
     a_behaviour_of_a_vector_in_c alone_late
     rm "$work/t.cv"

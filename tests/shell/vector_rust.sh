@@ -152,9 +152,22 @@ a_flusher_in_rust_commits_what_nobody_settles() (
     seq 0 9 | has_lines
 )
 
-a_full_rust_vector_goes_on_with_new_seats() (
+a_full_rust_vector_goes_on_by_its_seats() (
     is_so_in_rust is_full
-    { seq 0 1048567; seq 9 10; } | has_lines
+    seq 0 1048569 | has_lines
+)
+
+a_rust_vector_that_threads_fill_goes_on() (
+    is_so_in_rust is_full_by_threads
+    run check u32 "$work/files/t.cv"
+    [ "$(cut -d ' ' -f -7 "$out")" = 'ok version 2 width 4 size 1120000' ]
+)
+
+more_threads_of_rust_than_seats_work() (
+    is_so_in_rust waits_for_a_seat
+    run list u64 "$work/files/t.cv"
+    sort -n "$out" >"$work/sorted"
+    { seq 0 1999; echo 1000000; } | cmp - "$work/sorted"
 )
 
 a_whole_rust_vector_is_changed_and_searched() (
@@ -244,7 +257,7 @@ the_compiler_refuses_what_a_seat_is_not_for() (
         echo '    seat.settled()'
         echo '}'
     } >"$work/wrong.rs"
-    is_refused_by_rustc '`Cell<u64>` cannot be shared between threads safely'
+    is_refused_by_rustc 'cannot be shared between threads safely'
     sed -i '/scope/d' "$work/wrong.rs"
     is_refused_by_rustc 'cannot move out of `vector` because it is borrowed'
     for call in 'change(0, \&[5])' 'resize(0, 5)' 'clear()' 'fold()' 'count(5)' 'find(5, 0)'; do

@@ -7,6 +7,7 @@
 #include <inttypes.h>
 #include <limits.h>
 #include <pthread.h>
+#include <signal.h>
 #include <stdio.h>
 #include <stdlib.h>
 #include <string.h>
@@ -92,6 +93,13 @@ static int test_timedwait(pthread_cond_t *condition, pthread_mutex_t *mutex, con
     return pthread_cond_timedwait(condition, mutex, &moment);
 }
 
+/* Whether the process is killed in place of a write or a sync, behind so many of them; none does below 0. */
+static int calls_of_life = -1;
+
+static void live(void) {
+    if (calls_of_life >= 0 && calls_of_life-- == 0) raise(SIGKILL);
+}
+
 static int fails(void) { return left >= 0 && left-- == 0; }
 
 static int is_interrupted(void) {
@@ -101,6 +109,7 @@ static int is_interrupted(void) {
 
 static ssize_t test_pwrite(int fd, const void *bytes, size_t len, off_t at) {
     if (is_interrupted()) return -1;
+    live();
     __atomic_add_fetch(&writes, 1, __ATOMIC_SEQ_CST);
     if (fails()) {
         errno = EIO;
@@ -111,6 +120,7 @@ static ssize_t test_pwrite(int fd, const void *bytes, size_t len, off_t at) {
 
 static int test_fdatasync(int fd) {
     if (is_interrupted()) return -1;
+    live();
     pass_gate();
     if (is_slow) nap();
     __atomic_add_fetch(&syncs, 1, __ATOMIC_SEQ_CST);
@@ -194,6 +204,32 @@ static pid_t test_getpid(void) { return number_of_all != 0 ? number_of_all : get
 
 static void *test_malloc(size_t len) { return mallocs >= 0 && mallocs-- == 0 ? NULL : malloc(len); }
 
+/* A phase may be full behind so many growths, below the library's own number; 0 is none. What asks the library for memory may be
+ * refused. */
+static uint64_t phase_limit, grown_in_phase;
+static int requests = -1; /* of the library's that pass before one is refused; none is below 0 */
+
+#include "cvec_vector.h"
+
+void *__real_malloc(size_t len);
+void *__real_realloc(void *there, size_t len);
+static int is_refused(void) { return requests >= 0 && requests-- == 0; }
+void *__wrap_malloc(size_t len) { return is_refused() ? NULL : __real_malloc(len); }
+void *__wrap_realloc(void *there, size_t len) { return is_refused() ? NULL : __real_realloc(there, len); }
+
+static uint32_t test_grow(cvec_handle *grower, const uint64_t *records, size_t count, cvec_receipt *receipt) {
+    if (phase_limit > 0 && __atomic_add_fetch(&grown_in_phase, 1, __ATOMIC_SEQ_CST) > phase_limit) return CVEC_FULL;
+    return cvec_phase_grow_u64(grower, records, count, receipt);
+}
+
+static uint32_t test_share(cvec_handle *vault, uint16_t seats, cvec_handle *phase) {
+    const uint32_t answer = cvec_phase_share(vault, seats, phase);
+    if (answer == CVEC_DONE) __atomic_store_n(&grown_in_phase, 0, __ATOMIC_SEQ_CST);
+    return answer;
+}
+
+#define cvec_phase_grow_u64 test_grow
+#define cvec_phase_share test_share
 #define getpid test_getpid
 #define malloc test_malloc
 #define nanosleep test_nanosleep
@@ -206,6 +242,8 @@ static void *test_malloc(size_t len) { return mallocs >= 0 && mallocs-- == 0 ? N
 #define pthread_cond_timedwait test_timedwait
 #define pthread_cond_wait test_wait
 #include "cvec_vector.c"
+#undef cvec_phase_grow_u64
+#undef cvec_phase_share
 #undef pthread_cond_wait
 #undef pthread_cond_timedwait
 #undef malloc
@@ -445,7 +483,7 @@ static int is_refused_in_a_fork(void) {
            cvec_vector_size(seat, &number) == CVEC_FORKED && cvec_vector_settled(seat, &number) == CVEC_FORKED &&
            cvec_vector_read(seat, 0, &number, 1, &number) == CVEC_FORKED && cvec_vector_take_seat(vector, &other) == CVEC_FORKED &&
            cvec_vector_await_for(seat, 0, 1) == CVEC_FORKED && cvec_vector_run_flusher(vector, 1) == CVEC_FORKED &&
-           cvec_vector_stop_flusher(vector) == CVEC_FORKED && cvec_vector_at(seat, 0, &number) == CVEC_FORKED &&
+           cvec_vector_seat_within(vector, 1, &other) == CVEC_FORKED && cvec_vector_stop_flusher(vector) == CVEC_FORKED && cvec_vector_at(seat, 0, &number) == CVEC_FORKED &&
            cvec_vector_push(seat, &number) == CVEC_FORKED && cvec_vector_push_block(seat, 5) == CVEC_FORKED &&
            cvec_vector_grow_pushed(seat, NULL) == CVEC_FORKED && cvec_vector_pushed(seat, &records, &kept) == CVEC_FORKED &&
            cvec_vector_close_seat(seat) == CVEC_FORKED && cvec_vector_close(vector) == CVEC_FORKED;
@@ -713,30 +751,53 @@ static void memory(const char *path) {
     HOLDS(found(path) == 1);
 }
 
-/* As many growths as there may be; once each seat is closed, it goes on with the next one. */
-static void full(const char *path) {
-    uint64_t number = 0, size = 0;
-    make(path, 2);
-    for (uint64_t k = 0; k < 1048568; k++)
-        if (grow(k, &number) != CVEC_DONE || number != k) HOLDS(!"it was grown");
-    HOLDS(grow(7, &number) == CVEC_FULL);
-    HOLDS(cvec_vector_await(seat, 1048567) == CVEC_DONE);
-    HOLDS(cvec_vector_close_seat(seat) == CVEC_DONE);
-    HOLDS(cvec_vector_take_seat(vector, &seat) == CVEC_DONE);
-    HOLDS(grow(1048568, &number) == CVEC_DONE && number == 0);
-    HOLDS(cvec_vector_await(seat, number) == CVEC_DONE);
-    HOLDS(cvec_vector_size(seat, &size) == CVEC_DONE && size == 1048569);
-    HOLDS(cvec_vector_close_seat(seat) == CVEC_DONE);
-    HOLDS(cvec_vector_take_seat(vector, &seat) == CVEC_DONE);
-    HOLDS(grow(1048569, &number) == CVEC_DONE && number == 1);
-    HOLDS(cvec_vector_close_seat(seat) == CVEC_DONE);
-    HOLDS(cvec_vector_close(vector) == CVEC_DONE);
-    HOLDS(cvec_vector_open(&vector, path, 1) == CVEC_DONE);
-    HOLDS(cvec_vector_find(vector, 1048569, 0, &number) == CVEC_DONE && number == 1048569);
-    HOLDS(cvec_vector_close(vector) == CVEC_DONE);
+/* The records from position 0 on are their positions, so many in all. */
+static void are_positions(cvec_vector_seat *own, uint64_t len) {
+    static uint64_t seen[1 << 16];
+    uint64_t size = 0, count = 0;
+    HOLDS(cvec_vector_size(own, &size) == CVEC_DONE && size == len);
+    for (uint64_t from = 0; from < len && !wrong; from += count) {
+        HOLDS(cvec_vector_read(own, from, seen, 1 << 16, &count) == CVEC_DONE && count > 0);
+        for (uint64_t k = 0; k < count && !wrong; k++) HOLDS(seen[k] == from + k);
+    }
 }
 
-/* ---- late: a wait with a deadline, while another's commit is held */
+/* So also once it is closed and opened again. */
+static void leaves_positions(const char *path, uint64_t len) {
+    HOLDS(cvec_vector_close_seat(seat) == CVEC_DONE && cvec_vector_close(vector) == CVEC_DONE);
+    HOLDS(cvec_vector_open(&vector, path, 1) == CVEC_DONE);
+    if (wrong) exit(1);
+    HOLDS(cvec_vector_take_seat(vector, &seat) == CVEC_DONE);
+    are_positions(seat, len);
+    HOLDS(cvec_vector_close_seat(seat) == CVEC_DONE && cvec_vector_close(vector) == CVEC_DONE);
+}
+
+/* Seats stay open where a phase is full, and numbers count on; those from before are durable. */
+static void full(const char *path) {
+    enum { MOST = 1048568 };
+    uint64_t number = 0, count = 9;
+    cvec_vector_seat *other;
+    cvec_receipt receipt;
+    make(path, 2);
+    HOLDS(cvec_vector_take_seat(vector, &other) == CVEC_DONE);
+    for (uint64_t k = 0; k < 2 * MOST + 1; k++) {
+        if (grow(k, &number) != CVEC_DONE || number != k) HOLDS(!"it was grown");
+        if (k == MOST - 1) HOLDS(cvec_vector_settled(other, &count) == CVEC_DONE && count == 0);
+        if (k == MOST) HOLDS(cvec_vector_settled(other, &count) == CVEC_DONE && count == MOST);
+        if (wrong) return;
+    }
+    HOLDS(cvec_vector_at(other, MOST, &count) == CVEC_DONE && count == MOST);
+    HOLDS(cvec_vector_await_for(other, 0, 0) == CVEC_DONE && cvec_vector_await_for(other, 2 * MOST - 1, 0) == CVEC_DONE);
+    HOLDS(cvec_vector_settled(other, &count) == CVEC_DONE && count == 2 * MOST);
+    HOLDS(cvec_vector_await(other, 2 * MOST + 1) == CVEC_OUT_OF_RANGE);
+    HOLDS(cvec_vector_settled(seat, &count) == CVEC_DONE && count == 2 * MOST + 1);
+    count = 2 * MOST + 1;
+    HOLDS(cvec_vector_grow(other, &count, 1, &receipt) == CVEC_DONE && receipt.number == 2 * MOST + 1 && receipt.serial == 0);
+    HOLDS(receipt.seat == 1 && receipt.start == 2 * MOST + 1 && receipt.len == 1);
+    are_positions(other, 2 * MOST + 2);
+    HOLDS(cvec_vector_close_seat(other) == CVEC_DONE);
+    leaves_positions(path, 2 * MOST + 2);
+}
 
 struct wait {
     pthread_t thread;
@@ -1108,7 +1169,7 @@ static void alone(const char *path) {
     has(path, changed, 6);
     HOLDS(cvec_vector_clear(vector) == CVEC_DONE);
     HOLDS(cvec_vector_find(vector, 0, 0, &place) == CVEC_DONE && place == 0);
-    /* Each seat is given again, and their growths are counted from 0. */
+    /* Each seat is given again, and their growths are counted on from when it was opened. */
     HOLDS(cvec_vector_take_seat(vector, &seat) == CVEC_DONE);
     HOLDS(cvec_vector_take_seat(vector, &second) == CVEC_DONE);
     HOLDS(grow(0, &number) == CVEC_DONE && number == 0);
@@ -1175,11 +1236,6 @@ static void *run_clear(void *answer) {
     return NULL;
 }
 
-static void *run_take_seat(void *answer) {
-    *(uint32_t *)answer = cvec_vector_take_seat(vector, &seat);
-    return NULL;
-}
-
 /* What this call answers, of a vector that has no seat to give: it waits for a flusher that commits, and makes no call itself.
  * Meanwhile a close is refused, which ends no loop. */
 static uint32_t waits_for_flusher(void *(*call)(void *)) {
@@ -1224,19 +1280,31 @@ static void alone_waits(const char *path) {
     HOLDS(found(path) == 0);
 }
 
-/* So does a seat for which all seats are to be given again. */
-static void seat_waits(const char *path) {
+/* A seat that was closed is had again beside a flusher that commits, and behind a whole vector's call, without a wait. */
+static void seat_is_had_again(const char *path) {
+    pthread_t flusher;
     uint64_t number = 9;
     make(path, 1);
     HOLDS(grow(0, &number) == CVEC_DONE);
     HOLDS(cvec_vector_close_seat(seat) == CVEC_DONE);
-    HOLDS(waits_for_flusher(run_take_seat) == CVEC_DONE);
-    HOLDS(grow(1, &number) == CVEC_DONE && number == 0);
+    shut_gate(1);
+    begin_flusher(&flusher, &never);
+    until_held();
+    for (uint64_t k = 1; k < 200; k++) {
+        HOLDS(cvec_vector_take_seat(vector, &seat) == CVEC_DONE);
+        HOLDS(grow(k, &number) == CVEC_DONE && number == k);
+        HOLDS(cvec_vector_close_seat(seat) == CVEC_DONE);
+    }
+    HOLDS(holds() == 1);
+    shut_gate(0);
+    HOLDS(cvec_vector_fold(vector) == CVEC_DONE && cvec_vector_take_seat(vector, &seat) == CVEC_DONE);
+    HOLDS(settled() == 200 && grow(200, &number) == CVEC_DONE && number == 200);
+    HOLDS(cvec_vector_stop_flusher(vector) == CVEC_DONE && end_of_flusher(flusher) == CVEC_DONE);
     HOLDS(cvec_vector_close_seat(seat) == CVEC_DONE && cvec_vector_close(vector) == CVEC_DONE);
-    HOLDS(found(path) == 2);
+    HOLDS(found(path) == 201);
 }
 
-/* A flusher waited for another's commit. When it goes on, growths are counted from 0 again, and one has the vector alone. */
+/* A flusher waited for another's commit. When it goes on, one has the vector alone. */
 static void alone_beside_a_late_flusher(const char *path) {
     pthread_t flusher;
     struct wait first;
@@ -1253,7 +1321,7 @@ static void alone_beside_a_late_flusher(const char *path) {
     __atomic_store_n(&dozing, 1, __ATOMIC_SEQ_CST);
     shut_gate(0);
     HOLDS(end_of(&first) == CVEC_DONE && cvec_vector_close_seat(seat) == CVEC_DONE);
-    HOLDS(cvec_vector_take_seat(vector, &seat) == CVEC_DONE && grow(3, &number) == CVEC_DONE && number == 0);
+    HOLDS(cvec_vector_take_seat(vector, &seat) == CVEC_DONE && grow(3, &number) == CVEC_DONE && number == 3);
     HOLDS(cvec_vector_close_seat(seat) == CVEC_DONE && cvec_vector_count(vector, 3, &count) == CVEC_DONE && count == 1);
     before = __atomic_load_n(&timed_waits, __ATOMIC_SEQ_CST);
     __atomic_store_n(&dozing, 0, __ATOMIC_SEQ_CST);
@@ -1271,14 +1339,14 @@ static void alone_flushes(const char *path) {
     make(path, 1);
     begin_flusher(&flusher, &soon);
     for (uint64_t k = 0; k < 50; k++) {
-        HOLDS(grow(k, &number) == CVEC_DONE && number == 0);
+        HOLDS(grow(k, &number) == CVEC_DONE && number == k);
         HOLDS(cvec_vector_close_seat(seat) == CVEC_DONE);
         HOLDS(cvec_vector_change(vector, k, over, 1) == CVEC_DONE);
         HOLDS(cvec_vector_count(vector, 7, &place) == CVEC_DONE && place == k + 1);
         HOLDS(cvec_vector_take_seat(vector, &seat) == CVEC_DONE);
     }
-    HOLDS(grow(8, &number) == CVEC_DONE);
-    until_settled(1);
+    HOLDS(grow(8, &number) == CVEC_DONE && number == 50);
+    until_settled(51);
     HOLDS(cvec_vector_close_seat(seat) == CVEC_DONE && cvec_vector_close(vector) == CVEC_DONE);
     HOLDS(end_of_flusher(flusher) == CVEC_DONE);
     HOLDS(cvec_vector_open(&vector, path, 1) == CVEC_DONE);
@@ -1686,31 +1754,26 @@ static void push_memory(const char *path) {
     HOLDS(cvec_vector_close(vector) == CVEC_DONE && found(path) == 2047 + BLOCK + 1);
 }
 
-/* What a full phase refuses waits, and is pushed by a new seat. */
+/* What is pushed beside a full phase waits as it did before: a block is grown in the next one, and so is what a close grows. */
 static void push_full(const char *path) {
-    uint64_t number = 0, left_over = 0;
-    const void *records = NULL;
-    size_t count = 0;
-    cvec_receipt receipt = {9, 9, 9, 9, 9};
+    uint64_t number = 0;
+    cvec_vector_seat *other;
     make(path, 2);
+    HOLDS(cvec_vector_take_seat(vector, &other) == CVEC_DONE);
     HOLDS(cvec_vector_push_block(seat, 2) == CVEC_DONE);
     for (uint64_t k = 0; k < 1048567; k++)
         if (grow(k, &number) != CVEC_DONE) HOLDS(!"it was grown");
     push_all(1048567, 1048570);
-    for (int k = 0; k < 2; k++) HOLDS(push(1048570) == CVEC_FULL);
-    HOLDS(cvec_vector_grow_pushed(seat, &receipt) == CVEC_FULL && receipt.number == 9);
-    HOLDS(cvec_vector_push_block(seat, 1) == CVEC_FULL);
     keeps(1048569, 1);
-    HOLDS(cvec_vector_pushed(seat, &records, &count) == CVEC_DONE && count == 1);
-    left_over = *(const uint64_t *)records;
-    HOLDS(cvec_vector_close_seat(seat) == CVEC_FULL);
-    HOLDS(cvec_vector_take_seat(vector, &seat) == CVEC_DONE && size_by(seat) == 1048569);
-    HOLDS(push(left_over) == CVEC_DONE && push(1048570) == CVEC_DONE);
-    HOLDS(cvec_vector_close_seat(seat) == CVEC_DONE);
-    for (uint64_t k = 0; k < 1048571; k += 1048570 / 2)
-        HOLDS(cvec_vector_find(vector, k, 0, &number) == CVEC_DONE && number == k);
-    HOLDS(cvec_vector_count(vector, 1048569, &number) == CVEC_DONE && number == 1);
-    HOLDS(cvec_vector_close(vector) == CVEC_DONE);
+    HOLDS(settled() == 0);
+    number = 1048571;
+    HOLDS(cvec_vector_push(other, &number) == CVEC_DONE);
+    push_all(1048570, 1048571);
+    HOLDS(settled() == 1048568);
+    is_last(1048568, 1048569, 2);
+    HOLDS(cvec_vector_close_seat(other) == CVEC_DONE);
+    push_all(1048572, 1048573);
+    leaves_positions(path, 1048573);
 }
 
 /* Behind a write that failed no block is grown. What waits does so until the close of the seat, which says that it is lost;
@@ -1822,6 +1885,365 @@ static void at(const char *path) {
     for (cvec_type type = CVEC_U32; type <= CVEC_FLAGGED; type++) at_of(path, type);
 }
 
+/* ---- renewals: a phase that is full ends beside seats, and the next one begins */
+
+/* Two seats, of which the first grew so many, and phases of five growths. */
+static cvec_vector_seat *beside;
+
+static void make_renewing(const char *path, uint64_t grown_before) {
+    uint64_t number = 0;
+    remove(path);
+    phase_limit = 5;
+    grown_in_phase = 0;
+    make(path, 2);
+    HOLDS(cvec_vector_take_seat(vector, &beside) == CVEC_DONE);
+    for (uint64_t k = 0; k < grown_before; k++) HOLDS(grow(k, &number) == CVEC_DONE && number == k);
+}
+
+/* Each call of the file that the renewal makes fails: the growth says so, and what stands is read. */
+static void renewal_fails_at(const char *path, int call) {
+    uint64_t number = 9, count = 9;
+    make_renewing(path, 4);
+    HOLDS(cvec_vector_await(seat, 1) == CVEC_DONE && grow(4, &number) == CVEC_DONE);
+    left = call;
+    HOLDS(grow(5, &number) == (call % 2 == 0 ? CVEC_DISK_WRITE : CVEC_DISK_SYNC) && number == 4);
+    left = -1;
+    HOLDS(grow(5, &number) == CVEC_BROKEN && settled() == 4);
+    are_positions(seat, 5);
+    are_positions(beside, 5);
+    HOLDS(cvec_vector_at(beside, 4, &count) == CVEC_DONE && count == 4);
+    HOLDS(cvec_vector_close_seat(beside) == CVEC_DONE && cvec_vector_close_seat(seat) == CVEC_DONE);
+    HOLDS(cvec_vector_close(vector) == CVEC_BROKEN);
+    phase_limit = 0;
+    count = found(path);
+    HOLDS(count == (call < 2 ? 4 : count == 4 ? 4 : 5));
+}
+
+static void renewal_fails(const char *path) {
+    for (int call = 0; call < 4; call++) renewal_fails_at(path, call);
+}
+
+static int halfway; /* how many renewals had closed the growers when they were refused */
+
+/* Each request for memory in a renewal is refused, once and then once more: the growth says so, calls by the other seat are made or
+ * refused so too, and later all goes on. Where the vault itself is lost the file has all; where a commit is, what was awaited. Whether
+ * there are so many requests. */
+static int renewal_lacks(const char *path, int request, int times, int is_awaited) {
+    uint64_t number = 9, count = 9;
+    uint32_t answer = CVEC_MEMORY;
+    make_renewing(path, 5);
+    if (is_awaited) HOLDS(cvec_vector_await(beside, 4) == CVEC_DONE);
+    push_all(6, 7);
+    for (int k = 0; k < times && answer == CVEC_MEMORY; k++) {
+        requests = request;
+        answer = grow(5, &number);
+    }
+    const int is_one = requests < 0;
+    requests = -1;
+    if (answer == CVEC_MEMORY) {
+        halfway += vector->unseated;
+        HOLDS(number == 9 && cvec_vector_await_for(beside, 4, 0) == CVEC_DONE);
+        answer = cvec_vector_size(beside, &count);
+        HOLDS(answer == CVEC_BROKEN || (answer == CVEC_DONE && count == 5));
+        if (answer == CVEC_DONE) answer = grow(5, &number);
+    }
+    HOLDS(answer == CVEC_BROKEN || (answer == CVEC_DONE && number == 5));
+    keeps(6, 1);
+    if (answer == CVEC_DONE) HOLDS(settled() == 5);
+    HOLDS(cvec_vector_close_seat(beside) == CVEC_DONE);
+    HOLDS(cvec_vector_close_seat(seat) == answer && cvec_vector_close(vector) == answer);
+    phase_limit = 0;
+    count = found(path);
+    HOLDS(answer == CVEC_DONE ? count == 7 : count == 5 || (count == 0 && !is_awaited));
+    return is_one;
+}
+
+static void renewal_memory(const char *path) {
+    for (int is_awaited = 0; is_awaited < 2; is_awaited++) {
+        int request = 0;
+        while (!wrong && renewal_lacks(path, request, 1, is_awaited)) renewal_lacks(path, request++, 2, is_awaited);
+        HOLDS(request > 5);
+    }
+    HOLDS(halfway > 5);
+}
+
+/* Killed in place of each call of a renewal, what was settled stands. */
+static void renewal_is_killed(const char *path) {
+    uint64_t number = 0, size = 0;
+    int status = 0, calls = 0;
+    for (int is_done = 0; !is_done && !wrong; calls++) {
+        const pid_t child = fork();
+        if (child == 0) {
+            make_renewing(path, 4);
+            HOLDS(cvec_vector_await(seat, 2) == CVEC_DONE && grow(4, &number) == CVEC_DONE);
+            calls_of_life = calls;
+            HOLDS(grow(5, &number) == CVEC_DONE);
+            _exit(wrong || calls_of_life < 0);
+        }
+        HOLDS(waitpid(child, &status, 0) == child);
+        is_done = WIFEXITED(status);
+        HOLDS(is_done ? status == 0 : WTERMSIG(status) == SIGKILL);
+        size = found(path);
+        HOLDS(size >= 4 && size <= 5 && (!is_done || size == 5));
+    }
+    HOLDS(calls == 5); /* two writes and two syncs, and then none */
+}
+
+static void *run_grow(void *answer) {
+    uint64_t number = 0;
+    *(uint32_t *)answer = grow(5, &number);
+    return NULL;
+}
+
+static void *run_size(void *size) {
+    HOLDS(cvec_vector_size(beside, size) == CVEC_DONE);
+    return NULL;
+}
+
+/* Beside a renewal that is held in its sync: who awaits and has a deadline isn't held longer, nor is who waits for a seat; a call that
+ * would use its grower waits; the whole vector isn't had; a flusher waits too. */
+static void renewal_waits(const char *path) {
+    pthread_t grower, reader_thread, flusher;
+    uint32_t answer = CVEC_BUSY;
+    uint64_t size = 9;
+    cvec_vector_seat *third = NULL;
+    struct wait first;
+    make_renewing(path, 5);
+    first.seat = beside;
+    shut_gate(1);
+    pthread_create(&grower, NULL, run_grow, &answer);
+    until_held();
+    begin_wait(&first, 4, 30);
+    HOLDS(end_of(&first) == CVEC_LATE);
+    HOLDS(cvec_vector_seat_within(vector, 20, &third) == CVEC_LATE && third == NULL);
+    all_answer(CVEC_BUSY);
+    begin_flusher(&flusher, &soon);
+    while (flushers() == 0) nap();
+    pthread_create(&reader_thread, NULL, run_size, &size);
+    while (__atomic_load_n(&beside->busy, __ATOMIC_SEQ_CST) != ASIDE) nap();
+    HOLDS(holds() == 1 && size == 9);
+    shut_gate(0);
+    pthread_join(grower, NULL);
+    pthread_join(reader_thread, NULL);
+    HOLDS(answer == CVEC_DONE && (size == 5 || size == 6));
+    HOLDS(cvec_vector_stop_flusher(vector) == CVEC_DONE && end_of_flusher(flusher) == CVEC_DONE);
+    HOLDS(cvec_vector_close_seat(beside) == CVEC_DONE);
+    phase_limit = 0;
+    leaves_positions(path, 6);
+}
+
+/* A renewal waits for a commit that is under way, and who waits for the same growth is told. */
+static void renewal_after_commit(const char *path) {
+    pthread_t grower;
+    uint32_t answer = CVEC_BUSY;
+    struct wait first;
+    make_renewing(path, 5);
+    first.seat = beside;
+    shut_gate(1);
+    begin_wait(&first, 4, 0);
+    until_held();
+    int before = __atomic_load_n(&waits, __ATOMIC_SEQ_CST);
+    pthread_create(&grower, NULL, run_grow, &answer);
+    while (__atomic_load_n(&waits, __ATOMIC_SEQ_CST) == before) nap();
+    HOLDS(holds() == 1);
+    shut_gate(0);
+    pthread_join(grower, NULL);
+    HOLDS(end_of(&first) == CVEC_DONE && answer == CVEC_DONE && settled() == 5);
+    HOLDS(cvec_vector_close_seat(beside) == CVEC_DONE);
+    phase_limit = 0;
+    leaves_positions(path, 6);
+}
+
+/* Threads that grow, push, await and read, take and close seats, and ask for the whole vector, where each phase has 50 growths. */
+enum { RENEWERS = 12, TURNS = 3000 };
+static uint64_t name_of_next;
+
+static void is_mine(cvec_vector_seat *own, uint64_t start, uint64_t record) {
+    uint64_t there = ~record;
+    HOLDS(cvec_vector_at(own, start, &there) == CVEC_DONE && there == record);
+}
+
+/* One growth of one record, whose receipt is that of the only ones there are. Sizes and what is settled never fall. */
+static void grow_one(cvec_vector_seat *own, uint64_t record, uint64_t *size, uint64_t *durable) {
+    cvec_receipt receipt;
+    uint64_t now = 0;
+    HOLDS(cvec_vector_grow(own, &record, 1, &receipt) == CVEC_DONE && receipt.number == receipt.start && receipt.len == 1);
+    HOLDS(receipt.start >= *size && cvec_vector_size(own, &now) == CVEC_DONE && now > receipt.start);
+    *size = now;
+    is_mine(own, receipt.start, record);
+    if (record % 7 == 0) HOLDS(cvec_vector_await(own, receipt.number) == CVEC_DONE);
+    HOLDS(cvec_vector_settled(own, &now) == CVEC_DONE && now >= *durable);
+    HOLDS(record % 7 != 0 || now > receipt.number);
+    *durable = now;
+}
+
+static void *run_renewer(void *unused) {
+    const uint64_t name = __atomic_fetch_add(&name_of_next, 1, __ATOMIC_SEQ_CST);
+    cvec_vector_seat *own = NULL;
+    uint64_t size = 0, durable = 0, k = 0;
+    (void)unused;
+    while (k < TURNS && !wrong) {
+        HOLDS(cvec_vector_seat_within(vector, 30000, &own) == CVEC_DONE && cvec_vector_push_block(own, 1) == CVEC_DONE);
+        for (uint64_t turn = 0; turn < 100 && !wrong; turn++) grow_one(own, name << 32 | k++, &size, &durable);
+        const uint64_t last = name << 32 | k++;
+        HOLDS(cvec_vector_push(own, &last) == CVEC_DONE);
+        HOLDS(cvec_vector_close_seat(own) == CVEC_DONE);
+    }
+    return NULL;
+}
+
+static void *run_whole(void *ends) {
+    const uint64_t none = 0;
+    while (!__atomic_load_n((int *)ends, __ATOMIC_SEQ_CST)) {
+        const uint32_t answer = cvec_vector_change(vector, 0, &none, 0);
+        HOLDS(answer == CVEC_DONE || answer == CVEC_BUSY);
+        nap();
+    }
+    return NULL;
+}
+
+static void renewals(const char *path) {
+    static uint64_t seen[RENEWERS * (TURNS + 200)], next[RENEWERS];
+    pthread_t threads[RENEWERS], flusher, whole;
+    uint64_t count = 0;
+    int ends = 0;
+    make_renewing(path, 0);
+    HOLDS(cvec_vector_close_seat(beside) == CVEC_DONE && cvec_vector_close_seat(seat) == CVEC_DONE);
+    HOLDS(cvec_vector_close(vector) == CVEC_DONE && cvec_vector_open(&vector, path, 8) == CVEC_DONE);
+    phase_limit = 50;
+    begin_flusher(&flusher, &soon);
+    pthread_create(&whole, NULL, run_whole, &ends);
+    for (int k = 0; k < RENEWERS; k++) pthread_create(&threads[k], NULL, run_renewer, NULL);
+    for (int k = 0; k < RENEWERS; k++) pthread_join(threads[k], NULL);
+    __atomic_store_n(&ends, 1, __ATOMIC_SEQ_CST);
+    pthread_join(whole, NULL);
+    HOLDS(cvec_vector_close(vector) == CVEC_DONE && end_of_flusher(flusher) == CVEC_DONE);
+    phase_limit = 0;
+    HOLDS(cvec_vector_open(&vector, path, 1) == CVEC_DONE && cvec_vector_take_seat(vector, &seat) == CVEC_DONE);
+    HOLDS(cvec_vector_read(seat, 0, seen, sizeof seen / sizeof *seen, &count) == CVEC_DONE);
+    for (uint64_t k = 0; k < count && !wrong; k++) HOLDS(seen[k] >> 32 < RENEWERS && (uint32_t)seen[k] == next[seen[k] >> 32]++);
+    for (int k = 0; k < RENEWERS; k++) HOLDS(next[k] >= TURNS && next[k] < TURNS + 101);
+    HOLDS(cvec_vector_close_seat(seat) == CVEC_DONE && cvec_vector_close(vector) == CVEC_DONE);
+}
+
+/* ---- more threads than seats */
+
+struct want {
+    pthread_t thread;
+    cvec_vector_seat *seat;
+    uint64_t milliseconds, waited; /* in milliseconds too */
+    uint32_t answer;
+};
+
+static uint64_t milliseconds_now(void) {
+    struct timespec now;
+    clock_gettime(CLOCK_MONOTONIC, &now);
+    return (uint64_t)now.tv_sec * 1000 + (uint64_t)now.tv_nsec / 1000000;
+}
+
+static void *run_want(void *work) {
+    struct want *want = work;
+    const uint64_t begun = milliseconds_now();
+    want->answer = cvec_vector_seat_within(vector, want->milliseconds, &want->seat);
+    want->waited = milliseconds_now() - begun;
+    return NULL;
+}
+
+static uint32_t queued(void) {
+    pthread_mutex_lock(&vector->mutex);
+    const uint32_t count = vector->queued;
+    pthread_mutex_unlock(&vector->mutex);
+    return count;
+}
+
+static void begin_want(struct want *want, uint64_t milliseconds, uint32_t before) {
+    want->milliseconds = milliseconds;
+    pthread_create(&want->thread, NULL, run_want, want);
+    while (queued() == before) nap();
+}
+
+/* Who came first has the seat that is closed, and a deadline is kept; the wait sleeps. */
+static void seat_within(const char *path) {
+    struct want wants[3];
+    cvec_vector_seat *none = NULL;
+    make(path, 1);
+    HOLDS(cvec_vector_seat_within(vector, 0, &none) == CVEC_LATE && none == NULL);
+    const uint64_t begun = milliseconds_now();
+    HOLDS(cvec_vector_seat_within(vector, 50, &none) == CVEC_LATE && none == NULL);
+    HOLDS(milliseconds_now() - begun >= 50 && milliseconds_now() - begun < 5000);
+    begin_want(&wants[0], 100, 0);
+    begin_want(&wants[1], UINT64_MAX, 1);
+    begin_want(&wants[2], 60000, 2);
+    pthread_join(wants[0].thread, NULL);
+    HOLDS(wants[0].answer == CVEC_LATE && wants[0].seat == NULL && wants[0].waited >= 100 && wants[0].waited < 5000);
+    HOLDS(cvec_vector_close(vector) == CVEC_BUSY);
+    HOLDS(__atomic_load_n(&timed_waits, __ATOMIC_SEQ_CST) < 20);
+    HOLDS(cvec_vector_close_seat(seat) == CVEC_DONE);
+    pthread_join(wants[1].thread, NULL);
+    HOLDS(wants[1].answer == CVEC_DONE && wants[1].seat != NULL && queued() == 1);
+    HOLDS(cvec_vector_take_seat(vector, &none) == CVEC_NOT_SO && none == NULL && cvec_vector_close(vector) == CVEC_BUSY);
+    HOLDS(cvec_vector_close_seat(wants[1].seat) == CVEC_DONE);
+    pthread_join(wants[2].thread, NULL);
+    HOLDS(wants[2].answer == CVEC_DONE && cvec_vector_close_seat(wants[2].seat) == CVEC_DONE);
+    HOLDS(cvec_vector_seat_within(vector, 0, &seat) == CVEC_DONE && cvec_vector_close_seat(seat) == CVEC_DONE);
+    HOLDS(cvec_vector_close(vector) == CVEC_DONE);
+}
+
+/* While the whole vector is changed, which is held in its sync, a wait for a seat has its deadline too. */
+static void seat_within_change(const char *path) {
+    pthread_t caller;
+    struct want want;
+    cvec_vector_seat *none = NULL;
+    uint32_t answer = CVEC_BUSY;
+    uint64_t number = 0;
+    make(path, 1);
+    HOLDS(grow(0, &number) == CVEC_DONE && cvec_vector_close_seat(seat) == CVEC_DONE);
+    shut_gate(1);
+    pthread_create(&caller, NULL, run_clear, &answer);
+    until_held();
+    HOLDS(cvec_vector_seat_within(vector, 20, &none) == CVEC_LATE && none == NULL);
+    begin_want(&want, UINT64_MAX, 0);
+    HOLDS(holds() == 1 && cvec_vector_close(vector) == CVEC_BUSY);
+    shut_gate(0);
+    pthread_join(caller, NULL);
+    pthread_join(want.thread, NULL);
+    HOLDS(answer == CVEC_DONE && want.answer == CVEC_DONE);
+    seat = want.seat;
+    HOLDS(grow(0, &number) == CVEC_DONE && number == 1);
+    HOLDS(cvec_vector_close_seat(seat) == CVEC_DONE && cvec_vector_close(vector) == CVEC_DONE && found(path) == 1);
+}
+
+/* A pool of 200 threads works by 64 seats: each grows 20 times, by a seat of its own each time. */
+enum { POOL = 200, WORK = 20 };
+
+static void *run_worker(void *name) {
+    cvec_vector_seat *own = NULL;
+    for (uint64_t k = 0; k < WORK; k++) {
+        const uint64_t record = (uint64_t)(uintptr_t)name * WORK + k;
+        HOLDS(cvec_vector_seat_within(vector, 60000, &own) == CVEC_DONE);
+        if (own == NULL) return NULL;
+        HOLDS(cvec_vector_grow(own, &record, 1, NULL) == CVEC_DONE);
+        if (k % 5 == 0) nap();
+        HOLDS(cvec_vector_close_seat(own) == CVEC_DONE);
+    }
+    return NULL;
+}
+
+static void pool(const char *path) {
+    static uint64_t seen[POOL * WORK + 1];
+    static int times[POOL * WORK];
+    pthread_t threads[POOL];
+    uint64_t count = 0;
+    HOLDS(cvec_vector_create(&vector, path, 1, 64) == CVEC_DONE);
+    for (uintptr_t k = 0; k < POOL; k++) pthread_create(&threads[k], NULL, run_worker, (void *)k);
+    for (int k = 0; k < POOL; k++) pthread_join(threads[k], NULL);
+    HOLDS(cvec_vector_close(vector) == CVEC_DONE && cvec_vector_open(&vector, path, 1) == CVEC_DONE);
+    HOLDS(cvec_vector_take_seat(vector, &seat) == CVEC_DONE);
+    HOLDS(cvec_vector_read(seat, 0, seen, POOL * WORK + 1, &count) == CVEC_DONE && count == POOL * WORK);
+    for (uint64_t k = 0; k < count; k++) HOLDS(seen[k] < POOL * WORK && times[seen[k]]++ == 0);
+    HOLDS(cvec_vector_close_seat(seat) == CVEC_DONE && cvec_vector_close(vector) == CVEC_DONE);
+}
+
 int main(int argc, char **argv) {
     static const struct {
         const char *name;
@@ -1852,7 +2274,7 @@ int main(int argc, char **argv) {
                       {"alone_faults", alone_faults},
                       {"alone_forks", alone_forks},
                       {"alone_waits", alone_waits},
-                      {"seat_waits", seat_waits},
+                      {"seat_again", seat_is_had_again},
                       {"alone_late", alone_beside_a_late_flusher},
                       {"alone_flushes", alone_flushes},
                       {"typed", typed},
@@ -1867,6 +2289,15 @@ int main(int argc, char **argv) {
                       {"push_broken", push_broken},
                       {"pushes_typed", pushes_typed},
                       {"at", at},
+                      {"renewal_fails", renewal_fails},
+                      {"renewal_memory", renewal_memory},
+                      {"renewal_is_killed", renewal_is_killed},
+                      {"renewal_waits", renewal_waits},
+                      {"renewal_after_commit", renewal_after_commit},
+                      {"renewals", renewals},
+                      {"seat_within", seat_within},
+                      {"seat_within_change", seat_within_change},
+                      {"pool", pool},
                       {"goes_on_u32", goes_on_u32},
                       {"goes_on_u64", goes_on_u64},
                       {"goes_on_i64", goes_on_i64},

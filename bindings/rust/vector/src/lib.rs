@@ -21,18 +21,15 @@
 #![deny(unsafe_op_in_unsafe_fn)]
 #![warn(missing_docs)]
 
-use std::cell::Cell;
 use std::ffi::{CStr, CString, c_char, c_void};
 use std::fmt;
 use std::io;
 use std::marker::PhantomData;
-use std::mem::{self, ManuallyDrop};
+use std::mem::ManuallyDrop;
 use std::ops::{Bound, RangeBounds};
 use std::os::unix::ffi::OsStrExt;
 use std::path::Path;
-use std::process;
 use std::ptr::{self, NonNull};
-use std::sync::{Mutex, MutexGuard, PoisonError};
 use std::time::Duration;
 
 /// A vector has at most so many seats.
@@ -82,14 +79,13 @@ pub enum Error {
     Forked,
     /// A folder, a pipe or a device has that name.
     NotFile,
-    /// Every seat is taken.
+    /// Every seat is taken, or waited for.
     NoSeat,
-    /// It was grown 1,048,568 times: drop each seat, and take new ones, which go on. All that was grown before is durable then.
-    /// What an `Appender` has `kept` is to be grown by a new seat.
+    /// No call answers it any more: where growths come to 1,048,568 the next one settles them, and goes on.
     Full,
     /// A seat was forgotten (`std::mem::forget`): the vector stays as it is, and open.
     Busy,
-    /// Of `settle_for`: the time has passed. The growth may yet become durable.
+    /// Of `settle_for` and `seat_within`: the time has passed. The growth may yet become durable.
     Late,
     /// Of `resize` and `clear`: a change isn't folded. `fold` first.
     Unfolded,
@@ -250,6 +246,7 @@ unsafe extern "C" {
     fn cvec_vector_open_as(vector: *mut *mut RawVector, path: *const c_char, record: u32, seats: u16) -> u32;
     fn cvec_vector_close(vector: *mut RawVector) -> u32;
     fn cvec_vector_take_seat(vector: *mut RawVector, seat: *mut *mut RawSeat) -> u32;
+    fn cvec_vector_seat_within(vector: *mut RawVector, milliseconds: u64, seat: *mut *mut RawSeat) -> u32;
     fn cvec_vector_close_seat(seat: *mut RawSeat) -> u32;
     fn cvec_vector_grow_records(seat: *mut RawSeat, records: *const c_void, count: usize, receipt: *mut RawReceipt) -> u32;
     fn cvec_vector_await(seat: *mut RawSeat, number: u64) -> u32;
@@ -297,39 +294,6 @@ pub enum Version {
     Two,
 }
 
-/// The seats of C, which a vector keeps: who drops one leaves it to others.
-#[derive(Debug)]
-struct Seats {
-    /// Those that nobody has.
-    idle: Vec<NonNull<RawSeat>>,
-    /// How many somebody has.
-    lent: usize,
-    /// How many growths there are, but for those of seats that somebody has.
-    grown: u64,
-    /// The first ones, which C's seats don't count any more: each is durable.
-    base: u64,
-    /// Whether C's next seat tells how many it counts.
-    is_new: bool,
-    /// Whether a growth was refused as `Full`, by a seat that was dropped.
-    is_full: bool,
-}
-
-impl Seats {
-    /// While nobody has one: waits until all that was grown is durable, and closes each. Refused, they stay.
-    fn close(&mut self) -> Result<(), Error> {
-        if let Some(raw) = self.idle.first().filter(|_| self.grown > self.base) {
-            // SAFETY: it is open, and in no call.
-            told(unsafe { cvec_vector_await(raw.as_ptr(), self.grown - 1 - self.base) })?;
-        }
-        for raw in self.idle.drain(..) {
-            // SAFETY: as above; it is closed once, since it is taken out.
-            unsafe { cvec_vector_close_seat(raw.as_ptr()) };
-        }
-        (self.is_new, self.is_full) = (true, false);
-        Ok(())
-    }
-}
-
 /// A durable vector of a file, which is locked until the vector is closed. Threads share it, and each takes a seat. A drop closes
 /// it, and can't report what fails: `close` does.
 ///
@@ -338,14 +302,12 @@ impl Seats {
 #[derive(Debug)]
 pub struct Vector<R: Record = u64> {
     raw: NonNull<RawVector>,
-    process: u32,
-    seats: Mutex<Seats>,
     of: PhantomData<R>,
 }
 
 // SAFETY: C guards all that its calls on a vector have in common by a mutex, and any thread may make them. Records go anywhere.
 unsafe impl<R: Record> Send for Vector<R> {}
-// SAFETY: as above; the calls that want the vector alone take it by value, by `&mut` or on its drop. The seats are in a mutex.
+// SAFETY: as above; the calls that want the vector alone take it by value, by `&mut` or on its drop.
 unsafe impl<R: Record> Sync for Vector<R> {}
 
 impl Vector {
@@ -377,7 +339,7 @@ impl<R: Record> Vector<R> {
         let (name, mut raw) = (name_of(path)?, ptr::null_mut());
         // SAFETY: the name ends with a zero, and lasts for the call, as does the place for the pointer.
         told(unsafe { cvec_vector_create_as(&mut raw, name.as_ptr(), R::TYPE, number, seats) })?;
-        Vector::over(raw, seats)
+        Vector::over(raw)
     }
 
     /// Opens a file of such records that is there, and reads it. `Width`: its records have another width.
@@ -386,103 +348,68 @@ impl<R: Record> Vector<R> {
         let (name, mut raw) = (name_of(path)?, ptr::null_mut());
         // SAFETY: as above.
         told(unsafe { cvec_vector_open_as(&mut raw, name.as_ptr(), R::TYPE, seats) })?;
-        Vector::over(raw, seats)
+        Vector::over(raw)
     }
 
-    fn over(raw: *mut RawVector, seats: u16) -> Result<Vector<R>, Error> {
-        let seats_kept = Seats { idle: Vec::new(), lent: 0, grown: 0, base: 0, is_new: true, is_full: false };
+    fn over(raw: *mut RawVector) -> Result<Vector<R>, Error> {
         let raw = NonNull::new(raw).ok_or(Error::Memory)?;
-        let mut vector = Vector { raw, process: process::id(), seats: Mutex::new(seats_kept), of: PhantomData };
-        // So that a drop of a seat asks for no memory.
-        vector.seats_alone().idle.try_reserve_exact(seats.into()).map_err(|_| Error::Memory)?;
-        Ok(vector)
+        Ok(Vector { raw, of: PhantomData })
     }
 
-    /// A thread that had the mutex when this process was forked never lets go of it here.
-    fn check_process(&self) -> Result<(), Error> {
-        if self.process == process::id() { Ok(()) } else { Err(Error::Forked) }
+    fn seat_of(&self, raw: *mut RawSeat) -> Result<Seat<'_, R>, Error> {
+        let raw = NonNull::new(raw).ok_or(Error::Memory)?;
+        Ok(Seat { raw, of: PhantomData })
     }
 
-    fn seats(&self) -> MutexGuard<'_, Seats> {
-        self.seats.lock().unwrap_or_else(PoisonError::into_inner)
-    }
-
-    fn seats_alone(&mut self) -> &mut Seats {
-        self.seats.get_mut().unwrap_or_else(PoisonError::into_inner)
-    }
-
-    /// A seat, for one thread at a time. Who drops it leaves it to another. `NoSeat`: every seat is taken. Behind `Full`, while no
-    /// other seat is there, it first settles what was grown, and is refused where that is.
+    /// A seat, for one thread at a time. Who drops it leaves it to another. `NoSeat`: every seat is taken, or waited for.
     pub fn seat(&self) -> Result<Seat<'_, R>, Error> {
-        self.check_process()?;
-        let mut seats = self.seats();
-        if seats.is_full && seats.lent == 0 {
-            seats.close()?;
-        }
-        let raw = match seats.idle.pop() {
-            Some(raw) => raw,
-            None => self.take(&mut seats)?,
-        };
-        seats.lent += 1;
-        Ok(Seat { raw, vector: self, base: seats.base, next: Cell::new(0), is_full: Cell::new(false) })
-    }
-
-    /// One more seat of C. The first one behind `Seats::close` counts no growth yet, or all of the phase with which C goes on.
-    fn take(&self, seats: &mut Seats) -> Result<NonNull<RawSeat>, Error> {
-        let (mut raw, mut counted) = (ptr::null_mut(), 0);
-        // SAFETY: the vector is open as long as `self` is there; C takes seats one at a time.
+        let mut raw = ptr::null_mut();
+        // SAFETY: the vector is open as long as `self` is there, and the place for the pointer lasts for the call.
         told(unsafe { cvec_vector_take_seat(self.raw.as_ptr(), &mut raw) })?;
-        let raw = NonNull::new(raw).ok_or(Error::Memory)?;
-        if mem::take(&mut seats.is_new) {
-            // SAFETY: it was just taken, so it is in no call, and none is refused.
-            unsafe { cvec_vector_settled(raw.as_ptr(), &mut counted) };
-            seats.base = seats.grown - counted;
-        }
-        Ok(raw)
+        self.seat_of(raw)
     }
 
-    /// For a call of the whole vector: no seat is taken then.
-    fn alone(&mut self) -> Result<*mut RawVector, Error> {
-        self.check_process()?;
-        let seats = self.seats_alone();
-        if seats.lent > 0 {
-            return Err(Error::Busy);
-        }
-        seats.close()?;
-        Ok(self.raw.as_ptr())
+    /// The same, but it waits no longer than this for one that another thread drops: `Late`. Who came first has the first one. So
+    /// any number of threads work by the seats that there are.
+    pub fn seat_within(&self, longest: Duration) -> Result<Seat<'_, R>, Error> {
+        let mut raw = ptr::null_mut();
+        // SAFETY: as above.
+        told(unsafe { cvec_vector_seat_within(self.raw.as_ptr(), milliseconds_of(longest), &mut raw) })?;
+        self.seat_of(raw)
     }
 
     /// Writes these records over those from position `start` on: all of them or none, also over a crash. `OutOfRange`: the vector
     /// doesn't reach so far; `TooLarge`.
     pub fn change(&mut self, start: u64, records: &[R]) -> Result<(), Error> {
-        // SAFETY: no seat is there; the pointer and the length are those of one slice, whose records are of the vector's type.
-        told(unsafe { cvec_vector_change_records(self.alone()?, start, records.as_ptr().cast(), records.len()) })
+        // SAFETY: the vector is open, and C refuses the call where a seat was forgotten; the pointer and the length are those of one
+        // slice, whose records are of the vector's type.
+        told(unsafe { cvec_vector_change_records(self.raw.as_ptr(), start, records.as_ptr().cast(), records.len()) })
     }
 
     /// Takes the records behind the first `size` away, or appends copies of this one. `Unfolded`, where it takes some away;
     /// `OutOfRange`, past 2^32 records; `TooLarge`.
     pub fn resize(&mut self, size: u64, record: R) -> Result<(), Error> {
         // SAFETY: as above; the record lasts for the call.
-        told(unsafe { cvec_vector_resize_by(self.alone()?, size, pointer_to(&record)) })
+        told(unsafe { cvec_vector_resize_by(self.raw.as_ptr(), size, pointer_to(&record)) })
     }
 
     /// Takes all records away. `Unfolded`.
     pub fn clear(&mut self) -> Result<(), Error> {
         // SAFETY: as above.
-        told(unsafe { cvec_vector_clear(self.alone()?) })
+        told(unsafe { cvec_vector_clear(self.raw.as_ptr()) })
     }
 
     /// Writes what was changed to its place in the file: a write for each record, after which the vector may become shorter.
     pub fn fold(&mut self) -> Result<(), Error> {
         // SAFETY: as above.
-        told(unsafe { cvec_vector_fold(self.alone()?) })
+        told(unsafe { cvec_vector_fold(self.raw.as_ptr()) })
     }
 
     /// How many records equal this one.
     pub fn count(&mut self, record: R) -> Result<u64, Error> {
         let mut count = 0;
         // SAFETY: as above; the place for the count lasts for the call.
-        told(unsafe { cvec_vector_count_record(self.alone()?, pointer_to(&record), &mut count) })?;
+        told(unsafe { cvec_vector_count_record(self.raw.as_ptr(), pointer_to(&record), &mut count) })?;
         Ok(count)
     }
 
@@ -490,9 +417,9 @@ impl<R: Record> Vector<R> {
     pub fn find(&mut self, record: R, from: u64) -> Result<Option<u64>, Error> {
         let (mut place, mut len) = (0, 0);
         // SAFETY: as above.
-        told(unsafe { cvec_vector_find_record(self.alone()?, pointer_to(&record), from, &mut place) })?;
+        told(unsafe { cvec_vector_find_record(self.raw.as_ptr(), pointer_to(&record), from, &mut place) })?;
         // From behind each position it answers how many there are. SAFETY: as above.
-        told(unsafe { cvec_vector_find_record(self.alone()?, pointer_to(&record), u64::MAX, &mut len) })?;
+        told(unsafe { cvec_vector_find_record(self.raw.as_ptr(), pointer_to(&record), u64::MAX, &mut len) })?;
         Ok((place < len).then_some(place))
     }
 
@@ -515,13 +442,9 @@ impl<R: Record> Vector<R> {
         told(ManuallyDrop::new(self).end())
     }
 
-    /// Closes it, and answers what C does. To be called once. In a forked process C refuses to close seats.
+    /// Closes it, and answers what C does. To be called once.
     fn end(&mut self) -> u32 {
-        for raw in mem::take(&mut self.seats_alone().idle) {
-            // SAFETY: nobody has this seat, and it is closed once.
-            unsafe { cvec_vector_close_seat(raw.as_ptr()) };
-        }
-        // SAFETY: no other seat is there, since each borrows the vector; C refuses it while one is forgotten.
+        // SAFETY: no seat is there, since each borrows the vector; C refuses it while one is forgotten.
         unsafe { cvec_vector_close(self.raw.as_ptr()) }
     }
 }
@@ -548,13 +471,7 @@ pub struct Receipt {
 #[derive(Debug)]
 pub struct Seat<'v, R: Record = u64> {
     raw: NonNull<RawSeat>,
-    vector: &'v Vector<R>,
-    /// That of the vector's seats, as long as one is there.
-    base: u64,
-    /// The number behind its last growth. A `Cell` is in one thread at a time.
-    next: Cell<u64>,
-    /// Whether a growth was refused as `Full`.
-    is_full: Cell<bool>,
+    of: PhantomData<&'v Vector<R>>,
 }
 
 // SAFETY: C keeps nothing of the thread that took it: its memory is malloc's, and its calls are those of any one thread.
@@ -562,38 +479,27 @@ unsafe impl<R: Record> Send for Seat<'_, R> {}
 
 impl<'v, R: Record> Seat<'v, R> {
     /// Grows by copies of these records, as one block behind all that was grown before: all of them are in the vector, in a row,
-    /// or none. Others read them when it returns; they are durable once they are settled.
+    /// or none. Others read them when it returns; they are durable once they are settled. Once in 1,048,568 growths it settles all
+    /// that was grown, while other calls wait.
     pub fn grow(&self, records: &[R]) -> Result<Receipt, Error> {
         let mut receipt = RawReceipt::default();
         // SAFETY: the seat is open as long as `self` is there, and in one call; the pointer and the length are those of one slice,
         // whose records are of the vector's type.
-        let grown = told(unsafe { cvec_vector_grow_records(self.raw.as_ptr(), records.as_ptr().cast(), records.len(), &mut receipt) });
-        if grown == Err(Error::Full) {
-            self.is_full.set(true);
-        }
-        grown?;
-        let number = self.base + receipt.number;
-        self.next.set(number + 1);
-        Ok(Receipt { number, start: receipt.start, length: receipt.len })
+        told(unsafe { cvec_vector_grow_records(self.raw.as_ptr(), records.as_ptr().cast(), records.len(), &mut receipt) })?;
+        Ok(Receipt { number: receipt.number, start: receipt.start, length: receipt.len })
     }
 
     /// Waits until this growth, and each before it, is durable. Who finds that nobody commits commits for all that wait.
     pub fn settle(&self, receipt: &Receipt) -> Result<(), Error> {
-        let Some(number) = receipt.number.checked_sub(self.base) else {
-            return self.settled().map(drop); // it is durable
-        };
         // SAFETY: as above.
-        told(unsafe { cvec_vector_await(self.raw.as_ptr(), number) })
+        told(unsafe { cvec_vector_await(self.raw.as_ptr(), receipt.number) })
     }
 
     /// The same, but it waits for the commits of others no longer than this: `Late`. With no time at all it commits where nobody
     /// does, and else only looks.
     pub fn settle_for(&self, receipt: &Receipt, longest: Duration) -> Result<(), Error> {
-        let Some(number) = receipt.number.checked_sub(self.base) else {
-            return self.settled().map(drop);
-        };
         // SAFETY: as above.
-        told(unsafe { cvec_vector_await_for(self.raw.as_ptr(), number, milliseconds_of(longest)) })
+        told(unsafe { cvec_vector_await_for(self.raw.as_ptr(), receipt.number, milliseconds_of(longest)) })
     }
 
     /// How many growths are durable: those with a lower number are. It doesn't wait.
@@ -601,7 +507,7 @@ impl<'v, R: Record> Seat<'v, R> {
         let mut count = 0;
         // SAFETY: as above.
         told(unsafe { cvec_vector_settled(self.raw.as_ptr(), &mut count) })?;
-        Ok(self.base + count)
+        Ok(count)
     }
 
     /// How many records there are, durable or not.
@@ -661,14 +567,8 @@ impl<'v, R: Record> Seat<'v, R> {
 
 impl<R: Record> Drop for Seat<'_, R> {
     fn drop(&mut self) {
-        if self.vector.check_process().is_err() {
-            return;
-        }
-        let mut seats = self.vector.seats();
-        seats.idle.push(self.raw);
-        seats.lent -= 1;
-        seats.grown = seats.grown.max(self.next.get());
-        seats.is_full |= self.is_full.get();
+        // SAFETY: it is in no call, and closed once; C refuses it in a forked process.
+        unsafe { cvec_vector_close_seat(self.raw.as_ptr()) };
     }
 }
 
