@@ -13,12 +13,15 @@ from __future__ import annotations
 
 import array
 import collections
+import contextlib
 import ctypes
 import enum
 import math
 import operator
 import os
+import queue
 import threading
+import time
 from ctypes import POINTER, byref, c_size_t, c_uint8, c_uint16, c_uint32, c_uint64, c_void_p
 from typing import Any, Iterable, Iterator, NamedTuple
 
@@ -121,11 +124,6 @@ def _pass(status: int) -> None:
     """To be asked right behind the call that answered it."""
     if status != 0:
         raise Error(status, errno=ctypes.get_errno() if status in _OF_SYSTEM else 0)
-
-
-class _Used(Error):
-    """C has given each of its seats: where a call of the whole vector was interrupted, some are closed. Once all are, it gives
-    them again."""
 
 
 def _closed() -> Error:
@@ -320,7 +318,6 @@ class Seat(_Single):
         """Calls the library by the seat, alone."""
         vector, mark = self._vector, object()
         vector._check_process()
-        phase = vector._phase
         try:
             # An interrupt may come as soon as it has the turn: of a lock nobody would know who has it.
             if self._turn.setdefault(0, mark) is not mark:
@@ -329,18 +326,14 @@ class Seat(_Single):
             with self._gate:
                 if self._ends:
                     raise _closed()
-                if not (self._handle and vector._is_counted):
+                if not self._handle:
                     vector._take_handle(self)
-                return _pass(function(self._handle, *words))
-        except _Used:
-            pass
+                _pass(function(self._handle, *words))
         finally:
             # No interrupt comes in between.
             if self._turn == {0: mark}:
                 self._thread = 0
                 self._turn.clear()
-        vector._end_phase(phase)
-        self._call(function, *words)
 
     def _check_thread(self) -> None:
         """The thread that is inside a call by it can't wait for the end of that."""
@@ -353,24 +346,12 @@ class Seat(_Single):
         finally:
             # An interrupt may come as soon as it has grown.
             if receipt.len > 0:
-                receipt.number += self._vector._base
                 self._last = receipt.number
-
-    def _grow(self, at: int, count: int, receipt: _Receipt) -> None:
-        """Where C takes no further growth, it is made once C's seats were closed."""
-        while True:
-            phase = self._vector._phase
-            try:
-                return self._call(self._grow_by, at, count, receipt)
-            except Error as refusal:
-                if refusal.status != Status.FULL:
-                    raise
-            self._vector._end_phase(phase)
 
     def grow(self, records: Any) -> Receipt:
         """Grows the vector by these records, as one block behind all that was grown before: all of them or none. Other threads
-        read them when it returns; they are durable once they are settled. Nobody changes an array meanwhile. Where 1,048,568
-        growths were made it settles them first. ValueError: not all are records of the vector. Error EMPTY: none; TOO_LARGE:
+        read them when it returns; they are durable once they are settled. Nobody changes an array meanwhile. Once in 1,048,568
+        growths it settles all that was grown, while other calls wait. ValueError: not all are records of the vector. Error EMPTY: none; TOO_LARGE:
         more than 1,048,568 bytes; BROKEN."""
         return self._grow_noted(records, _Receipt())
 
@@ -378,18 +359,16 @@ class Seat(_Single):
         """As `grow`. The receipt has a length from the growth on, whatever interrupts this."""
         held, at, count = self._form.lend(records)
         try:
-            self._grow(at, count, receipt)
+            self._call(self._grow_by, at, count, receipt)
         finally:
             # A traceback must not keep an array from being resized.
             del held
         return Receipt(receipt.number, receipt.start // self._form.words, receipt.len // self._form.words)
 
     def _await_by(self, handle: c_void_p, number: int, *limit: int) -> int:
-        """What C counts no more is durable."""
         if not 0 <= number <= _GREATEST:
             return Status.OUT_OF_RANGE
-        number -= self._vector._base
-        return 0 if number < 0 else (_AWAIT_FOR if limit else _AWAIT)(handle, number, *limit)
+        return (_AWAIT_FOR if limit else _AWAIT)(handle, number, *limit)
 
     def settle(self, receipt: Receipt | None = None, timeout: float | None = None) -> None:
         """Waits until this growth and each before it is durable; without one, all that this seat grew. Who finds that nobody
@@ -403,15 +382,10 @@ class Seat(_Single):
         else:
             self._call(self._await_by, number, *limit)
 
-    def _settled_by(self, handle: c_void_p, count: c_uint64) -> int:
-        status = _LIB.cvec_vector_settled(handle, byref(count))
-        count.value += self._vector._base
-        return status
-
     def settled(self) -> int:
         """How many growths are durable: those with a lower number are. It doesn't wait."""
         count = c_uint64()
-        self._call(self._settled_by, count)
+        self._call(_LIB.cvec_vector_settled, byref(count))
         return count.value
 
     def _words(self) -> int:
@@ -521,17 +495,51 @@ class Appender(_Single):
                 self._kept = 0
 
 
+class _Places:
+    """The seats that nobody has, and who waits for one. None of this takes a lock that its thread may have: a thread's end may come
+    within any call."""
+
+    def __init__(self) -> None:
+        self.free: collections.deque[Seat] = collections.deque()
+        self._left: queue.SimpleQueue[None] = queue.SimpleQueue()
+        self._waiting: set[object] = set()
+
+    def leave(self, seat: Seat) -> None:
+        self.free.append(seat)
+        if self._waiting:
+            self._left.put(None)
+
+    def wake_all(self) -> None:
+        for _ in range(len(self._waiting)):
+            self._left.put(None)
+
+    def wait(self, take: Any, timeout: float) -> None:
+        """Takes one as soon as that isn't refused for want of seats."""
+        end, mark = time.monotonic() + timeout, object()
+        try:
+            # Who leaves a seat from now on says so.
+            self._waiting.add(mark)
+            while not take():
+                left = end - time.monotonic()
+                if left <= 0:
+                    raise Error(Status.LATE)
+                with contextlib.suppress(queue.Empty):
+                    self._left.get(timeout=min(left, threading.TIMEOUT_MAX))
+        finally:
+            self._waiting.discard(mark)
+
+
 class _Lease:
     """The seat of a thread, as long as that lives: then it is the next thread's."""
 
     seat: Seat | None = None
 
-    def __init__(self, free: collections.deque[Seat]) -> None:
-        self._free = free
+    def __init__(self, places: _Places) -> None:
+        self._places = places
 
     def __del__(self) -> None:
         if self.seat is not None:
-            self._free.append(self.seat)
+            self._places.leave(self.seat)
 
 
 class Vector(_Single):
@@ -552,11 +560,7 @@ class Vector(_Single):
         self._flushers: list[Any] = []
         # All that aren't closed, and those that nobody has.
         self._seats: list[Seat] = []
-        self._free: collections.deque[Seat] = collections.deque()
-        # How often C's seats were closed, and how many growths there were then. Those below the base C's seats don't count any
-        # more: the first of them that is taken tells how many they count.
-        self._phase, self._grown, self._base = 0, 0, 0
-        self._counting, self._is_counted = threading.Lock(), False
+        self._places = _Places()
 
     @classmethod
     def create(cls, path: Any, seats: int = MOST_SEATS, dtype: Any = None, version: int = 1, type: str = "u64") -> Vector:
@@ -577,7 +581,7 @@ class Vector(_Single):
             seat = Seat(vector)
             vector._seats.append(seat)
             words = seat._words()
-            vector._free.append(seat)
+            vector._places.leave(seat)
             if words % vector._form.words != 0:
                 raise ValueError(f"{words} words are no whole records of {vector._form.words}")
             return vector
@@ -612,55 +616,45 @@ class Vector(_Single):
         if self._process != os.getpid():
             raise Error(Status.FORKED)
 
-    def seat(self) -> Seat:
-        """The seat of the calling thread, until that ends. Error NOT_SO: every seat is taken."""
+    def seat(self, timeout: float | None = None) -> Seat:
+        """The seat of the calling thread, until that ends or closes it. Error NOT_SO: every seat is taken. `timeout`: how many
+        seconds it waits for one that another thread leaves; then Error LATE."""
+        longest = 0.0 if timeout is None else _milliseconds(timeout) / 1000
         self._check_process()
         lease = getattr(self._local, "lease", None)
         if lease is None or lease.seat is None or lease.seat.closed:
-            lease = self._local.lease = _Lease(self._free)
-            self._take(lease)
+            lease = self._local.lease = _Lease(self._places)
+            if not self._take(lease):
+                if timeout is None:
+                    raise Error(Status.NOT_SO)
+                self._places.wait(lambda: self._take(lease), longest)
         return lease.seat
 
-    def _take(self, lease: _Lease) -> None:
-        """A seat that a thread has left, or a new one. The lease has it before an interrupt comes."""
+    def _take(self, lease: _Lease) -> bool:
+        """A seat that a thread has left, or a new one, if there may be more. The lease has it before an interrupt comes."""
+        free = self._places.free
         with self._lock:
             if self._handle is None:
                 raise _closed()
-            while self._free and lease.seat is None:
-                lease.seat = None if self._free[0].closed else self._free[0]
-                self._free.popleft()
-            if lease.seat is None:
-                if len(self._seats) == self._limit:
-                    raise Error(Status.NOT_SO)
+            while free and lease.seat is None:
+                lease.seat = None if free[0].closed else free[0]
+                free.popleft()
+            if lease.seat is None and len(self._seats) < self._limit:
                 lease.seat = Seat(self)
                 self._seats.append(lease.seat)
+            return lease.seat is not None
 
     def _replace(self, seat: Seat) -> None:
         """With the lock and the gate of this seat: another one has its place, and is free."""
         heir, at = Seat(self), self._seats.index(seat)
         # No interrupt comes in between.
         heir._handle, heir._last, self._seats[at], seat._handle = seat._handle, seat._last, heir, None
-        self._free.append(heir)
+        self._places.leave(heir)
 
     def _take_handle(self, seat: Seat) -> None:
         """With the gate of this seat: it has one of C's, from when C has given it on."""
-        with self._counting:
-            if not seat._handle:
-                seat._handle = c_void_p()
-                status = _LIB.cvec_vector_take_seat(self._handle, byref(seat._handle))
-                if status == Status.NOT_SO and any(it._handle for it in self._seats):
-                    raise _Used(status)
-                _pass(status)
-            self._count(seat._handle)
-
-    def _count(self, handle: c_void_p) -> None:
-        """The first of C's seats tells whether C counts anew, or goes on."""
-        if not self._is_counted:
-            counted = c_uint64()
-            _LIB.cvec_vector_settled(handle, byref(counted))
-            if counted.value == 0:
-                self._base = self._grown
-            self._is_counted = True
+        seat._handle = c_void_p()
+        _pass(_LIB.cvec_vector_take_seat(self._handle, byref(seat._handle)))
 
     # ---- the whole vector
 
@@ -689,19 +683,10 @@ class Vector(_Single):
     def _close_handles(self) -> None:
         """Alone: waits until all that was grown is durable, and closes C's seats. Refused, they stay."""
         handles = [seat._handle for seat in self._seats if seat._handle]
-        if handles:
-            self._count(handles[0])
-        self._grown = self._last() + 1
-        if handles and self._grown > self._base:
-            _pass(_AWAIT(handles[0], self._grown - 1 - self._base))
-        # An interrupt may come as soon as C has closed one.
-        self._phase, self._is_counted = self._phase + 1, False
+        if handles and self._last() >= 0:
+            _pass(_AWAIT(handles[0], self._last()))
         for seat in self._seats:
             seat._close_handle()
-
-    def _end_phase(self, phase: int) -> None:
-        """Has C count growths anew, but where another thread has done so since."""
-        self._alone(lambda: self._close_handles() if phase == self._phase else None)
 
     def _whole(self, call: Any, *words: Any) -> None:
         """A call of the whole vector."""
@@ -878,6 +863,7 @@ class Vector(_Single):
             for seat in self._seats:
                 seat._give_up()
             handle, self._handle = self._handle, None
+            self._places.wake_all()
             if handle is None:
                 return
             try:

@@ -1,6 +1,7 @@
 """Tests of cvec_vector.py: vector_cases.py FOLDER NAME [plain]. NAME is that of a test below. With 'plain' it runs without
 numpy. What a file holds is read by the reader in tests/fuzz, which shares nothing with the library."""
 import array
+import collections
 import copy
 import ctypes
 import errno
@@ -791,23 +792,21 @@ def a_call_within_a_call_is_refused():
 MOST_GROWTHS = 1048568
 
 
+def grow_often(seat, first, count):
+    """So many growths by the seat, of one record each, made by a loop in C (tests/bindings/often.c)."""
+    often = ctypes.CDLL(os.environ["OFTEN"])
+    status = often.grow_often(cvec_vector._LIB.cvec_vector_grow_records, seat._handle, ctypes.c_uint64(first), ctypes.c_uint64(count))
+    assert status == 0
+
+
 def a_full_phase_goes_on():
-    """But the first and the last one, growths are made by a loop in C (tests/bindings/often.c)."""
-    library, told = cvec_vector._LIB, []
-    often, grow = ctypes.CDLL(os.environ["OFTEN"]), library.cvec_vector_grow_records
-
-    def grow_noted(*words):
-        told.append(grow(*words))
-        return told[-1]
-
-    library.cvec_vector_grow_records = grow_noted
     with Vector.create(PATH, seats=1) as vector:
         first, seat = vector.grow([0]), vector.seat()
-        assert often.grow_often(grow, seat._handle, ctypes.c_uint64(1), ctypes.c_uint64(MOST_GROWTHS - 2)) == 0
+        grow_often(seat, 1, MOST_GROWTHS - 2)
         last = vector.grow([MOST_GROWTHS - 1])
         assert last == (MOST_GROWTHS - 1, MOST_GROWTHS - 1, 1) and vector.settled() == 0
         behind = vector.grow([MOST_GROWTHS])
-        assert told == [0, 0, Status.FULL, 0] and behind == (MOST_GROWTHS, MOST_GROWTHS, 1)
+        assert behind == (MOST_GROWTHS, MOST_GROWTHS, 1)
         # All from before is settled, and what is behind it isn't yet.
         assert vector.settled() == MOST_GROWTHS and vector.seat() is seat
         for receipt in (first, last):
@@ -819,40 +818,29 @@ def a_full_phase_goes_on():
         assert vector.settled() == MOST_GROWTHS + 1
 
 
-def count_few(most):
-    """C refuses a growth behind so many others here, until its seats are closed. Then it counts anew, as behind a call of the whole
-    vector. Answers a set of C's seats that are open, and a list of how many growths each phase had."""
-    library, lock, made, there, phases = cvec_vector._LIB, threading.Lock(), [0], set(), []
-    grow, take, close = library.cvec_vector_grow_records, library.cvec_vector_take_seat, library.cvec_vector_close_seat
+def threads_fill_phases():
+    """Past what one phase takes, by 1, 4 and 16 threads, beside a flusher: each growth is there, those of a thread in order."""
+    for threads in (1, 4, 16):
+        refused, each = [], 1_200_000 // threads
 
-    def grow_few(*words):
-        with lock:
-            if made[0] == most:
-                return Status.FULL
-            made[0] += 1
-            return grow(*words)
+        def run(vector, name):
+            vector.settled()
+            grow_often(vector.seat(), name << 32, each)
 
-    def take_noted(vector, seat):
-        with lock:
-            if not there:
-                phases.append(made[0])
-                made[0] = library.cvec_vector_find_record(vector, bytes(8), GREATEST, ctypes.byref(ctypes.c_uint64()))
-            status = take(vector, seat)
-            there.add(seat._obj.value)
-            return status
-
-    def close_noted(seat):
-        with lock:
-            there.remove(seat.value)
-            return close(seat)
-
-    library.cvec_vector_grow_records, library.cvec_vector_take_seat, library.cvec_vector_close_seat = grow_few, take_noted, close_noted
-    return there, phases
+        with Vector.create(PATH, seats=threads) as vector:
+            flusher = begin_flusher(vector, refused)
+            run_all([lambda name=name: run(vector, name) for name in range(threads)])
+        flusher.join()
+        rows = collections.defaultdict(list)
+        for record in records():
+            rows[record >> 32].append(record & 0xffffffff)
+        assert refused == [] and len(rows) == threads and all(row == list(range(each)) for row in rows.values())
+        os.remove(PATH)
 
 
 def phases_end_beside_threads():
-    there, phases = count_few(50)
-    told, numbers = {}, {}
+    """A phase takes 150 more, where they grow, read and settle 1,600 blocks."""
+    told, numbers, before = {}, {}, MOST_GROWTHS - 150
 
     def run(vector, name):
         for turn in range(100):
@@ -865,19 +853,22 @@ def phases_end_beside_threads():
                 assert vector.settled() > receipt.number
 
     with Vector.create(PATH, seats=THREADS) as vector:
+        vector.settled()
+        grow_often(vector.seat(), 0, before)
+        vector.seat().close()
         run_all([lambda name=name: run(vector, name) for name in range(THREADS)])
-        assert [numbers[at] for at in sorted(numbers)] == list(range(100 * THREADS))
-        assert len(phases) == 16 and set(phases[1:]) == {50}
+        assert [numbers[at] for at in sorted(numbers)] == list(range(before, before + 100 * THREADS))
         gc.collect()
         for number in numbers.values():
             vector.settle(cvec_vector.Receipt(number, 0, 1))
-        assert vector.settled() == 100 * THREADS
-    assert places_of(records()) == told and there == set()
+        assert vector.settled() == before + 100 * THREADS
+    found = records()
+    assert found[:before] == list(range(before))
+    assert {key: before + at for key, at in places_of(found[before:]).items()} == told
 
 
 def random_calls_beside_threads():
     """And beside a flusher: no call is refused but by the two statuses that are expected here, and growths are counted on."""
-    there, _ = count_few(37)
     seed = random.randrange(2 ** 32)
     print("seed", seed, file=sys.stderr)
     receipts, refused = [], []
@@ -906,7 +897,7 @@ def random_calls_beside_threads():
         assert vector.settled() == len(receipts)
         found = list(vector)
     flusher.join()
-    assert records() == found and there == set() and refused == []
+    assert records() == found and refused == []
 
 
 # ---- refusals
@@ -1048,6 +1039,65 @@ def a_seat_goes_to_the_next_thread():
         goes_on.set()
         thread.join()
     assert sorted(records()) == list(range(41))
+
+
+def a_seat_is_waited_for():
+    """No longer than is asked; who has waited has the seat that a thread leaves by its end or its close; a close ends the wait."""
+    with Vector.create(PATH, seats=1) as vector:
+        vector.grow([0])
+        goes_on, holds, told = threading.Event(), threading.Event(), []
+
+        def ask(timeout):
+            begun = time.monotonic()
+            try:
+                told.append(vector.seat(timeout=timeout).grow([1]).number)
+            except Error as fault:
+                told.append(fault.status)
+            told.append(time.monotonic() - begun)
+
+        run_all([lambda: ask(None)])
+        assert told[0] == Status.NOT_SO
+        for timeout in (0, 0.05):
+            told.clear()
+            run_all([lambda: ask(timeout)])
+            assert told[0] == Status.LATE and timeout <= told[1] < 5
+        has_no(ValueError, vector.seat, -1)
+        assert vector.seat(timeout=0) is vector.seat()
+        told.clear()
+        thread = threading.Thread(target=ask, args=(math.inf,))
+        thread.start()
+        while not vector._places._waiting:
+            time.sleep(0.001)
+        vector.seat().close()
+        thread.join()
+        assert told[0] == 1
+        holder = threading.Thread(target=lambda: (vector.grow([2]), holds.set(), goes_on.wait()))
+        holder.start()
+        holds.wait()
+        told.clear()
+        thread = threading.Thread(target=ask, args=(60,))
+        thread.start()
+        while not vector._places._waiting:
+            time.sleep(0.001)
+        vector.close()
+        thread.join()
+        goes_on.set()
+        holder.join()
+        assert told[0] == Status.NOT_SO
+
+
+def a_pool_works_by_fewer_seats():
+    """200 threads by 64 seats: some leave theirs by a close, others by their end."""
+    def run(vector, name):
+        for turn in range(5):
+            seat = vector.seat(timeout=60)
+            seat.grow([name * 5 + turn])
+            if name % 2 == 0 or turn < 4:
+                seat.close()
+
+    with Vector.create(PATH) as vector:
+        run_all([lambda name=name: run(vector, name) for name in range(200)])
+    assert sorted(records()) == list(range(1000))
 
 
 def another_thread_by_the_same_seat_is_refused():

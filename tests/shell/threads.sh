@@ -257,7 +257,7 @@ threads_of_c_that_are_killed_as_a_phase_ends_lose_nothing_settled() (
     has python3 'what reads a file' || exit $is_skipped
     make_threads
     cc -shared -fPIC -o "$work/syncs.so" "$top/tests/bindings/syncs.c"
-    kill_at=4 # the first ones make the file
+    kill_at=6 # the first five make the file
     while
         rm -f "$work/t.cv"
         status=0

@@ -204,6 +204,8 @@ a_full_python_vector_goes_on() (
     run list u64 "$work/files/vector.cvec"
     seq 0 1048568 | cmp - "$out"
     rm -rf "$work/files"
+    is_so_without_numpy threads_fill_phases
+    rm -rf "$work/files"
     is_so_without_numpy phases_end_beside_threads
     rm -rf "$work/files"
     is_so_without_numpy random_calls_beside_threads
@@ -251,6 +253,12 @@ threads_of_python_grow_whole_blocks() (
 
 a_seat_of_python_goes_to_the_next_thread() (
     is_so_without_numpy a_seat_goes_to_the_next_thread
+)
+
+more_threads_of_python_than_seats_work() (
+    is_so_without_numpy a_seat_is_waited_for
+    rm -rf "$work/files"
+    is_so_without_numpy a_pool_works_by_fewer_seats
 )
 
 a_seat_of_python_is_in_one_call() (
