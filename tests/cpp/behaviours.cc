@@ -1287,19 +1287,32 @@ static void turns(const std::string &path) {
     HOLDS(vector.size() == 200);
 }
 
-// ---- more growths than an open vector takes
+// ---- more growths than a phase takes
 
-static void renewing(const std::string &path) {
-    const std::uint64_t threads = 4, each = 300000;
-    // By a path that leads elsewhere when the file is opened again.
-    const std::size_t slash = path.rfind('/');
-    HOLDS(::chdir(path.substr(0, slash).c_str()) == 0);
-    numbers vector(path.substr(slash + 1));
-    HOLDS(::chdir("/") == 0);
+// Growths of each thread are in order behind the first rows, each once.
+static void are_turns_of(const numbers &vector, std::size_t first, std::uint64_t threads, std::uint64_t each) {
+    std::vector<std::uint64_t> next(threads, 0);
+    HOLDS(vector.size() == first + threads * each);
+    for (auto row = vector.begin() + static_cast<std::ptrdiff_t>(first), end = vector.end(); row != end; ++row) {
+        const std::uint64_t found = *row;
+        HOLDS(found % each == next[found / each]++);
+        if (wrong != 0) return;
+    }
+}
+
+static void renewing_by(const std::string &path, std::uint64_t threads) {
+    const std::uint64_t each = 1200000 / threads;
+    std::remove(path.c_str());
+    numbers vector(path);
     const cvec::growth early = vector.append(std::uint64_t{7});
     std::vector<cvec::growth> last(threads);
+    std::thread flusher([&] { vector.run_flusher(std::chrono::milliseconds(2)); });
     in_threads(threads, [&](std::uint64_t k) {
-        for (std::uint64_t turn = 0; turn < each; ++turn) last[k] = vector.append(k * each + turn);
+        for (std::uint64_t turn = 0; turn < each; ++turn) {
+            last[k] = vector.append(k * each + turn);
+            if (turn % 50000 == 0) vector.settle(last[k]);
+            if (turn % 50000 == 1) static_cast<void>(vector.settle_for(last[k], std::chrono::milliseconds(1)));
+        }
     });
     HOLDS(vector.size() == threads * each + 1 && vector.is_settled(early));
     vector.settle(early);
@@ -1309,42 +1322,60 @@ static void renewing(const std::string &path) {
     for (std::uint64_t k = 0; k < threads; ++k) HOLDS(vector[last[k].first] == (k + 1) * each - 1);
     vector.settle();
     HOLDS(vector.settled() == threads * each + 1);
-    // Each thread's numbers in order, each once.
-    std::vector<std::uint64_t> next(threads, 0);
-    for (auto row = vector.begin() + 1, end = vector.end(); row != end; ++row) {
-        const std::uint64_t found = *row;
-        HOLDS(found % each == next[found / each]++);
-        if (wrong != 0) return;
-    }
+    vector.close();
+    flusher.join();
+    are_turns_of(numbers(path), 1, threads, each);
 }
 
-// Where the file is gone by its name, growths end there; what was grown is durable.
-static void renewing_elsewhere(const std::string &path) {
-    numbers vector(path);
-    const std::string other = path + ".other";
-    vector.push_back(0);
-    HOLDS(std::rename(path.c_str(), other.c_str()) == 0);
-    std::uint64_t grown = 1;
-    const std::uint32_t status = status_of([&] {
-        for (; grown < 1100000; ++grown) vector.push_back(grown);
+static void renewing(const std::string &path) {
+    for (const std::uint64_t threads : {1, 4, 16}) renewing_by(path, threads);
+}
+
+// Changes come as a phase is about to end.
+static void renewing_beside_changes(const std::string &path) {
+    const std::uint64_t threads = 8, each = 150000, first = 100, most = 1048568;
+    numbers vector(path, {cvec::opening::create, 2, 4});
+    vector.grow_by(first, 0);
+    std::thread changer([&] {
+        while (vector.size() < most) std::this_thread::sleep_for(std::chrono::microseconds(100));
+        for (std::uint64_t k = 1; k <= 60; ++k) {
+            vector.change(k % first, k);
+            HOLDS(vector[k % first] == k);
+        }
     });
-    HOLDS(status == CVEC_DISK_OPEN && grown == 1048568);
-    HOLDS(status_of([&] { vector.push_back(1); }) == CVEC_NOT_SO);
-    numbers again(other);
-    HOLDS(again.size() == 1048568 && again.back() == 1048567);
+    in_threads(threads, [&](std::uint64_t k) {
+        for (std::uint64_t turn = 0; turn < each; ++turn) vector.push_back(k * each + turn);
+    });
+    changer.join();
+    vector.close();
+    are_turns_of(numbers(path), first, threads, each);
 }
 
-// Nor in a file of the same length that was put in its place.
-static void renewing_replaced(const std::string &path) {
+// The file that was opened is grown, though by its name it is gone, and another of the same length stands there.
+static void renewing_elsewhere(const std::string &path) {
     const std::string other = path + ".other";
-    numbers(other).grow_to_at_least(1048568, 7);
     numbers vector(path);
     std::uint64_t grown = 0;
     for (; grown < 1048568; ++grown) vector.push_back(grown);
-    HOLDS(std::rename(other.c_str(), path.c_str()) == 0);
-    HOLDS(status_of([&] { vector.push_back(1); }) == CVEC_IN_USE && status_of([&] { vector.push_back(1); }) == CVEC_NOT_SO);
-    numbers put(path);
+    HOLDS(std::rename(path.c_str(), other.c_str()) == 0);
+    numbers(path).grow_to_at_least(1048568, 7);
+    for (; grown < 1048600; ++grown) vector.push_back(grown);
+    vector.close();
+    const numbers put(path), gone(other);
     HOLDS(put.size() == 1048568 && put.front() == 7 && put.back() == 7);
+    HOLDS(gone.size() == 1048600 && gone.front() == 0 && gone.back() == 1048599);
+}
+
+// 200 threads by 64 seats.
+static void more_threads_than_seats(const std::string &path) {
+    const std::uint64_t threads = 200, each = 50;
+    {
+        numbers vector(path);
+        in_threads(threads, [&](std::uint64_t k) {
+            for (std::uint64_t turn = 0; turn < each; ++turn) vector.push_back(k * each + turn);
+        });
+    }
+    are_turns_of(numbers(path), 0, threads, each);
 }
 
 int main(int argc, char **argv) {
@@ -1397,7 +1428,8 @@ int main(int argc, char **argv) {
         {"turns", turns},
         {"renewing", renewing},
         {"renewing_elsewhere", renewing_elsewhere},
-        {"renewing_replaced", renewing_replaced},
+        {"renewing_beside_changes", renewing_beside_changes},
+        {"more_threads_than_seats", more_threads_than_seats},
     };
     const auto found = argc == 3 ? behaviours.find(argv[1]) : behaviours.end();
     if (found == behaviours.end()) return 2;

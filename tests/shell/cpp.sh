@@ -231,9 +231,9 @@ threads_share_seats_in_cpp() (
     behaves few_seats many_threads turns reading_beside_reads
 )
 
-# Past the growths that an open vector takes, the file is opened again.
+# Past the growths that a phase takes, and by more threads than seats.
 growths_have_no_end_in_cpp() (
-    behaves renewing renewing_elsewhere renewing_replaced
+    behaves renewing renewing_beside_changes renewing_elsewhere more_threads_than_seats
 )
 
 # ---- threads

@@ -1943,6 +1943,7 @@ static int renewal_lacks(const char *path, int request, int times, int is_awaite
     if (answer == CVEC_MEMORY) {
         halfway += vector->unseated;
         HOLDS(number == 9 && cvec_vector_await_for(beside, 4, 0) == CVEC_DONE);
+        if (vector->unseated) HOLDS(cvec_vector_await(beside, 5) == CVEC_OUT_OF_RANGE && !is_broken(vector));
         answer = cvec_vector_size(beside, &count);
         HOLDS(answer == CVEC_BROKEN || (answer == CVEC_DONE && count == 5));
         if (answer == CVEC_DONE) answer = grow(5, &number);

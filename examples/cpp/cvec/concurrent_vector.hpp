@@ -16,7 +16,6 @@
 #include <condition_variable>
 #include <cstddef>
 #include <cstdint>
-#include <cstdlib>
 #include <cstring>
 #include <initializer_list>
 #include <iterator>
@@ -115,8 +114,6 @@ inline constexpr std::size_t most_seats = 64;
 inline constexpr std::size_t most_bytes = (std::size_t{1} << 20) - 8;
 inline constexpr std::uint64_t most_records = std::uint64_t{1} << 32;
 inline constexpr std::size_t cache_line = 64;
-// For a file that is opened again, and that another process has meanwhile.
-inline constexpr std::chrono::seconds longest_wait{2};
 
 // Of a flusher, in milliseconds: a year.
 inline constexpr std::uint64_t longest_pause = std::uint64_t{365} * 24 * 3600 * 1000;
@@ -183,7 +180,6 @@ class word_file {
         begin(wanted);
         // What a constructor throws leaves no destructor to close the file.
         try {
-            remember_path();
             if (!seat_another()) refuse(CVEC_MEMORY);
         } catch (...) {
             give_up();
@@ -200,25 +196,19 @@ class word_file {
     // Waits until each call under way has ended. Later ones are refused, and to close again does nothing.
     void close() { require(give_up()); }
 
-    // Some words as one growth. The receipt counts growths from when the file was opened first.
+    // Some words as one growth.
     cvec_receipt grow(const void *words, std::size_t count) {
-        for (;;) {
-            std::uint64_t openings = 0;
-            cvec_receipt receipt{};
-            const std::uint32_t status = try_grow(words, count, receipt, openings);
-            if (status != CVEC_FULL) {
-                require(status);
-                return receipt;
-            }
-            open_again(openings);
-        }
+        const lease lent(*this);
+        cvec_receipt receipt{};
+        require(cvec_vector_grow_records(lent.seat(), words, count, &receipt));
+        lent.note_grown(receipt.number + 1);
+        return receipt;
     }
 
     // Waits until the growth of this number, and each before it, is durable.
     void await(std::uint64_t number) {
         const lease lent(*this);
-        if (number < base_) return refuse_forked();
-        require(cvec_vector_await(lent.seat(), number - base_));
+        require(cvec_vector_await(lent.seat(), number));
     }
 
     // The same, for others so many milliseconds at most: then false.
@@ -226,11 +216,7 @@ class word_file {
         slot *const found = borrow_within(milliseconds);
         if (found == nullptr) return false;
         const lease lent(*found);
-        if (number < base_) {
-            refuse_forked();
-            return true;
-        }
-        const std::uint32_t status = cvec_vector_await_for(lent.seat(), number - base_, milliseconds);
+        const std::uint32_t status = cvec_vector_await_for(lent.seat(), number, milliseconds);
         if (status != CVEC_LATE) require(status);
         return status == CVEC_DONE;
     }
@@ -273,7 +259,7 @@ class word_file {
         const lease lent(*this);
         std::uint64_t count = 0;
         require(cvec_vector_settled(lent.seat(), &count));
-        return base_ + count;
+        return count;
     }
 
     std::uint64_t size() {
@@ -341,7 +327,7 @@ class word_file {
     struct alignas(cache_line) slot {
         std::atomic<bool> is_lent{false};
         cvec_vector_seat *seat = nullptr;
-        // With the last growth by it so many had been made since the file was opened first. Who has it writes.
+        // With the last growth by it so many had been made. Who has it writes.
         std::atomic<std::uint64_t> grown{0};
 
         bool try_take() noexcept {
@@ -363,13 +349,6 @@ class word_file {
 
       private:
         slot &slot_;
-    };
-
-    // Which file a path led to: another may be put in its place.
-    struct identity {
-        std::uint64_t device = 0, file = 0;
-        std::uint32_t ask(const cvec_vector *vector) noexcept { return cvec_vector_identity(vector, &device, &file); }
-        bool operator!=(const identity &other) const noexcept { return device != other.device || file != other.file; }
     };
 
     void refuse_ended() const {
@@ -415,13 +394,6 @@ class word_file {
         if (!is_missing && opened != CVEC_UNBORN) return opened;
         const std::uint32_t created = create(version);
         return created == CVEC_EXISTS ? open() : created;
-    }
-
-    // The file is opened again by its whole path: the process may have gone to another folder.
-    void remember_path() {
-        const std::unique_ptr<char, decltype(&std::free)> whole(::realpath(path_.c_str(), nullptr), &std::free);
-        if (whole == nullptr) refuse(CVEC_DISK_OPEN);
-        path_ = whole.get();
     }
 
     // -- seats
@@ -539,19 +511,9 @@ class word_file {
         for (std::size_t k = 0; k < seated_.load(std::memory_order_relaxed); ++k) slots_[k].give_back();
     }
 
-    // -- growing, and opening again
+    // -- growing
 
-    std::uint32_t try_grow(const void *words, std::size_t count, cvec_receipt &receipt, std::uint64_t &openings) {
-        const lease lent(*this);
-        openings = openings_;
-        const std::uint32_t status = cvec_vector_grow_records(lent.seat(), words, count, &receipt);
-        if (status != CVEC_DONE) return status;
-        receipt.number += base_;
-        lent.note_grown(receipt.number + 1);
-        return status;
-    }
-
-    // So many growths have returned since the file was opened first, or more. Each seat notes its own, so that threads that
+    // So many growths have returned, or more. Each seat notes its own, so that threads that
     // grow write to nothing together.
     [[nodiscard]] std::uint64_t grown() const noexcept {
         const std::size_t count = seated_.load(std::memory_order_acquire);
@@ -560,54 +522,12 @@ class word_file {
         return most;
     }
 
-    // An open vector takes a limited number of growths (CVEC_FULL). The first thread that is told so opens it again, while
-    // nobody else is inside a call.
-    void open_again(std::uint64_t openings) {
-        const std::lock_guard<std::mutex> lock(seating_);
-        if (closed_.load(std::memory_order_acquire) || openings != openings_) return;
-        take_all_seats();
-        std::uint64_t size = 0;
-        std::uint32_t status = settle_all(&size);
-        if (status == CVEC_DONE) {
-            status = close_and_open(size);
-            if (status != CVEC_DONE) end_by(status);
-        }
-        if (!closed_.load(std::memory_order_acquire)) give_all_seats_back();
-        require(status);
-    }
-
     // With all seats. Where it is refused nothing has changed, and the file stays open.
     std::uint32_t settle_all(std::uint64_t *size) {
         const std::uint64_t count = grown();
         std::uint32_t status = CVEC_DONE;
-        if (count > base_) status = cvec_vector_await(slots_[0].seat, count - 1 - base_);
+        if (count > 0) status = cvec_vector_await(slots_[0].seat, count - 1);
         return status == CVEC_DONE ? cvec_vector_size(slots_[0].seat, size) : status;
-    }
-
-    // With all seats. Where it is refused the file is closed.
-    std::uint32_t close_and_open(std::uint64_t size) {
-        identity before, now;
-        std::uint32_t status = before.ask(vector_);
-        const std::uint32_t closed = close_all();
-        if (status == CVEC_DONE) status = closed;
-        if (status == CVEC_DONE) status = open_patiently();
-        if (status == CVEC_DONE) status = now.ask(vector_);
-        if (status == CVEC_DONE && now != before) status = CVEC_IN_USE;
-        if (status == CVEC_DONE) status = take_seats_again(size);
-        if (status != CVEC_DONE) close_all();
-        if (status != CVEC_DONE) return status;
-        base_ = grown();
-        ++openings_;
-        return status;
-    }
-
-    // A forked process that is about to run another program has the lock until then.
-    std::uint32_t open_patiently() {
-        const auto end = std::chrono::steady_clock::now() + longest_wait;
-        for (patience turn;; turn.wait()) {
-            const std::uint32_t status = open();
-            if (status != CVEC_IN_USE || std::chrono::steady_clock::now() > end) return status;
-        }
     }
 
     // As many seats as before.
@@ -616,14 +536,6 @@ class word_file {
         for (std::size_t k = 0; k < seated_.load(std::memory_order_relaxed) && status == CVEC_DONE; ++k)
             status = cvec_vector_take_seat(vector_, &slots_[k].seat);
         return status;
-    }
-
-    // The same, of a file that is as long as before: another process may have had it for a moment.
-    std::uint32_t take_seats_again(std::uint64_t size) {
-        std::uint64_t found = 0;
-        std::uint32_t status = take_each_seat();
-        if (status == CVEC_DONE) status = cvec_vector_size(slots_[0].seat, &found);
-        return status == CVEC_DONE && found != size ? std::uint32_t{CVEC_IN_USE} : status;
     }
 
     // -- having the file alone
@@ -668,29 +580,12 @@ class word_file {
     // closed, and later calls are told why: what the action did is durable, so that isn't refused.
     void take_seats_anew() {
         const int why = errno;
-        const std::uint32_t status = count_on();
+        const std::uint32_t status = take_each_seat();
         if (status != CVEC_DONE) {
             close_all();
             end_by(status);
         }
         errno = why;
-    }
-
-    // The seats that it takes count growths from 0, or, where nothing was done, on: what they tell is settled are all that they
-    // count.
-    std::uint32_t count_on() {
-        std::uint64_t counted = 0;
-        std::uint32_t status = take_each_seat();
-        // Where nothing was done, those that were never taken are given. They may be too few: once each is closed, all are.
-        if (status == CVEC_NOT_SO) {
-            close_seats();
-            status = take_each_seat();
-        }
-        if (status == CVEC_DONE) status = cvec_vector_settled(slots_[0].seat, &counted);
-        if (status != CVEC_DONE) return status;
-        base_ = grown() - counted;
-        ++openings_;
-        return status;
     }
 
     // -- ending
@@ -749,9 +644,6 @@ class word_file {
     std::unique_ptr<std::condition_variable> flusher_wakes_ = std::make_unique<std::condition_variable>();
     bool flushers_end_ = false; // with flushing_
     std::mutex turn_;
-    // Read with a seat, and written with all of them.
-    std::uint64_t base_ = 0; // of the growths so many were made before the file was opened last
-    std::uint64_t openings_ = 0;
 };
 
 // ---- rows
