@@ -289,7 +289,7 @@ a_phase_of_c_that_can_not_end_loses_nothing() (
 )
 
 a_seat_in_c_is_waited_for() (
-    for behaviour in seat_within seat_within_change; do
+    for behaviour in seat_within seats_in_line seat_within_change; do
         rm -f "$work/t.cv"
         a_behaviour_of_a_vector_in_c $behaviour
     done

@@ -1943,7 +1943,9 @@ static int renewal_lacks(const char *path, int request, int times, int is_awaite
     if (answer == CVEC_MEMORY) {
         halfway += vector->unseated;
         HOLDS(number == 9 && cvec_vector_await_for(beside, 4, 0) == CVEC_DONE);
-        if (vector->unseated) HOLDS(cvec_vector_await(beside, 5) == CVEC_OUT_OF_RANGE && !is_broken(vector));
+        const int was_broken = is_broken(vector);
+        if (vector->unseated) HOLDS(cvec_vector_await(beside, 5) == (was_broken ? CVEC_BROKEN : CVEC_OUT_OF_RANGE));
+        HOLDS(is_broken(vector) == was_broken);
         answer = cvec_vector_size(beside, &count);
         HOLDS(answer == CVEC_BROKEN || (answer == CVEC_DONE && count == 5));
         if (answer == CVEC_DONE) answer = grow(5, &number);
@@ -2190,6 +2192,39 @@ static void seat_within(const char *path) {
     HOLDS(cvec_vector_close(vector) == CVEC_DONE);
 }
 
+/* A seat that is closed is for the first in line, whoever else is woken or comes before it runs; two are for the first two. No close
+ * comes between. */
+static void seats_in_line(const char *path) {
+    struct want first, second;
+    cvec_vector_seat *other = NULL;
+    make(path, 2);
+    HOLDS(cvec_vector_take_seat(vector, &other) == CVEC_DONE);
+    for (int turn = 0; turn < 20 && !wrong; turn++) {
+        begin_want(&first, 30000, 0);
+        begin_want(&second, 30000, 1);
+        pthread_mutex_lock(&vector->mutex);
+        drop_seat(vector, seat);
+        pthread_cond_signal(&vector->line->next->turn);
+        HOLDS(!is_one_spare(vector) && vector->asking == 2);
+        pthread_mutex_unlock(&vector->mutex);
+        pthread_join(first.thread, NULL);
+        HOLDS(first.answer == CVEC_DONE && first.waited < 20000 && queued() == 1);
+        begin_want(&first, 30000, 1);
+        pthread_mutex_lock(&vector->mutex);
+        drop_seat(vector, other);
+        drop_seat(vector, vector->first);
+        HOLDS(vector->seats == 0 && vector->asking == 2);
+        pthread_mutex_unlock(&vector->mutex);
+        pthread_join(first.thread, NULL);
+        pthread_join(second.thread, NULL);
+        HOLDS(first.answer == CVEC_DONE && second.answer == CVEC_DONE && first.waited < 20000 && second.waited < 20000);
+        seat = first.seat;
+        other = second.seat;
+    }
+    HOLDS(cvec_vector_close_seat(other) == CVEC_DONE && cvec_vector_close_seat(seat) == CVEC_DONE);
+    HOLDS(cvec_vector_close(vector) == CVEC_DONE);
+}
+
 /* While the whole vector is changed, which is held in its sync, a wait for a seat has its deadline too. */
 static void seat_within_change(const char *path) {
     pthread_t caller;
@@ -2297,6 +2332,7 @@ int main(int argc, char **argv) {
                       {"renewal_after_commit", renewal_after_commit},
                       {"renewals", renewals},
                       {"seat_within", seat_within},
+                      {"seats_in_line", seats_in_line},
                       {"seat_within_change", seat_within_change},
                       {"pool", pool},
                       {"goes_on_u32", goes_on_u32},
