@@ -973,7 +973,8 @@ static uint32_t fresh_seat(cvec_vector *vector, cvec_vector_seat **taken) {
         free(seat);
     return answer;
 }
-/* The grower of a seat that was closed has what its threads read of the vector, and no more than that is theirs. */
+
+/* With the mutex: a seat that was closed, with its grower, and with nothing else of the thread that had it. */
 static cvec_vector_seat *reused_seat(cvec_vector *vector) {
     cvec_vector_seat *seat = vector->idle;
     vector->idle = seat->next;
@@ -1014,7 +1015,7 @@ uint32_t cvec_vector_take_seat(cvec_vector *vector, cvec_vector_seat **taken) {
     return answer;
 }
 
-/* With the mutex: the last in line is this call. It is none that a close could overtake. */
+/* With the mutex: this call is the last in line. A close would free the vector under it: it is counted. */
 static void begin_line(cvec_vector *vector, struct in_line *mine) {
     struct in_line **last = &vector->line;
     while (*last != NULL) last = &(*last)->next;

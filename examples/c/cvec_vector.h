@@ -69,8 +69,7 @@ uint32_t cvec_vector_close(cvec_vector *vector);
 uint32_t cvec_vector_identity(const cvec_vector *vector, uint64_t *device, uint64_t *file);
 
 /* A seat, for one thread at a time. CVEC_NOT_SO: as many are taken, or waited for, as the vector has. It waits for nothing but a
- * pause: while the whole vector is changed, or growths are about to pass 1,048,568, 2,097,136, .. since the last such change, which
- * settles them all first. */
+ * pause: while another call has the whole vector, or a growth settles all (below). */
 uint32_t cvec_vector_take_seat(cvec_vector *vector, cvec_vector_seat **seat);
 
 /* The same, but it waits so many milliseconds at most for a seat that another thread closes, and for a pause: CVEC_LATE. Who came

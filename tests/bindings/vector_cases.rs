@@ -345,9 +345,10 @@ fn is_full_by_threads(path: &Path) -> Result<(), Error> {
     thread::scope(|scope| {
         let flusher = scope.spawn(|| vector.run_flusher(Duration::from_millis(5)));
         let running: Vec<_> = (0..THREADS).map(|name| scope.spawn(move || run(name))).collect();
-        running.into_iter().try_for_each(|it| it.join().unwrap())?;
+        let grown = running.into_iter().try_for_each(|it| it.join().unwrap());
         vector.stop_flusher()?;
-        flusher.join().unwrap()
+        flusher.join().unwrap()?;
+        grown
     })?;
     let records = vector.seat()?.read(..)?;
     for name in 0..THREADS {

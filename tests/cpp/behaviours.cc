@@ -1327,8 +1327,11 @@ static void renewing_by(const std::string &path, std::uint64_t threads) {
     are_turns_of(numbers(path), 1, threads, each);
 }
 
-static void renewing(const std::string &path) {
-    for (const std::uint64_t threads : {1, 4, 16}) renewing_by(path, threads);
+static void renewing(const std::string &path) { renewing_by(path, 4); }
+
+static void renewing_by_one_and_many(const std::string &path) {
+    renewing_by(path, 1);
+    renewing_by(path, 16);
 }
 
 // Changes come as a phase is about to end.
@@ -1428,6 +1431,7 @@ int main(int argc, char **argv) {
         {"turns", turns},
         {"renewing", renewing},
         {"renewing_elsewhere", renewing_elsewhere},
+        {"renewing_by_one_and_many", renewing_by_one_and_many},
         {"renewing_beside_changes", renewing_beside_changes},
         {"more_threads_than_seats", more_threads_than_seats},
     };

@@ -233,7 +233,7 @@ threads_share_seats_in_cpp() (
 
 # Past the growths that a phase takes, and by more threads than seats.
 growths_have_no_end_in_cpp() (
-    behaves renewing renewing_beside_changes renewing_elsewhere more_threads_than_seats
+    behaves renewing renewing_by_one_and_many renewing_beside_changes renewing_elsewhere more_threads_than_seats
 )
 
 # ---- threads
