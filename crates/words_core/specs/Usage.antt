@@ -3,7 +3,7 @@ use Rattle.std.specs.Prelude.{◌≡◌, ℕ, ◌+◌, List, ◌++◌, length, t
 use Rattle.std.specs.String.{string_bytes}
 use Rattle.text_core.specs.Text.{ended_line}
 use Rattle.words_core.specs.declared.usage.Look.{Look}
-use Rattle.words_core.specs.declared.usage.Look.TheVariants.{Commands, Command, Nearest}
+use Rattle.words_core.specs.declared.usage.Look.TheVariants.{Commands, Command, Nearest, NearestOption}
 use Rattle.words_core.specs.declared.usage.Usage.{Usage}
 use Rattle.words_core.specs.declared.usage.Usage.TheVariants.{Help, Wrong}
 
@@ -17,13 +17,15 @@ usage_line = ended_line (codes "usage: cvec COMMAND TYPE ..")
 abbrev pub command_line : List ℕ → List ℕ
 command_line name = codes "'cvec help " ++ (name ++ ended_line (codes "' tells of it"))
 
-abbrev pub nearest_line : List ℕ → List ℕ
-nearest_line name = codes "'" ++ (name ++ (codes "' may be meant: " ++ command_line name))
+-- this word may be meant, behind its quote and dashes
+abbrev pub meant_line : List ℕ → List ℕ → List ℕ → List ℕ
+meant_line opening word name = opening ++ (word ++ (codes "' may be meant: " ++ command_line name))
 
 abbrev pub look_line : Look → List ℕ
 look_line Commands = ended_line (codes "'cvec help' lists the commands")
 look_line (Command name) = command_line name.now
-look_line (Nearest name) = nearest_line name.now
+look_line (Nearest name) = meant_line (codes "'") name.now name.now
+look_line (NearestOption name option) = meant_line (codes "'--") option.now name.now
 
 abbrev pub help_usage : List ℕ → List ℕ
 help_usage help = ended_line usage_line ++ help

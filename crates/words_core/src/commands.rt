@@ -157,6 +157,26 @@ fn own_words(name: &str) -> &'static [Word] {
     }
 }
 
+/// The name of the word, where it is an option.
+fn option_of(word: Word) -> Option<&'static str> {
+    let Word(name, form) = word;
+    match form {
+        Form::Type | Form::Command | Form::Placed => None,
+        _ => Some(name),
+    }
+}
+
+/// The names of a command's options.
+pub fn options_of(alloc: Global, name: &str) -> Result<Vec<&'static str>, AllocError> {
+    let mut options = Vec::new(alloc);
+    for word in common_words(name).iter().chain(own_words(name).iter()) {
+        if let Some(option) = option_of(*word) {
+            options.push(option)?;
+        }
+    }
+    Ok(options)
+}
+
 /// A word by its place.
 fn placed<'a>(alloc: Global, name: &'a str) -> Arg<'a> {
     Arg::new(alloc, name).action(ArgAction::Set)

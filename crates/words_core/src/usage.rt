@@ -3,7 +3,7 @@
 ghost use Rattle.std.specs.Prelude.{OnOk};
 ghost use Rattle.std.specs.Io.KnownBytes.{Appends};
 ghost use Rattle.text_core.specs.Text.{ended_line};
-ghost use Rattle.words_core.specs.Usage.{command_line, help_usage, look_line, nearest_line, usage_text, wrong_usage};
+ghost use Rattle.words_core.specs.Usage.{command_line, help_usage, look_line, meant_line, usage_text, wrong_usage};
 
 use std::io;
 use std::io::Write;
@@ -17,6 +17,8 @@ pub enum Look {
     Command(&'static str),
     /// The same, for this one may be meant.
     Nearest(&'static str),
+    /// What is told of the first one, whose option of the second name may be meant.
+    NearestOption(&'static str, &'static str),
 }
 
 /// What is told of words that ask for nothing.
@@ -45,12 +47,17 @@ fn write_command<W: Write>(writer: &mut W, name: &str) -> io::Result<()>
     writer.write_all(b"' tells of it\n")
 }
 
-/// Writes that this command may be meant, and where what is told of it stands.
-fn write_nearest<W: Write>(writer: &mut W, name: &str) -> io::Result<()>
-    ensures { OnOk result (Appends (W.contents writer.old) (W.contents writer.new) (nearest_line name.now)) }
+/// Writes that this word may be meant, behind its quote and dashes, and where what is told of the command stands.
+fn write_meant<W: Write>(
+    writer: &mut W,
+    opening: &str,
+    word: &str,
+    name: &str,
+) -> io::Result<()>
+    ensures { OnOk result (Appends (W.contents writer.old) (W.contents writer.new) (meant_line opening.now word.now name.now)) }
 {
-    writer.write_all(b"'")?;
-    writer.write_all(name.as_bytes())?;
+    writer.write_all(opening.as_bytes())?;
+    writer.write_all(word.as_bytes())?;
     writer.write_all(b"' may be meant: ")?;
     write_command(writer, name)
 }
@@ -62,7 +69,8 @@ fn write_look<W: Write>(writer: &mut W, look: Look) -> io::Result<()>
     match look {
         Look::Commands => writer.write_all(b"'cvec help' lists the commands\n"),
         Look::Command(name) => write_command(writer, name),
-        Look::Nearest(name) => write_nearest(writer, name),
+        Look::Nearest(name) => write_meant(writer, "'", name, name),
+        Look::NearestOption(name, option) => write_meant(writer, "'--", option, name),
     }
 }
 

@@ -4,7 +4,7 @@ ghost use Rattle.std.specs.Prelude.{◌≡◌, ◌≤◌, length, nat_eq, IfOk, 
 ghost use Rattle.std.specs.Str.{chars};
 ghost use Rattle.strsim.specs.Edits.{levenshtein_row};
 
-use crate::commands::COMMANDS;
+use crate::commands::{COMMANDS, options_of};
 use crate::help::{HELP, help_of};
 use crate::usage::{Look, Usage};
 use crate::words::{WordsFault, matches_of, read_words};
@@ -13,8 +13,8 @@ use std::alloc::{AllocError, Global};
 use std::convert::AsStr;
 use strsim::levenshtein;
 
-/// The bytes of a word that may be a command with two edits at most.
-const NEAR_LEN: usize = 9;
+/// The bytes of a word that may be a command or an option with two edits at most.
+const NEAR_LEN: usize = 10;
 
 /// The error's own words, without the usage behind them. `None`: it is a request for help.
 fn sentence_of(alloc: Global, error: &Error) -> Result<Option<String>, AllocError> {
@@ -67,16 +67,17 @@ fn command_named(word: &str) -> Option<&'static str>
     None
 }
 
-/// The first command that so many edits make of the word.
-fn command_within(
+/// The first of the names that so many edits make of the word.
+fn name_within(
     alloc: Global,
     word: &str,
+    names: &[&'static str],
     edits: usize,
 ) -> Result<Option<&'static str>, AllocError>
     ensures { IfOk result (λ found. IfSome found (λ name.
         levenshtein_row nat_eq (chars word.now) (chars name.now) (length (chars name.now)) ≤ edits)) }
 {
-    for name in COMMANDS.iter() {
+    for name in names {
         if levenshtein(alloc, word, *name)? <= edits {
             return Ok(Some(*name));
         }
@@ -84,17 +85,58 @@ fn command_within(
     Ok(None)
 }
 
-/// The command that is nearest to the word, by two edits at most.
-fn nearest_command(alloc: Global, word: &str) -> Result<Option<&'static str>, AllocError>
+/// The name that is nearest to the word, by two edits at most.
+fn nearest_of(
+    alloc: Global,
+    word: &str,
+    names: &[&'static str],
+) -> Result<Option<&'static str>, AllocError>
     ensures { IfOk result (λ found. IfSome found (λ name.
         levenshtein_row nat_eq (chars word.now) (chars name.now) (length (chars name.now)) ≤ 2)) }
 {
     if word.len() > NEAR_LEN {
         return Ok(None);
     }
-    match command_within(alloc, word, 1)? {
+    match name_within(alloc, word, names, 1)? {
         Some(name) => Ok(Some(name)),
-        None => command_within(alloc, word, 2),
+        None => name_within(alloc, word, names, 2),
+    }
+}
+
+/// The name of the option that a word gives: without its dashes, and the value behind it.
+fn option_name(word: &str) -> Option<&str> {
+    let name = word.strip_prefix("--")?;
+    match name.split_once("=") {
+        Some((name, _)) => Some(name),
+        None => Some(name),
+    }
+}
+
+/// The first option that is given, and is none of these.
+fn wrong_option<'a, S: AsStr>(words: &'a [S], options: &[&'static str]) -> Option<&'a str> {
+    for word in words {
+        if let Some(name) = option_name(word.as_str()) {
+            if !options.iter().any(|option| *option == name) {
+                return Some(name);
+            }
+        }
+    }
+    None
+}
+
+/// Where to read on about wrong words of a command, and which of its options may be meant.
+fn look_of_command<S: AsStr>(
+    alloc: Global,
+    name: &'static str,
+    words: &[S],
+) -> Result<Look, AllocError> {
+    let options = options_of(alloc, name)?;
+    let Some(word) = wrong_option(words, options.as_slice()) else {
+        return Ok(Look::Command(name));
+    };
+    match nearest_of(alloc, word, options.as_slice())? {
+        Some(option) => Ok(Look::NearestOption(name, option)),
+        None => Ok(Look::Command(name)),
     }
 }
 
@@ -104,9 +146,9 @@ fn look_of<S: AsStr>(alloc: Global, words: &[S]) -> Result<Look, AllocError> {
         return Ok(Look::Commands);
     };
     if let Some(name) = command_named(word) {
-        return Ok(Look::Command(name));
+        return look_of_command(alloc, name, words);
     }
-    match nearest_command(alloc, word)? {
+    match nearest_of(alloc, word, COMMANDS.as_slice())? {
         Some(name) => Ok(Look::Nearest(name)),
         None => Ok(Look::Commands),
     }
