@@ -85,7 +85,8 @@ uint32_t cvec_vector_close_seat(cvec_vector_seat *seat);
  * or none. Others read them from then on; durable they are once they are awaited. receipt may be NULL.
  *
  * Once in 1,048,568 growths it settles all that was grown, and begins a new phase, while other calls wait: so it may answer what
- * a commit does. Refused for memory, it may be made again; until then calls by other seats may be refused so too. */
+ * a commit does. Refused for memory, it may be made again; until then calls by other seats may be refused so too. Where the library
+ * lacks memory even to keep what it has, the vector is CVEC_BROKEN from then on, and the file has all. */
 uint32_t cvec_vector_grow_records(cvec_vector_seat *seat, const void *records, size_t count, cvec_receipt *receipt);
 
 /* Puts a copy of one record into a buffer of the seat, where it waits. The 1,024th there grows the vector by all of them, as
@@ -137,8 +138,7 @@ uint32_t cvec_vector_read_records(cvec_vector_seat *seat, uint64_t from, void *o
 uint32_t cvec_vector_at(cvec_vector_seat *seat, uint64_t position, void *record);
 
 /* Of the whole vector, while no seat is taken, else CVEC_BUSY. What they do is durable when they return. CVEC_MEMORY and
- * CVEC_FILE_FULL: the same call may be made again. Where memory for the vault itself is refused, the vector is CVEC_BROKEN from then
- * on, and the file has all.
+ * CVEC_FILE_FULL: the same call may be made again.
  *
  * Writes the records over those from position `start` on, as one frame. */
 uint32_t cvec_vector_change_records(cvec_vector *vector, uint64_t start, const void *records, size_t count);

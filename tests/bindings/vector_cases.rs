@@ -447,7 +447,7 @@ fn is_changed(path: &Path) -> Result<(), Error> {
     vector.close()
 }
 
-/// A resize that C refuses before it has begun (refused.c): growths are counted on.
+/// A resize that C refuses before it has changed anything (refused.c): what was grown is settled, and growths are counted on.
 fn is_refused(path: &Path) -> Result<(), Error> {
     let mut vector = Vector::create(path, 2)?;
     let first = vector.seat()?.grow(&[5, 7])?;
