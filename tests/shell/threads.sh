@@ -275,7 +275,7 @@ threads_of_c_that_are_killed_as_a_phase_ends_lose_nothing_settled() (
 )
 
 a_phase_of_c_that_ends_beside_calls_refuses_none() (
-    for behaviour in renewal_waits renewal_after_commit renewals; do
+    for behaviour in renewal_waits renewal_after_commit renewal_after_call renewals; do
         rm -f "$work/t.cv"
         a_behaviour_of_a_vector_in_c $behaviour
     done

@@ -2057,6 +2057,31 @@ static void renewal_after_commit(const char *path) {
     leaves_positions(path, 6);
 }
 
+static int is_held(void) {
+    pthread_mutex_lock(&vector->mutex);
+    const int held_now = vector->held;
+    pthread_mutex_unlock(&vector->mutex);
+    return held_now;
+}
+
+/* And for a call that is inside by another seat: it commits nothing before that has ended. */
+static void renewal_after_call(const char *path) {
+    pthread_t grower;
+    uint32_t answer = CVEC_BUSY;
+    make_renewing(path, 5);
+    __atomic_store_n(&beside->busy, INSIDE, __ATOMIC_SEQ_CST); /* as a call leaves it that goes on */
+    const int before = __atomic_load_n(&writes, __ATOMIC_SEQ_CST);
+    pthread_create(&grower, NULL, run_grow, &answer);
+    while (!is_held()) nap();
+    for (int k = 0; k < 50; k++) nap();
+    HOLDS(is_held() && __atomic_load_n(&writes, __ATOMIC_SEQ_CST) == before);
+    __atomic_store_n(&beside->busy, FREE, __ATOMIC_SEQ_CST);
+    pthread_join(grower, NULL);
+    HOLDS(answer == CVEC_DONE && settled() == 5 && cvec_vector_close_seat(beside) == CVEC_DONE);
+    phase_limit = 0;
+    leaves_positions(path, 6);
+}
+
 /* Threads that grow, push, await and read, take and close seats, and ask for the whole vector, where each phase has 50 growths. */
 enum { RENEWERS = 12, TURNS = 3000 };
 static uint64_t name_of_next;
@@ -2330,6 +2355,7 @@ int main(int argc, char **argv) {
                       {"renewal_is_killed", renewal_is_killed},
                       {"renewal_waits", renewal_waits},
                       {"renewal_after_commit", renewal_after_commit},
+                      {"renewal_after_call", renewal_after_call},
                       {"renewals", renewals},
                       {"seat_within", seat_within},
                       {"seats_in_line", seats_in_line},
