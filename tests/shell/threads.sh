@@ -205,9 +205,9 @@ memory_that_a_vector_in_c_is_refused_loses_nothing() (
 opening_in_c_holds_the_bytes_of_a_file_once() (
     make_threads
     compile_threads "$top/tests/threads/opening.c" "$c/cvec_vector.c" -o "$work/opening"
-    seq 0 7999999 >"$work/records"
+    seq 0 7999999 >"$in"
     run create u64 "$work/t.cv"
-    run append u64 "$work/t.cv" --block=131071 <"$work/records"
+    run append u64 "$work/t.cv" --block=131071
     [ "$status" -eq 0 ]
     "$work/opening" "$work/t.cv" 8000000 >"$out"
     read -r most stays <"$out"
