@@ -1,6 +1,6 @@
 # The pages of README.md and docs.
 
-# ---- the pages: no sentence above 40 words, no link that leads nowhere, no page above its size
+# ---- the pages: no sentence above 40 words, no link that leads nowhere, no page above its size, each call in its table
 
 the_pages_can_be_read() (
     has python3 'the pages' || exit "$is_skipped"
@@ -30,13 +30,13 @@ sentence_of() { echo "$(yes word | head -n "$1" | paste -sd ' ')."; }
 pages_that_are_right_pass() (
     seeming_pages '# Here' "$(sentence_of 40)" "\`$(sentence_of 50)\` is one word." '```' "$(sentence_of 50)" '[no](link)' '```' \
         "| $(sentence_of 50) |" '[a](../other.md) [b](../other.md#what-it-holds) [c](#here) [d](https://example.org/#none)'
-    answers 0 '14 passed, 0 failed\n'
+    answers 0 '15 passed, 0 failed\n'
 )
 
 # The line is all that is found.
 finds() {
     [ "$status" -eq 1 ]
-    printf '%s\n' "$1" '13 passed, 1 failed' | cmp - "$out"
+    printf '%s\n' "$1" '14 passed, 1 failed' | cmp - "$out"
 }
 
 what_is_wrong_with_a_page_is_found() (
@@ -53,4 +53,49 @@ what_is_wrong_with_a_page_is_found() (
     status=0
     "$there/tests/pages" >"$out" || status=$?
     finds 'README.md: 9309 bytes, at most 9216'
+)
+
+# Of a crate that gives on a type and a function, whose calls are named in a table and below it.
+calls_that_the_table_lacks_are_found() (
+    seeming_pages Text.
+    mkdir -p "$there/docs/use" "$there/crates/concurrent_vector/src" "$there/crates/low/src"
+    echo 'pub use low::{Thing, make};' >"$there/crates/concurrent_vector/src/lib.rt"
+    cat >"$there/crates/low/src/thing.rt" <<'RATTLE'
+impl<R: Record> Thing<R> {
+    /// A part.
+    pub fn part<E: Wait>(
+        &self,
+        rt: &E,
+    ) -> u64
+        requires { 0 < 1 }
+    {
+        self.len()
+    }
+
+    pub fn len(&self) -> u64 {
+        0
+    }
+
+    fn own(&self) {}
+}
+
+impl<R: Record> Record for Thing<R> {
+    pub fn put(&self) {}
+}
+
+impl Other {
+    pub fn other(&self) {}
+}
+
+pub fn make(n: u64) -> Thing {
+    Thing
+}
+RATTLE
+    printf '%s\n' '## Who may call what' '' '| `len()`, part |' '' '### Next' '' '`part(), make(n)`' >"$there/docs/use/guide.md"
+    status=0
+    "$there/tests/pages" >"$out" || status=$?
+    [ "$status" -eq 1 ]
+    printf 'docs/use/guide.md: no call: %s\n' 'part, of Thing' 'make, of a function' >"$work/wanted"
+    echo '16 passed, 1 failed' >>"$work/wanted"
+    cmp "$work/wanted" "$out"
 )
