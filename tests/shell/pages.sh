@@ -99,3 +99,28 @@ RATTLE
     echo '16 passed, 1 failed' >>"$work/wanted"
     cmp "$work/wanted" "$out"
 )
+
+# ---- a block that is a part of a file
+
+# Runs the blocks of a page, whose lines are given, beside a file of three lines.
+blocks_beside_a_file() {
+    seeming_pages "$@"
+    mkdir -p "$there/tests/shell"
+    cp "$top/tests/blocks" "$there/tests"
+    printf '    one\n      two\n    three\n' >"$there/code"
+    status=0
+    "$there/tests/blocks" docs/deep/page.md >"$out" 2>"$err" || status=$?
+    cat "$out" "$err"
+}
+
+a_block_that_stands_in_a_file_is_a_part_of_it() (
+    blocks_beside_a_file '<!-- stands in: code -->' '```c' one '  two' '```'
+    answers 0 '1 passed, 0 failed\n'
+    for lines in 'one two' 'one   three' 'two   three' 'ne   two'; do
+        # shellcheck disable=SC2086 # each word is a line, and blanks before it are lost
+        blocks_beside_a_file '<!-- stands in: code -->' '```c' $lines '```'
+        [ "$status" -eq 1 ]
+        [ "$(head -n 1 "$out")" = 'FAILED: docs/deep/page.md:2' ]
+        [ "$(tail -n 1 "$out")" = '0 passed, 1 failed' ]
+    done
+)

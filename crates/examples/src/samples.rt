@@ -1,19 +1,25 @@
 //! A store of samples in a file: threads append batches to it, each once the one before is durable, and read the newest
-//! samples meanwhile. Started again, also after it was killed, it goes on behind what stands. A further word is the file.
+//! samples meanwhile. At the end the seats and the flusher come back, and are the store again. Started again, also after it was
+//! killed, the program goes on behind what stands. A further word is the file.
 
+ghost use Rattle.std.specs.Prelude.{All, IfOk};
 ghost use Rattle.concurrent_vector.specs.Lists.{IsSeatOf};
 ghost use Rattle.concurrent_vector.specs.Beginning.{AreNewSeats};
 ghost use Rattle.concurrent_vector.specs.Flusher.{IsFlusherOf};
+ghost use Rattle.concurrent_vector.specs.Gathering.{AreOfPhase};
 
 use concurrent_vector::{
     Disk, Fault, FileDisk, Flusher, Format, GROWTH_LIMIT, Live, OpenFault, Pair, ScanFault, Seat,
-    Vault,
+    Vault, gather,
 };
 use std::alloc::{AllocGlobal, Global};
 use std::fs::File;
 use std::rt::Files;
-use std::sync::Wait;
-use std::thread::Threads;
+use std::snapshot::Snapshot;
+use std::sync::atomic::AtomicU64;
+use std::sync::atomic::Ordering::SeqCst;
+use std::sync::{OnceLock, Wait};
+use std::thread::{Promise, Threads};
 use std::{io, thread};
 
 /// How many sensors there are, how many batches each appends, and how many samples are one batch.
@@ -27,81 +33,108 @@ const BATCH: u64 = 50;
 const WINDOW: u64 = 200;
 
 /// Appends a sensor's batches, each once the one before is durable, and looks at the newest samples behind each, while the
-/// others append. How many of its batches stood among whole ones: all, for a growth is there whole or not at all.
-fn sense<E: Wait>(rt: &E, live: &Live<Pair>, seat: Seat<Pair>) -> Result<u64, Fault>
-    requires { IsSeatOf live.now seat }
+/// others append. Counts those of its batches that stood among whole ones: all, for a growth is there whole or not at all.
+fn sense<E: Wait>(
+    rt: &E,
+    live: &Live<Pair>,
+    seat: &mut Seat<Pair>,
+    whole: &AtomicU64,
+) -> Result<(), Fault>
+    requires { IsSeatOf live.now seat.old }
+    ensures { IsSeatOf live.now seat.new }
 {
-    let mut seat = seat;
     let key = seat.id() as u64;
-    let mut whole: u64 = 0;
     for batch in 0..BATCHES {
         let value = batch as i64;
-        let receipt = live.grow_by(rt, &mut seat, BATCH, Pair { key, value })?;
-        live.await_receipt(rt, &mut seat, &receipt)?;
-        live.look(&mut seat)?;
-        let store = live.snapshot(&mut seat)?;
+        let receipt = live.grow_by(rt, seat, BATCH, Pair { key, value })?;
+        live.await_receipt(rt, seat, &receipt)?;
+        live.look(seat)?;
+        let store = live.snapshot(seat)?;
         let newest = store.len().saturating_sub(WINDOW)..store.len();
         let is_mine = |i: &u64| store.get(*i).is_some_and(|sample| sample.key == key);
         if newest.filter(is_mine).count() as u64 % BATCH == 0 {
-            whole = whole.saturating_add(1);
+            whole.fetch_add(1, SeqCst);
         }
     }
-    Ok(whole)
+    Ok(())
 }
 
-/// A thread for each seat, and then the flusher may end. How many batches are durable, and stood among whole ones.
+/// A thread for each seat, and then the flusher may end. The seats come back, unless one of the sensors was refused.
 fn work<E: Threads + Wait + Sync>(
     rt: &E,
     live: &Live<Pair>,
     seats: Vec<Seat<Pair>>,
-) -> Result<u64, Fault>
+    whole: &AtomicU64,
+) -> Result<Vec<Seat<Pair>>, Fault>
     requires { AreNewSeats live.now.directory live.now.mark seats.items }
+    ensures { IfOk result (λ back. All (IsSeatOf live.now) back.items) }
 {
-    let worked = thread::map_vec(
+    let mut seats = seats;
+    let refused = OnceLock::new();
+    thread::for_each_mut(
         rt,
-        seats,
-        &|seat: Seat<Pair>| -> Result<u64, Fault>
-            requires { IsSeatOf live.now seat }
-        { sense(rt, live, seat) },
+        seats.as_mut_slice(),
+        SENSORS as usize,
+        &|_, seat: &mut Seat<Pair>|
+            requires { IsSeatOf live.now seat.old }
+            ensures { IsSeatOf live.entry.now seat.new }
+        {
+            if let Err(fault) = sense(rt, live, seat, whole) {
+                let _ = refused.set(rt, fault);
+            }
+        },
     );
     live.close(rt);
-    let mut whole: u64 = 0;
-    for one in worked? {
-        whole = whole.saturating_add(one?);
-    }
-    Ok(whole)
+    refused.into_inner().map_or(Ok(seats), Err)
+}
+
+/// What is promised of seats that come back from a thread: they are of the `Live` that they were used with.
+#[derive(Drop)]
+struct ComeBack(Snapshot<Live<Pair>>);
+
+impl Promise<Result<Vec<Seat<Pair>>, Fault>> for ComeBack {
+    ghost use Rattle.std.specs.Prelude.{All, IfOk};
+    ghost use Rattle.concurrent_vector.specs.Lists.{IsSeatOf};
+
+    ghost kept_by = { λ promise result. IfOk result (λ seats. All (IsSeatOf promise.0.value) seats.items) };
 }
 
 /// Lets the sensors work, and commits what they append in this thread, which runs already: no sensor waits for a thread
-/// that the system may refuse. How many batches are durable, and stood among whole ones.
+/// that the system may refuse. Then all parts of the phase are back.
 fn serve<E: Threads + Wait + Sync, D: Disk + Drop>(
     rt: &E,
     live: &Live<Pair>,
     flusher: Flusher<Pair, D>,
     seats: Vec<Seat<Pair>>,
-) -> Result<u64, Fault>
+    whole: &AtomicU64,
+) -> Result<(Vec<Seat<Pair>>, Flusher<Pair, D>), Fault>
     requires flusher { IsFlusherOf (D.keeps flusher.pen.disk) live.now flusher }
     requires seats { AreNewSeats live.now.directory live.now.mark seats.items }
+    ensures { IfOk result (λ back. AreOfPhase (D.keeps back.1.pen.disk) live.now back.0.items back.1) }
 {
     thread::scope(
         thread::scope_env(),
         rt,
-        move |scope| -> Result<u64, Fault>
+        move |scope| -> Result<(Vec<Seat<Pair>>, Flusher<Pair, D>), Fault>
             requires { IsFlusherOf (D.keeps flusher.pen.disk) live.now flusher × AreNewSeats live.now.directory live.now.mark seats.items }
+            ensures { IfOk result (λ back. AreOfPhase (D.keeps back.1.pen.disk) live.entry.now back.0.items back.1) }
         {
             let mut flusher = flusher;
-            let working = scope.spawn(
-                move || -> Result<u64, Fault>
+            let working = scope.spawn_with(
+                ComeBack(Snapshot::of(live)),
+                move || -> Result<Vec<Seat<Pair>>, Fault>
                     requires { AreNewSeats live.now.directory live.now.mark seats.items }
-                { work(rt, live, seats) },
+                    ensures { IfOk result (λ seats. All (IsSeatOf live.entry.now) seats.items) }
+                { work(rt, live, seats, whole) },
             )?;
             flusher.serve(rt, live)?;
-            working.join(rt)
+            Ok((working.join(rt)?, flusher))
         },
     )
 }
 
-/// Opens the store, appends to it and reads it. How many samples were there, and how many batches are new.
+/// Opens the store, appends to it, and has it back. How many samples were there, and how many batches are new in it, of which
+/// each stood among whole ones.
 fn grow<E: Threads + Wait + Sync, D: Disk + Drop>(
     rt: &E,
     alloc: Global,
@@ -109,9 +142,12 @@ fn grow<E: Threads + Wait + Sync, D: Disk + Drop>(
 ) -> Result<(u64, u64), Fault> {
     let store = open(alloc, disk)?;
     let before = store.len();
+    let whole = AtomicU64::new(0);
     let (live, flusher, seats) = store.share(GROWTH_LIMIT, SENSORS)?;
-    let new = serve(rt, &live, flusher, seats)?;
-    Ok((before, new))
+    let (seats, flusher) = serve(rt, &live, flusher, seats, &whole)?;
+    let store = gather(alloc, live, seats, flusher)?;
+    let new = store.len().saturating_sub(before) / BATCH;
+    Ok((before, new.min(whole.load(SeqCst))))
 }
 
 /// The store in the file, a new one where there is none.
