@@ -1,14 +1,20 @@
-// Works of the bench by threads of one C++ process on `cvec::concurrent_vector`. cvec_speed has the others.
+// Works of the bench by threads of one C++ process on `cvec::concurrent_vector`.
 //
 //     native WORK name=value ..
 //
-// One flat line of JSON is written for each figure. What was grown is compared before: number and sum of the records.
-// Status 1: standard error says why there is no figure. 3: no such work, or a size is missing, or 0 of threads or a block.
+// One flat line of JSON is written for each figure. What was grown and what was read is compared before: number and sum of the
+// records. Status 1: standard error says why there is no figure. 3: no such work, or a size is missing, or 0 of threads or a
+// block, or there would be more growths than an open vector takes.
 //
 //     grow threads= block= n=                             each thread grows by copies of a ready block of its own
 //     append threads= block= n=                           single records, each through an appender of a block
+//     beside threads= block= preload= n= cap_ms=          threads sum a vector again and again while one more grows it
+//     read block= n= draws=                               a sum by iterators; by `[]` at random, and each where the last one says
+//     memory block= n=                                    what memory one thread's growths take
 //     durable dir= mode= threads= block= n= box_ms=       wait1, wait64: each waits after 1 or 64 blocks; flow: nobody waits
 //                                                         before the end, and one more thread commits meanwhile
+//     open-build dir= block= n=                           a vector's file is left in the folder
+//     open-read dir= n= work=                             it is opened; work names the figure
 //
 // Each vector has a file: in the folder, or among the temporary files. That what was grown reaches it is timed by `durable`.
 #include "cvec/concurrent_vector.hpp"
@@ -21,6 +27,7 @@
 #include <cstdlib>
 #include <exception>
 #include <filesystem>
+#include <fstream>
 #include <map>
 #include <numeric>
 #include <stdexcept>
@@ -35,6 +42,9 @@ namespace {
 using u64 = std::uint64_t;
 using Clock = std::chrono::steady_clock;
 using Vector = cvec::concurrent_vector<u64>;
+
+// An open vector takes so many growths, and is opened again behind them.
+constexpr u64 most_growths = 1048568;
 
 std::map<std::string, std::string> words;
 
@@ -51,6 +61,34 @@ u64 some(const std::string &name) {
     u64 found = number(name);
     if (found == 0) throw std::invalid_argument("a size is 0: " + name);
     return found;
+}
+
+// So many records by growths of a block, without an opening in their midst.
+u64 growths_of(u64 records, u64 block) {
+    u64 growths = (records + block - 1) / block;
+    if (growths > most_growths) throw std::invalid_argument("more growths than an open vector takes");
+    return growths;
+}
+
+// ---- numbers without a pattern, the same in each run
+
+// For each number another one (splitmix64).
+u64 mix(u64 number) {
+    number += 0x9e3779b97f4a7c15;
+    number = (number ^ number >> 30) * 0xbf58476d1ce4e5b9;
+    number = (number ^ number >> 27) * 0x94d049bb133111eb;
+    return number ^ number >> 31;
+}
+
+__extension__ using Wide = unsigned __int128;
+
+// A place below `end` for a number of mix.
+u64 below(u64 number, u64 end) { return u64(Wide(number) * end >> 64); }
+
+u64 sum_of_mixed(u64 count) {
+    u64 sum = 0;
+    for (u64 place = 0; place < count; place++) sum += mix(place);
+    return sum;
 }
 
 // Records without a pattern, unlike those of another thread.
@@ -70,6 +108,17 @@ u64 sum_of(const u64 *records, std::size_t count) {
     return sum;
 }
 
+// ---- a vector, and threads
+
+void require(bool holds, const char *what) {
+    if (!holds) throw std::runtime_error(what);
+}
+
+void expect(const Vector &vector, u64 count, u64 sum) {
+    u64 length = vector.size(), found = std::accumulate(vector.begin(), vector.end(), u64(0));
+    require(length == count && found == sum, "the vector hasn't what was grown");
+}
+
 // A new file in the folder, which goes with it.
 class Made {
   public:
@@ -87,8 +136,7 @@ class Made {
 
     // And closes it: what was grown is a figure only where the file takes it.
     void compare(u64 count, u64 sum) {
-        u64 length = vector_.size(), found = std::accumulate(vector_.begin(), vector_.end(), u64(0));
-        if (length != count || found != sum) throw std::runtime_error("the vector hasn't what was grown");
+        expect(vector_, count, sum);
         vector_.close();
     }
 
@@ -137,12 +185,21 @@ double race(unsigned threads, Work work, End end) {
     return std::chrono::duration<double>(last - first).count();
 }
 
-void tell(const char *work, u64 threads, u64 n, double seconds, const std::string &rest = "") {
-    std::printf("{\"work\":\"%s\",\"threads\":%llu,\"n\":%llu,\"seconds\":%.9f%s}\n", work, (unsigned long long)threads,
-                (unsigned long long)n, seconds, rest.c_str());
+double seconds_since(Clock::time_point begun) { return std::chrono::duration<double>(Clock::now() - begun).count(); }
+
+// The lines of a work's figures, which are printed where all of it was right.
+std::string figures;
+
+void tell(const std::string &work, u64 threads, u64 n, double seconds, const std::string &rest = "") {
+    char times[80];
+    std::snprintf(times, sizeof times, "\"threads\":%llu,\"n\":%llu,\"seconds\":%.9f", (unsigned long long)threads,
+                  (unsigned long long)n, seconds);
+    figures += "{\"work\":\"" + work + "\"," + times + rest + "}\n";
 }
 
 bool nothing() { return false; }
+
+// ---- growth
 
 void grow() {
     unsigned threads = unsigned(some("threads"));
@@ -174,6 +231,169 @@ void append() {
     made.compare(each * threads, sum);
     tell("append", threads, each * threads, seconds);
 }
+
+// ---- reading
+
+// What the threads of `beside` share. The time is over for all of them at once.
+class Course {
+  public:
+    Course(Vector &vector, u64 block) : vector_(vector), ready_(block_of(0, block)), block_(block) {
+        sum_of_block_ = sum_of(ready_.data(), block);
+    }
+
+    void grow(u64 growths) {
+        for (u64 k = 0; k < growths; k++) grow_once();
+    }
+
+    // As many growths as there are in the time. The clock is looked at now and then.
+    void grow_within(u64 growths, std::chrono::milliseconds most) {
+        auto begun = Clock::now();
+        for (u64 k = 0; k < growths && (k % 16 != 1 || Clock::now() - begun < most); k++) grow_once();
+        seconds = seconds_since(begun);
+        ended_.store(true);
+    }
+
+    // Sums all that there is, again and again.
+    void sum_until_end(std::chrono::milliseconds most) {
+        u64 records = 0;
+        for (auto begun = Clock::now(); !ended_.load() && Clock::now() - begun < most;) records += sum_once();
+        summed += records;
+    }
+
+    void compare(Made &made) const { made.compare(grown * block_, grown * sum_of_block_); }
+
+    u64 grown = 0;
+    double seconds = 0; // of the growths in the time
+    std::atomic<u64> summed{0};
+
+  private:
+    void grow_once() {
+        vector_.append(ready_.begin(), ready_.end());
+        grown++;
+    }
+
+    u64 sum_once() const {
+        auto end = vector_.end();
+        u64 found = std::accumulate(vector_.begin(), end, u64(0)), length = end.position();
+        require(length % block_ == 0 && found == length / block_ * sum_of_block_, "a reader hasn't whole growths");
+        return length;
+    }
+
+    Vector &vector_;
+    const std::vector<u64> ready_;
+    const u64 block_;
+    u64 sum_of_block_;
+    std::atomic<bool> ended_{false};
+};
+
+void beside() {
+    unsigned readers = unsigned(some("threads"));
+    u64 block = some("block"), before = number("preload") / block, growths = number("n") / block;
+    growths_of((before + growths) * block, block);
+    auto most = std::chrono::milliseconds(number("cap_ms"));
+    Made made(readers);
+    Course course(made.vector(), block);
+    course.grow(before);
+    double seconds = race(readers + 1, [&](unsigned thread) {
+        if (thread == 0) course.grow_within(growths, most);
+        else course.sum_until_end(most);
+    }, nothing);
+    course.compare(made);
+    tell("beside.grow", readers, (course.grown - before) * block, course.seconds);
+    tell("beside.sum", readers, course.summed, seconds);
+}
+
+// Growths whose record at a place is `mix` of it.
+void fill(Vector &vector, u64 block, u64 n) {
+    u64 growths = growths_of(n, block);
+    std::vector<u64> records;
+    for (u64 k = 0; k < growths; k++) {
+        records.clear();
+        for (u64 place = k * block; place < std::min(n, (k + 1) * block); place++) records.push_back(mix(place));
+        vector.append(records.begin(), records.end());
+    }
+}
+
+void read_in_order(const Vector &vector, u64 n) {
+    auto begun = Clock::now();
+    u64 sum = std::accumulate(vector.begin(), vector.end(), u64(0));
+    double seconds = seconds_since(begun);
+    require(sum == sum_of_mixed(n), "wrong records in order");
+    tell("read.seq", 1, n, seconds);
+}
+
+// The sum of as many records, each as `get` finds it.
+template <class Get>
+u64 sum_at_random(u64 first, u64 n, u64 draws, Get get) {
+    u64 sum = 0;
+    for (u64 k = 0; k < draws; k++) sum += get(below(mix(first + k), n));
+    return sum;
+}
+
+void read_at_random(const Vector &vector, unsigned threads, u64 n, u64 draws) {
+    std::vector<u64> sums(threads);
+    double seconds = race(threads, [&](unsigned thread) {
+        sums[thread] = sum_at_random(u64(thread) << 32, n, draws, [&](u64 place) { return vector[place]; });
+    }, nothing);
+    for (u64 thread = 0; thread < threads; thread++)
+        require(sums[thread] == sum_at_random(thread << 32, n, draws, mix), "wrong records at random");
+    tell("read.random", threads, draws * threads, seconds);
+}
+
+template <class Get>
+u64 last_of_row(u64 n, u64 reads, Get get) {
+    u64 last = 1;
+    for (u64 k = 0; k < reads; k++) last = get(below(mix(last ^ k), n));
+    return last;
+}
+
+// Each at a place that the record before it gives.
+void read_in_a_row(const Vector &vector, u64 n, u64 reads) {
+    auto begun = Clock::now();
+    u64 last = last_of_row(n, reads, [&](u64 place) { return vector[place]; });
+    double seconds = seconds_since(begun);
+    require(last == last_of_row(n, reads, mix), "a wrong record in a row");
+    tell("read.random-dependent", 1, reads, seconds);
+}
+
+void read() {
+    u64 block = some("block"), n = some("n"), draws = number("draws");
+    Made made(4);
+    fill(made.vector(), block, n);
+    read_in_order(made.vector(), n);
+    for (unsigned threads : {1, 2, 4}) read_at_random(made.vector(), threads, n, draws);
+    read_in_a_row(made.vector(), n, draws / 4);
+    made.compare(n, sum_of_mixed(n));
+}
+
+// ---- memory
+
+// What the system tells of this process.
+double status_bytes(const std::string &name) {
+    std::ifstream status("/proc/self/status");
+    for (std::string line; std::getline(status, line);)
+        if (line.compare(0, name.size(), name) == 0) return 1024 * std::strtod(line.c_str() + name.size() + 1, nullptr);
+    throw std::runtime_error("the system tells no " + name);
+}
+
+void memory() {
+    u64 block = some("block"), growths = number("n") / block, records = growths * block;
+    growths_of(records, block);
+    std::vector<u64> ready = block_of(0, block);
+    Made made(1);
+    double before = status_bytes("RssAnon");
+    auto begun = Clock::now();
+    for (u64 k = 0; k < growths; k++) made.vector().append(ready.begin(), ready.end());
+    double seconds = seconds_since(begun), after = status_bytes("RssAnon");
+    double highest = status_bytes("VmHWM") - status_bytes("RssFile") - status_bytes("RssShmem");
+    made.compare(records, growths * sum_of(ready.data(), block));
+    char rest[120];
+    std::snprintf(rest, sizeof rest, ",\"bytes_per_record\":%.4f,\"peak_bytes_per_record\":%.4f",
+                  (after - before) / double(records), (highest - before) / double(records));
+    tell("memory", 1, records, seconds, rest);
+}
+
+// ---- files
 
 // A thread that commits again and again while this lives, or none.
 class Committer {
@@ -222,7 +442,7 @@ void durable() {
         for (u64 k = 0; k < batch; k++) last = vector.append(ready[thread].begin(), ready[thread].end());
         vector.settle(last);
         did[thread] += batch;
-        rounds[thread].push_back(std::chrono::duration<double>(Clock::now() - begun).count());
+        rounds[thread].push_back(seconds_since(begun));
     };
     double seconds = race(threads, [&](unsigned thread) {
         if (waits) {
@@ -247,13 +467,40 @@ void durable() {
     if (waits)
         std::snprintf(rest, sizeof rest, ",\"p10_us\":%.1f,\"p50_us\":%.1f,\"p99_us\":%.1f", micros_at(all, 10), micros_at(all, 50),
                       micros_at(all, 99));
-    tell(("durable." + word("mode")).c_str(), threads, count, seconds, rest);
+    tell("durable." + word("mode"), threads, count, seconds, rest);
+}
+
+std::string path_in_folder() { return word("dir") + "/vector.cvec"; }
+
+// It has no figure.
+void open_build() {
+    cvec::options wanted;
+    wanted.how = cvec::opening::create;
+    Vector vector(path_in_folder(), wanted);
+    fill(vector, some("block"), number("n"));
+    vector.close();
+}
+
+// Until all records are in memory, and a seat may read them.
+void open_read() {
+    const std::string &work = word("work");
+    u64 n = number("n");
+    cvec::options wanted;
+    wanted.how = cvec::opening::open;
+    auto begun = Clock::now();
+    Vector vector(path_in_folder(), wanted);
+    double seconds = seconds_since(begun);
+    expect(vector, n, sum_of_mixed(n));
+    tell(work, 1, n, seconds);
 }
 
 }  // namespace
 
 int main(int argc, char **argv) {
-    const std::map<std::string, void (*)()> works = {{"grow", grow}, {"append", append}, {"durable", durable}};
+    const std::map<std::string, void (*)()> works = {
+        {"grow", grow},     {"append", append},   {"beside", beside},         {"read", read},
+        {"memory", memory}, {"durable", durable}, {"open-build", open_build}, {"open-read", open_read},
+    };
     for (int k = 2; k < argc; k++) {
         std::string given = argv[k];
         std::size_t end = given.find('=');
@@ -263,6 +510,7 @@ int main(int argc, char **argv) {
     if (work == works.end()) return 3;
     try {
         work->second();
+        std::fputs(figures.c_str(), stdout);
     } catch (const std::invalid_argument &fault) {
         std::fprintf(stderr, "%s\n", fault.what());
         return 3;

@@ -2,11 +2,11 @@
 
 # ---- the tools that they build with only seem some
 
-# A repository of these scripts, with an 'rt' that makes a program and two compilers. What the compilers make prints three
-# figures, and leaves the words that it got beside itself.
+# A repository of these scripts, with an 'rt' and compilers. What the compilers make prints three figures, and leaves the words
+# that it got beside itself.
 seeming_repository() {
     there=$work/there
-    mkdir -p "$there/crates/cvec_speed" "$work/tools"
+    mkdir -p "$there" "$work/tools"
     cp -r "$top/bench" "$there"
     printf '#!/bin/sh\necho "built $1"\n' >"$there/build"
     chmod +x "$there/build"
@@ -16,12 +16,7 @@ seeming_repository() {
 {"peer":"own","work":"grow","threads":4,"block":256,"n":8,"seconds":1,"per_second":3e6,"spread":1.2,"others":0}
 {"peer":"lmdb","work":"durable.flow","threads":4,"block":16,"n":8,"seconds":1,"per_second":8e6,"spread":1.5,"others":1}
 FIGURES
-    cat >"$work/tools/rt" <<'TOOL'
-#!/bin/sh
-[ "$1" != doc ] || exec echo /seeming/page
-mkdir -p out && : >out/cvec_speed && chmod +x out/cvec_speed
-exit 3
-TOOL
+    printf '#!/bin/sh\necho /seeming/page\n' >"$work/tools/rt"
     cat >"$work/tools/g++" <<TOOL
 #!/bin/sh
 [ "\$1" != --version ] || exec echo seeming
@@ -98,18 +93,11 @@ a_run_measures_own_figures_among_the_peers() (
     [ "$status" -eq 0 ]
     cmp "$work/figures" "$work/run/results.jsonl"
     printf '%s\n' "--dir=$work/run/scratch" "--ext=rust-std:$work/run/build/peers_rs" \
-        "--ext=own:$work/run/build/own" \
+        "--ext=own:$work/run/build/native" \
         --work=grow,append,beside,read,memory,durable,open --work=grow,durable --threads=1,4 --reps=5 |
         cmp - "$work/run/build/peers.words"
     grep -qx 'built cvec_threads' "$out"
-    cp "$work/measurer" "$there/crates/cvec_speed/out/cvec_speed"
-    for work_of in native:grow native:append native:durable cvec_speed:beside cvec_speed:read cvec_speed:memory \
-        cvec_speed:open-build cvec_speed:open-read; do
-        rm -f "$work/run/build"/*.words
-        "$work/run/build/own" "${work_of#*:}" block=16 >"$out"
-        [ "$(cd "$work/run/build" && echo *.words)" = "${work_of%:*}.words" ]
-        printf '%s\n' "${work_of#*:}" block=16 | cmp - "$work/run/build/${work_of%:*}.words"
-    done
+    cmp "$work/measurer" "$work/run/build/native"
     grep -qx seeming "$work/run/env.txt"
     [ ! -e "$work/run/scratch" ]
     if has python3 'tables of a run'; then

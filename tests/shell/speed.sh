@@ -1,6 +1,6 @@
-# `cvec_speed`, the program that measures.
+# Programs that get no thread or little memory, and the works of bench/native.cc.
 
-# ---- the program that measures: threads that can't be started, and threads that wait
+# ---- threads that can't be started, and memory that is refused
 
 # Runs it with these words for so many seconds at most. Where it hangs its status is 124.
 measure() {
@@ -9,55 +9,6 @@ measure() {
     status=0
     timeout -k 1 "$seconds" "$@" <"$in" >"$out" 2>"$err" || status=$?
 }
-
-# Under this limit four threads wait 25 times each, as the user that the further words name.
-wait_under() {
-    limit=$1
-    shift
-    cp "$speed" "$work/cvec_speed"
-    chmod 755 "$work/cvec_speed"
-    chmod 777 "$work"
-    measure 20 "$@" prlimit "$limit" "$work/cvec_speed" waits threads=4 phases=1 rounds=25
-    echo "status $status under $limit"
-    cat "$err"
-}
-
-gets_no_thread() {
-    wait_under "$@"
-    [ "$status" -eq 1 ]
-    [ ! -s "$out" ]
-    [ "$(cat "$err")" = "cvec_speed: a thread can't be started" ]
-}
-
-who_gets_no_memory_for_a_thread_is_told() (
-    gets_no_thread --as=40960000
-)
-
-# Of the superuser no process is refused.
-who_may_start_no_thread_is_told() (
-    if [ "$(id -u)" -eq 0 ]; then
-        gets_no_thread --nproc=1 setpriv --reuid=65534 --regid=65534 --clear-groups
-    else
-        gets_no_thread --nproc=1
-    fi
-)
-
-# Some threads are started, or memory is refused to one of them. Under 30 MB there is no room for their stacks, and under
-# 4 GB there is for all.
-who_gets_little_memory_ends_too() (
-    ends=
-    for millions in 30 50 55 60 65 70 75 80 90 100 4000; do
-        wait_under --as=${millions}000000
-        ends=$ends$status
-        [ "$(wc -l <"$err")" -eq "$status" ]
-        case $status in
-            0) grep -qF '"n":100,' "$out" ;;
-            1) [ ! -s "$out" ] ;;
-            *) return 1 ;;
-        esac
-    done
-    case $ends in 1*0) ;; *) return 1 ;; esac
-)
 
 # Under this limit it loads 10,000 growths into a new file, as the user that the further words name.
 load_under() {
@@ -118,77 +69,103 @@ a_load_that_gets_little_memory_ends() (
     case $ends in 1*0) ;; *) return 1 ;; esac
 )
 
-# So many threads wait in so many phases, so many rounds in each, and all are woken.
-are_woken() {
-    measure 300 "$speed" waits "threads=$1" "phases=$2" "rounds=$3"
-    cat "$err"
+# Each request for memory of a vector's growths, commits and opening in turn. The program says how many it refused.
+each_request_of_a_vector_in_c_for_memory_may_be_refused() (
+    has_c || exit "$is_skipped"
+    make_threads_library
+    compile_threads "$top/tests/threads/refused.c" "$c/cvec_vector.c" -o "$work/refused"
+    measure 60 "$work/refused" "$work/t.cv"
+    cat "$out" "$err"
     [ "$status" -eq 0 ]
-    [ ! -s "$err" ]
-    grep -qF "{\"work\":\"waits\",\"threads\":$1,\"n\":$(($1 * $2 * $3))," "$out"
+    [ "$(sed 's/ requests were refused$//' "$out")" -ge 50 ]
+)
+
+# ---- the works of the bench: each finds the content that it grew
+
+built=$work-built
+
+# Builds it once, beside the folder of a test's files.
+make_native() {
+    make_threads_library
+    [ ! -e "$built/native" ] || return 0
+    mkdir -p "$built"
+    cc -std=c99 -O2 "-I$c" -c "$c/cvec_vector.c" -o "$built/cvec_vector.o"
+    c++ -std=c++17 -O1 -Wall -Wextra -Werror "-I$top/examples/cpp" "-I$c" "$top/bench/native.cc" "$built/cvec_vector.o" \
+        "$threads_library" "$kit_library" -lpthread -o "$built/native"
 }
 
-threads_that_wait_are_woken_in_each_round() (
-    for threads in 1 2 4 8; do
-        are_woken $threads 1 $((100000 / threads))
-    done
-)
+has_native() { has_c && has c++ 'the works of the bench'; }
 
-threads_that_wait_are_woken_in_each_phase() (
-    for threads in 1 2 4 8; do
-        are_woken $threads 10000 1
-    done
-)
-
-# Phases of 1 to 4 threads: one of three makes all its rounds, one is closed in its midst, and the disk of one stops.
-threads_come_to_their_end_however_a_phase_ends() (
-    measure 300 "$speed" stress threads=4 phases=900 rounds=20
-    cat "$err"
-    [ "$status" -eq 0 ]
-    [ ! -s "$err" ]
-    grep -qF '{"work":"stress","threads":4,' "$out"
-)
-
-# ---- the program that measures: each work runs, and finds the content that it grew
-
-# The program that measures does this work on these sizes, in a folder of its own, and tells these numbers of records.
+# It does this work, in a folder of its own, and leaves no file there; its figures are of these numbers of records.
 counts() {
     numbers=$1
     shift
-    rm -rf "$work/dir"
-    mkdir "$work/dir"
-    measure 60 "$speed" "$@"
+    mkdir -p "$work/dir"
+    measure 60 "$built/native" "$@" "dir=$work/dir"
     cat "$err" "$out"
     [ "$status" -eq 0 ]
     [ ! -s "$err" ]
-    [ "$(sed 's/.*"n":\([0-9]*\),.*/\1/' "$out" | tr '\n' ' ')" = "${numbers:+$numbers }" ]
+    [ "$(sed 's/^{"work":"[a-z.-]*","threads":[1-9],"n":\([0-9]*\),"seconds":[0-9.]*[,}].*/\1/' "$out" | paste -sd ' ')" = "$numbers" ]
 }
 
 works_in_memory_count_what_they_made() (
-    counts '1000 96 96 192 192 384 384 24' read block=16 n=1000 draws=100
+    has_native || exit "$is_skipped"
+    make_native
+    counts '1000 100 200 400 25' read block=16 n=1000 draws=100
     counts 992 memory block=16 n=1000
-    counts 400 waits threads=1 phases=20 rounds=20
+    counts 102400 memory block=1024 n=102400
+    # A record has 8 bytes; the system may give memory by pages of 2 MiB.
+    tr -d '{}' <"$out" | awk -F '[:,]' '{ exit !($9 == "\"bytes_per_record\"" && $10 >= 8 && $10 < 40 && $12 >= $10) }'
+    [ -z "$(ls "$work/dir")" ]
 )
 
+# The first figure is of what was grown, the second of what was summed.
 readers_sum_what_another_thread_grows() (
-    measure 90 "$speed" beside threads=2 block=16 preload=1600 n=3200 cap_ms=60000
+    has_native || exit "$is_skipped"
+    make_native
+    measure 90 "$built/native" beside threads=2 block=16 preload=1600 n=3200 cap_ms=60000 "dir=$work"
     cat "$err" "$out"
     [ "$status" -eq 0 ]
-    grep -qF '"n":3200,' "$out"
+    [ "$(sed -n '1s/.*"work":"beside.grow","threads":2,"n":\([0-9]*\),.*/\1/p' "$out")" -eq 3200 ]
+    [ "$(sed -n '2s/.*"work":"beside.sum","threads":2,"n":\([0-9]*\),.*/\1/p' "$out")" -ge 1600 ]
 )
 
-# This program has no work that no phase has room for.
-more_blocks_than_a_phase_has_room_for_are_no_work() (
-    measure 60 "$speed" memory block=1 n=1048569
-    [ "$status" -eq 3 ]
-    [ ! -s "$out" ]
-    [ ! -s "$err" ]
+more_growths_than_an_open_vector_takes_are_no_work() (
+    has_native || exit "$is_skipped"
+    make_native
+    for words in 'memory block=1 n=1048569' 'read block=1 n=1048569 draws=1' 'beside threads=1 block=1 preload=1048568 n=1 cap_ms=1'; do
+        # shellcheck disable=SC2086 # each word is one
+        measure 60 "$built/native" $words "dir=$work"
+        [ "$status" -eq 3 ]
+        [ ! -s "$out" ]
+        tells 'more growths than an open vector takes'
+    done
 )
 
+# The record at each place is splitmix64 of it: those of the first and the last place were worked out apart from this.
 a_file_that_was_built_is_opened() (
-    counts '' open-build "dir=$work/dir" block=16 n=300001
-    measure 60 "$speed" open-read "dir=$work/dir" block=16 n=300001 work=open.warm
-    cat "$err" "$out"
+    has_native || exit "$is_skipped"
+    make_native
+    counts '' open-build block=16 n=300001
+    for name in open.warm open.cold; do
+        counts 300001 open-read n=300001 "work=$name"
+        grep -q "^{\"work\":\"$name\",\"threads\":1," "$out"
+    done
+    run list u64 "$work/dir/vector.cvec"
     [ "$status" -eq 0 ]
-    grep -qF '"work":"open.warm",' "$out"
-    grep -qF '"n":300001,' "$out"
+    [ "$(wc -l <"$out") $(sed -n 1p "$out") $(tail -n 1 "$out")" = '300001 16294208416658607535 1201034159031085146' ]
+)
+
+a_file_of_other_records_has_no_figure() (
+    has_native || exit "$is_skipped"
+    make_native
+    run create u64 "$work/vector.cvec"
+    given '5\n'
+    run load u64 "$work/vector.cvec"
+    for n in 1 2; do
+        measure 60 "$built/native" open-read "dir=$work" n=$n work=open.warm
+        [ "$status" -eq 1 ]
+        [ ! -s "$out" ]
+        tells "the vector hasn't what was grown"
+    done
 )
