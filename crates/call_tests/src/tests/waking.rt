@@ -103,7 +103,11 @@ fn grow_and_close<E: Wait + Clock>(rt: &E, live: &Live<u64>, seat: Seat<u64>) ->
 }
 
 /// How many growths are settled once the book is closed.
-fn serve<D: Disk + Drop, E: Wait>(rt: &E, live: &Live<u64>, flusher: Flusher<u64, D>) -> Option<u64>
+pub(super) fn serve<D: Disk + Drop, E: Wait>(
+    rt: &E,
+    live: &Live<u64>,
+    flusher: Flusher<u64, D>,
+) -> Option<u64>
     requires { IsFlusherOf (D.keeps flusher.pen.disk) live.now flusher }
 {
     let mut flusher = flusher;
