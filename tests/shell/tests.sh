@@ -251,28 +251,26 @@ what_is_older_than_its_sources_is_built_before_it_is_tested() (
     cp -R "$top/tools" "$there"
     cp -R "$top/tests/scripts" "$there/tests"
     printf 'low: clap\ncvec_c staticlib: low\ncvec_threads staticlib: low\n' >"$there/crates.txt"
-    printf '%s: low\n' cvec_speed play_tests >>"$there/crates.txt"
+    echo 'play_tests: low' >>"$there/crates.txt"
     printf '#!/bin/sh\necho "$1" >>"%s"\n' "$work/asked" >"$there/build"
-    for made in cvec_c/out/libcvec_c.a cvec_threads/out/libcvec_threads.a cvec_speed/out/cvec_speed play_tests/out/play_tests; do
+    for made in cvec_c/out/libcvec_c.a cvec_threads/out/libcvec_threads.a play_tests/out/play_tests; do
         mkdir -p "$there/crates/${made%/*}"
         printf '#!/bin/sh\n' >"$there/crates/$made"
         chmod +x "$there/build" "$there/crates/$made"
     done
     unset PLAY_TESTS
     top=$there c_library=$there/crates/cvec_c/out/libcvec_c.a threads_library=$there/crates/cvec_threads/out/libcvec_threads.a
-    speed=$there/crates/cvec_speed/out/cvec_speed
     asks_for() {
         : >"$work/asked"
         make_c_library
         make_threads_library
-        is_measurer_there
         "$there/tests/scripts/run" "$there/tests/scripts/runs.script" >"$out" || :
         [ "$(paste -sd ' ' "$work/asked")" = "$1" ]
     }
     touch -d '1 hour ago' "$there/crates/low/src/lib.rt"
     asks_for ''
     touch -d '1 hour' "$there/crates/low/src/lib.rt"
-    asks_for 'cvec_c cvec_threads cvec_speed play_tests'
+    asks_for 'cvec_c cvec_threads play_tests'
 )
 
 # The gate tries those of one crate at a time. That each can be applied, so that the prover refuses what it makes, is seen here.
