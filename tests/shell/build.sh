@@ -398,6 +398,19 @@ the_toolchain_at_hand_is_run() (
     [ "$(tail -n 1 "$out")" = '1 passed, 0 failed' ]
 )
 
+# With it the proof of a static library leaves its archive.
+the_toolchain_at_hand_archives_what_it_proves() (
+    has rt 'a proof by tools/prove' || exit "$is_skipped"
+    there=$work/small
+    mkdir -p "$there/.git" "$there/crates/small$$/src"
+    echo "small$$ staticlib:" >"$there/crates.txt"
+    printf '#![tactic(auto)]\n\n#[unsafe(no_mangle)]\npub extern "C" fn small_one() -> u8 {\n    1\n}\n' \
+        >"$there/crates/small$$/src/lib.rt"
+    (cd "$there" && RT_JOBS=1 "$top/tools/prove" >"$out" 2>"$err")
+    grep -qx "rt: small$$ proved" "$out"
+    grep -q small_one "$there/crates/small$$/out/libsmall$$.a"
+)
+
 # 'rt lib' runs over the noted libraries of the copy. Where it fails, nothing is left here.
 a_static_library_is_built_over_what_is_proved() (
     seeming_repository
@@ -421,6 +434,11 @@ a_static_library_is_built_over_what_is_proved() (
     [ "$(cat "$there/crates/middle/out/libmiddle.a")" = 'sources of low' ]
     [ "$(cat "$there/crates/low/out/rlib/stamp")" = 'sources of low' ]
     if tells 'a line of lib'; then return 1; fi
+    # It doesn't run where the proof has left an archive.
+    sed -i '2i [ "$1" != ci ] || { mkdir -p crates/middle/out && echo proved >crates/middle/out/libmiddle.a; }' "$there/bin/rt"
+    touch "$there/crates/low/src/fails"
+    builds 0
+    [ "$(cat "$there/crates/middle/out/libmiddle.a")" = proved ]
 )
 
 # What `rt ci` leaves of a library, and an `rt lib` that makes an archive of its note and this file.
