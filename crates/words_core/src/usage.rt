@@ -48,12 +48,7 @@ fn write_command<W: Write>(writer: &mut W, name: &str) -> io::Result<()>
 }
 
 /// Writes that this word may be meant, behind its quote and dashes, and where what is told of the command stands.
-fn write_meant<W: Write>(
-    writer: &mut W,
-    opening: &str,
-    word: &str,
-    name: &str,
-) -> io::Result<()>
+fn write_meant<W: Write>(writer: &mut W, opening: &str, word: &str, name: &str) -> io::Result<()>
     ensures { OnOk result (Appends (W.contents writer.old) (W.contents writer.new) (meant_line opening.now word.now name.now)) }
 {
     writer.write_all(opening.as_bytes())?;
