@@ -334,16 +334,21 @@ what_is_no_plain_file_is_refused() (
     echo 5 >"$work/fifo" &
     writer=$!
     for file in "$work/fifo" /dev/null; do
+        case $file in /dev/null) what='a device' ;; *) what='a pipe' ;; esac
         for words in 'create u64' 'create u64 --over' 'append u64' 'check u64' 'list u64' 'stat' 'follow u64 --once' 'fold u64'; do
             # shellcheck disable=SC2086 # each word is one
             run $words "$file"
-            was_refused file 'it is no plain file'
+            was_refused file "it is no plain file ($what)"
         done
     done
     kill $writer
     two_files
     run copy u64 "$work/t.cv" /dev/null
-    was_refused file 'it is no plain file'
+    was_refused file 'it is no plain file (a device)'
+    has python3 'a socket' || exit $is_skipped
+    (cd "$work" && python3 -c 'import socket; socket.socket(socket.AF_UNIX).bind("socket")')
+    run list u64 "$work/socket"
+    was_refused file 'it is no plain file (a socket)'
 )
 
 # Where there are too few descriptors for all that is opened, the file is as it was.

@@ -11,7 +11,7 @@ use disk_core::{FileDisk, SharedFile};
 use sentences::{Complaint, Role};
 use std::fs::{self, File, Metadata, OpenFile, OpenOptions, TryLockError};
 use std::io::ErrorKind;
-use std::os::unix::fs::{FileExt, MetadataExt, OpenOptionsExt, PermissionsExt};
+use std::os::unix::fs::{FileExt, FileTypeExt, MetadataExt, OpenOptionsExt, PermissionsExt};
 use std::rt::Files;
 use std::time::{Clock, Duration};
 use std::{io, thread};
@@ -59,6 +59,19 @@ pub struct Opened {
     pub lock: File,
 }
 
+/// The error of what is neither a plain file nor a folder: it names what that is.
+fn no_plain_file(known: &Metadata) -> io::Error {
+    let file_type = known.file_type();
+    let name = if file_type.is_fifo() {
+        "a pipe"
+    } else if file_type.is_socket() {
+        "a socket"
+    } else {
+        "a device"
+    };
+    io::Error::new(ErrorKind::Unsupported, name)
+}
+
 /// Whether a folder stands at this path. What is neither that nor a plain file is refused before it is opened: to open one may
 /// wait, or do more.
 fn is_folder<F: Files<File = File>>(files: &F, path: &str) -> io::Result<bool> {
@@ -66,7 +79,7 @@ fn is_folder<F: Files<File = File>>(files: &F, path: &str) -> io::Result<bool> {
     if known.is_file() || known.is_dir() {
         Ok(known.is_dir())
     } else {
-        Err(ErrorKind::Unsupported.into())
+        Err(no_plain_file(&known))
     }
 }
 
@@ -176,7 +189,7 @@ fn is_one(one: &Metadata, two: &Metadata) -> bool {
 fn leads_to<F: Files<File = File>>(files: &F, path: &str, file: &File) -> io::Result<bool> {
     let opened = known_of(file)?;
     if !opened.is_file() {
-        return Err(ErrorKind::Unsupported.into());
+        return Err(no_plain_file(&opened));
     }
     match fs::metadata(files, path) {
         Ok(named) => Ok(is_one(&named, &opened)),
