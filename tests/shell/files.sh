@@ -107,6 +107,99 @@ create_over_takes_whatever_is_there() (
     was_refused file "$work"
 )
 
+# A changed file by itself in a folder.
+a_file_in_a_folder() {
+    a_changed_file
+    mkdir "$work/d"
+    t=$work/d/t.cv
+    cp "$work/t.cv" "$t"
+}
+
+# It is an empty vector, and nothing else stands in its folder.
+is_made_alone() {
+    [ "$(ls -A "$work/d")" = t.cv ]
+    run check u64 "$t"
+    did 'ok version 1 width 8 size 0 frames 0 live 0\n'
+}
+
+# Who reads the old file goes on over its bytes. What a stopped command has left is taken away.
+what_is_made_over_a_file_takes_its_place() (
+    a_file_in_a_folder
+    ln -s "$t" "$work/link"
+    for name in "$t" "$work/link"; do
+        cp "$work/t.cv" "$t"
+        chmod 640 "$t"
+        number=$(stat -c %i "$t")
+        echo left >"$work/d/.cvec-$(stat -c %d-%i "$t")"
+        exec 9<"$t"
+        run create u64 "$name" --over
+        did 'created\n'
+        cmp "$work/t.cv" - <&9
+        is_made_alone
+        [ "$(stat -c '%i %a' "$t")" != "$number 640" ]
+        [ "$(stat -c %a "$t")" = 640 ]
+        [ "$(readlink "$work/link")" = "$t" ]
+        exec 9<&-
+    done
+)
+
+# It is a vector on the device before it has the name, and the name is too before that is told.
+what_is_made_over_a_file_is_whole_before_it_has_its_name() (
+    has_calls || exit $is_skipped
+    build_calls
+    a_file_in_a_folder
+    run_with "CALLS_LOG=$work/calls" create u64 "$t" --over
+    did 'created\n'
+    sed "s/\\.cvec-[0-9]*-[0-9]*/NEW/" "$work/calls" >"$work/made"
+    printf '%s\n' 'sync d' 'sync NEW' 'write NEW 0 1 00 00' 'sync NEW' 'write NEW 1 11 43 00' 'sync NEW' 'write NEW 0 1 01 01' 'sync NEW' \
+        'sync d' 'answer 8' | diff - "$work/made"
+)
+
+# Of a file that isn't made nothing stands, and the one whose place it was to take is as it was.
+a_file_is_as_it_was_where_none_is_made_over_it() (
+    has_calls || exit $is_skipped
+    build_calls
+    a_file_in_a_folder
+    for fails in pwrite:1=write pwrite:2=write pwrite:3=write fdatasync:1=sync fdatasync:3=sync fdatasync:4=sync; do
+        run_with "CALLS_FAIL=${fails%=*}" create u64 "$t" --over
+        was_refused "disk ${fails#*=}" "cvec: $t: "
+        cmp "$work/t.cv" "$t"
+        [ "$(ls -A "$work/d")" = t.cv ]
+    done
+    # It has its place, and whether that is on the device isn't known.
+    run_with CALLS_FAIL=fsync:2 create u64 "$t" --over
+    was_refused file "cvec: $t: it can't be opened or made (Input/output error (os error 5))"
+    is_made_alone
+)
+
+# Another file would not be this one in all but its bytes, or can't be made: this one is emptied.
+a_file_is_emptied_where_no_other_can_take_its_place() (
+    has_calls || exit $is_skipped
+    build_calls
+    a_file_in_a_folder
+    is_emptied() {
+        number=$(stat -c '%i %U %a' "$t")
+        "$@"
+        did 'created\n'
+        [ "$(stat -c '%i %U %a' "$t")" = "$number" ]
+        is_made_alone
+        cp "$work/t.cv" "$t"
+    }
+    ln "$t" "$work/second.cv"
+    is_emptied run create u64 "$t" --over
+    rm "$work/second.cv"
+    # The lock of the new file is refused.
+    is_emptied run_with CALLS_FAIL=flock:2 create u64 "$t" --over
+    [ "$(id -u)" -eq 0 ] || lacks 'only root gives a file to another' || exit $is_skipped
+    # Root's would be root's; and the owner may not write the folder.
+    chown 65534 "$t"
+    is_emptied run create u64 "$t" --over
+    chmod 755 "$work" "$work/d"
+    cp "$program" "$work/cvec"
+    by_its_owner() { status=0; setpriv --reuid=65534 --regid=65534 --clear-groups "$work/cvec" "$@" >"$out" 2>"$err" || status=$?; }
+    is_emptied by_its_owner create u64 "$t" --over
+)
+
 who_may_not_use_a_file_is_told() (
     a_changed_file
     chmod 755 "$work"

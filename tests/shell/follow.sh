@@ -170,7 +170,7 @@ a_vector_that_becomes_shorter_ends_it() (
 a_name_that_leads_elsewhere_ends_it() (
     three_records
     cp "$work/t.cv" "$work/other.cv"
-    for how in 'mv -f other.cv t.cv' 'rm t.cv' 'ln -sf other.cv t.cv'; do
+    for how in 'mv -f other.cv t.cv' 'rm t.cv' 'ln -sf other.cv t.cv' "$program create u64 t.cv --over"; do
         cd "$work"
         rm -f t.cv a.cv
         cp other.cv a.cv
@@ -193,6 +193,8 @@ a_name_that_leads_elsewhere_ends_it() (
 a_file_that_becomes_shorter_ends_it() (
     three_records
     cp "$work/t.cv" "$work/other.cv"
+    # A file of two names is emptied before a vector is made over it.
+    ln "$work/t.cv" "$work/second.cv"
     for how in "truncate -s 20 $work/t.cv" "$program create u64 $work/t.cv --over"; do
         cp "$work/other.cv" "$work/t.cv"
         follows --poll=300

@@ -1,5 +1,5 @@
 -- What a command over a file has done.
-use Rattle.std.proofs.Common.{◌≡◌, ◌∙◌, ℕ, List, ap, sym, subst, inr, Result, Ok, Err}
+use Rattle.std.proofs.Common.{◌≡◌, ◌⊎◌, ◌∙◌, ℕ, List, ap, sym, subst, inr, Result, Ok, Err, MatchResult}
 use Rattle.std.specs.Prelude.{Option, Some, None, IfSome}
 use Rattle.std.specs.Result.{IsErrAnd}
 use Rattle.text_core.specs.Text.{Spelling}
@@ -10,7 +10,10 @@ use Rattle.files_core.specs.declared.fault.FileFault.TheVariants as faults
 use Rattle.sentences.specs.declared.complaint.Complaint.TheVariants as complaints
 use Rattle.filing_core.specs.Shown.{IsInputShown}
 use Rattle.record_core.specs.Bytes.{Encoding}
+use Rattle.files_core.specs.Ended.{EndsAs}
 use Rattle.files_core.specs.declared.ended.Ended.{Ended}
+use Rattle.files_core.specs.declared.ended.Ended.TheVariants.{Done, OutputFailed, Refused}
+use Rattle.files_core.proofs.Opened.{done_ends}
 use Rattle.files_core.specs.declared.fault.FileFault.{FileFault}
 use Rattle.sentences.specs.declared.complaint.Complaint.{Complaint}
 use Rattle.text_core.specs.declared.status.Status.{Status}
@@ -32,6 +35,12 @@ module _ {R : Type 0} (form : Encoding R) (old new : Option (List ℕ)) (filed :
     engine = engine;
     told = subst (λ (d : Disk). IsStatusOf (IsComplaintOf form d) ended filed) is_back told;
   }))
+
+-- the work was done, or refused, and that told
+pub made_ends : {X : Type 0} (done : Type 0) (refused : FileFault → Type 0) (made : Result X FileFault) (ended : Ended)
+    → MatchResult made (λ _. (ended ≡ Done) ⊎ (ended ≡ OutputFailed)) (λ fault. ended ≡ Refused fault) → MatchResult made (λ _. done) refused → EndsAs done refused ended
+made_ends done refused (Ok x) ended told has = done_ends done refused ended told has
+made_ends done refused (Err fault) ended told has = subst (EndsAs done refused) (sym told) has
 
 -- an engine that ended so ended also so
 pub done_as : (filed : Result Status Complaint) (IsComplaint : Disk → FileFault → Complaint → Type 0) {HasEnded HasOther : Disk → Disk → Ended → Type 0}

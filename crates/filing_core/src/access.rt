@@ -35,8 +35,6 @@ pub enum Access {
     /// It makes the file where there is none, with these permissions but for those that the process's mask takes away, writes,
     /// and is alone meanwhile.
     Makes { mode: u32 },
-    /// The same with ordinary permissions, and whatever stands in the file is taken away first.
-    Empties,
 }
 
 /// The permissions of a new file: all may read and write it whom the process's mask lets.
@@ -47,7 +45,7 @@ impl Access {
     fn mode(self) -> u32 {
         match self {
             Access::Makes { mode } => mode,
-            Access::Reads | Access::Writes | Access::Empties => ORDINARY,
+            Access::Reads | Access::Writes => ORDINARY,
         }
     }
 }
@@ -109,9 +107,7 @@ fn open_to_write<F: Files<File = File>>(files: &F, path: &str, access: Access) -
 fn open_for<F: Files<File = File>>(files: &F, path: &str, access: Access) -> io::Result<File> {
     match access {
         Access::Reads => open_to_read(files, path),
-        Access::Writes | Access::Makes { .. } | Access::Empties => {
-            open_to_write(files, path, access)
-        }
+        Access::Writes | Access::Makes { .. } => open_to_write(files, path, access),
     }
 }
 
@@ -198,15 +194,9 @@ fn leads_to<F: Files<File = File>>(files: &F, path: &str, file: &File) -> io::Re
     }
 }
 
-/// Syncs the folder of a file that may be new, so that a crash does not take its name away.
-fn keep_name<F: Files<File = File> + AllocGlobal>(
-    files: &F,
-    path: &str,
-    access: Access,
-) -> io::Result<()> {
-    if matches!(access, Access::Makes { .. } | Access::Empties) {
-        drop(FileDisk::<File>::make(files, path)?);
-    }
+/// Syncs the folder of a file that is new, so that a crash does not take its name away.
+pub fn keep_name<F: Files<File = File> + AllocGlobal>(files: &F, path: &str) -> io::Result<()> {
+    drop(FileDisk::<File>::make(files, path)?);
     Ok(())
 }
 
@@ -217,8 +207,11 @@ fn named<F: Files<File = File> + AllocGlobal>(
     access: Access,
     file: File,
 ) -> Result<File, Unlocked> {
-    if let Err(error) = keep_name(files, path, access) {
-        return Err(Unlocked::Failed(error));
+    if matches!(access, Access::Makes { .. }) {
+        // It may be new.
+        if let Err(error) = keep_name(files, path) {
+            return Err(Unlocked::Failed(error));
+        }
     }
     match leads_to(files, path, &file) {
         Ok(true) => Ok(file),
@@ -239,7 +232,7 @@ fn lock<F: Files<File = File> + AllocGlobal>(
     };
     let locked = match access {
         Access::Reads => file.try_lock_shared(),
-        Access::Writes | Access::Makes { .. } | Access::Empties => file.try_lock(),
+        Access::Writes | Access::Makes { .. } => file.try_lock(),
     };
     match locked {
         Ok(()) => named(files, path, access, file),
@@ -259,7 +252,7 @@ fn wait_for_readers(role: Role, seconds: u64) -> u64 {
 
 /// Locks the file at this path, and tries again: for so many seconds while a command has it that writes, and for some at least
 /// while others only read it. Each try opens it anew, for meanwhile another file may have got this name.
-fn lock_within<F: Files<File = File> + Clock + AllocGlobal>(
+pub fn lock_within<F: Files<File = File> + Clock + AllocGlobal>(
     files: &F,
     path: &str,
     access: Access,
@@ -301,19 +294,19 @@ fn locked_disk(lock: &File) -> io::Result<FileDisk>
     Ok(disk_over(lock.try_clone()?))
 }
 
-/// The same, with nothing in it where that is asked for.
-fn disk_for(lock: &File, access: Access) -> io::Result<FileDisk>
-    ensures { IfOk result IsJustOpened }
+/// A locked file as a disk, with its lock.
+pub fn under_lock(lock: File, role: Role) -> Result<Opened, Complaint>
+    ensures opened { IfOk result (λ opened. IsJustOpened opened.disk) }
+    ensures shut { IfErr result (IsUnopened role) }
 {
-    if matches!(access, Access::Empties) {
-        lock.set_len(0)?;
+    match locked_disk(&lock) {
+        Ok(disk) => Ok(Opened { disk, lock }),
+        Err(error) => Err(Complaint::NotOpened(role, error)),
     }
-    locked_disk(lock)
 }
 
-/// Locks and opens the file at this path. Nothing is read, and nothing written but to empty it where that is asked for.
-/// Refused where it can't be opened or made, and where another command has it and keeps it for so many seconds; FILE, where
-/// others only read it, for `READERS_WAIT` at least.
+/// Locks and opens the file at this path. Nothing is read, and nothing written. Refused where it can't be opened or made, and
+/// where another command has it and keeps it for so many seconds; FILE, where others only read it, for `READERS_WAIT` at least.
 pub fn open<F: Files<File = File> + Clock + AllocGlobal>(
     files: &F,
     path: &str,
@@ -325,10 +318,7 @@ pub fn open<F: Files<File = File> + Clock + AllocGlobal>(
     ensures shut { IfErr result (IsUnopened role) }
 {
     let lock = lock_within(files, path, access, role, seconds)?;
-    match disk_for(&lock, access) {
-        Ok(disk) => Ok(Opened { disk, lock }),
-        Err(error) => Err(Complaint::NotOpened(role, error)),
-    }
+    under_lock(lock, role)
 }
 
 /// An open file that another process may write meanwhile. What it holds isn't told.
@@ -349,7 +339,7 @@ pub enum Readable {
 }
 
 /// The permissions of an owner, without whom nobody could go on with a file.
-const OWNERS: u32 = 0o600;
+pub const OWNERS: u32 = 0o600;
 
 /// The permissions of a copy of the file at this path: those of that one and its owner's. Where the system doesn't tell them, its
 /// owner's alone.

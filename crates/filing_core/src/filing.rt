@@ -6,25 +6,22 @@ ghost use Rattle.std.specs.NonZero.{non_zero_u32_get};
 ghost use Rattle.files_core.specs.Watched.{below};
 ghost use Rattle.load_core.specs.Appending.{IsLineBehind};
 ghost use Rattle.filing_core.specs.Complaints.{IsComplaintOf, IsJustOpened, IsUnopened};
-ghost use Rattle.filing_core.specs.Commands.{IsAppendRun, IsClearRun, IsCommandRun, IsCreateRun, IsFoldRun, IsLoadRun, IsResizeRun, IsServeRun, IsSetRun};
+ghost use Rattle.filing_core.specs.Commands.{IsAppendRun, IsClearRun, IsCommandRun, IsFoldRun, IsLoadRun, IsResizeRun, IsServeRun, IsSetRun};
 ghost use Rattle.filing_core.specs.Shown.{IsCommandShown, IsInputShown, IsSetShown};
 
-use crate::access::{Access, ORDINARY, Opened, open};
+use crate::access::{Access, Opened, open};
 use crate::counting::CountingGate;
 use crate::ending::{status_of_append, status_of_serve, status_on};
-use crate::place::takeable;
 use crate::polling::looks_of;
 use crate::searching::Sought;
 use crate::serving::pipes_of;
 use crate::setting::{bytes_of_word, setting_of};
 use disk_core::FileDisk;
 use files_core::{
-    OpensToWrite, Progress, Watched, clear, create, fold, read_resizing, resize, resize_in_parts,
-    set,
+    OpensToWrite, Progress, Watched, clear, fold, read_resizing, resize, resize_in_parts, set,
 };
 use lines_core::Excerpt;
 use load_core::{Deck, append, load, read_growth_lines};
-use segment_core::Format;
 use sentences::{Complaint, Role};
 use serve_core::serve;
 use std::alloc::Global;
@@ -51,7 +48,7 @@ pub struct Filing<'a, F, P> {
 }
 
 impl<'a, F: Files<File = File> + Clock + AllocGlobal, P: Progress + Sync> Filing<'a, F, P> {
-    fn open(&self, access: Access) -> Result<Opened, Complaint>
+    pub(crate) fn open(&self, access: Access) -> Result<Opened, Complaint>
         ensures opened { IfOk result (λ opened. IsJustOpened opened.disk) }
         ensures shut { IfErr result (IsUnopened Role.File) }
     {
@@ -63,25 +60,6 @@ impl<'a, F: Files<File = File> + Clock + AllocGlobal, P: Progress + Sync> Filing
         ensures { below result ≡ disk }
     {
         Watched::new(disk, self.progress)
-    }
-
-    fn create<R: TextRecord, W: Write>(
-        &self,
-        format: Format,
-        over: bool,
-        writer: &mut W,
-    ) -> Result<Status, Complaint>
-        ensures { IsCreateRun R.form (W.contents writer.old) (W.contents writer.new) result format over }
-    {
-        let access = if over {
-            Access::Empties
-        } else {
-            Access::Makes { mode: ORDINARY }
-        };
-        let Opened { disk, lock: _lock } = self.open(access)?;
-        let made = takeable::<R>(disk, format, over)?;
-        let (disk, ended) = create::<R, FileDisk, W>(self.alloc, made, format, writer);
-        status_on::<R>(self.alloc, disk, ended)
     }
 
     fn load<R: TextRecord, S: Deck<R> + Drop, I: Read, W: Write, E: Threads + Wait + Sync>(

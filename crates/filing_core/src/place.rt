@@ -27,18 +27,11 @@ fn vacant<R: TextRecord>(disk: FileDisk, format: Option<Format>) -> Result<FileD
     }
 }
 
-/// The disk, where `create` may make such a file on it: nothing else stands there, or it is to be made over what does.
-pub fn takeable<R: TextRecord>(
-    disk: FileDisk,
-    format: Format,
-    over: bool,
-) -> Result<FileDisk, FileFault>
-    ensures vacant { IfOk result (MayBeMadeOn R.form (Some format) over disk) }
-    ensures taken { IsJustOpened disk → IfErr result (IsPlaceTaken R.form format over) }
+/// The disk, where `create` may make such a file on it: nothing else stands there.
+pub fn takeable<R: TextRecord>(disk: FileDisk, format: Format) -> Result<FileDisk, FileFault>
+    ensures vacant { IfOk result (MayBeMadeOn R.form (Some format) false disk) }
+    ensures taken { IsJustOpened disk → IfErr result (IsPlaceTaken R.form format false) }
 {
-    if over {
-        return Ok(disk);
-    }
     match vacant::<R>(disk, Some(format)) {
         Ok(disk) => Ok(disk),
         Err(fault) => Err(FileFault::Vault(VaultFault::Pen(fault))),

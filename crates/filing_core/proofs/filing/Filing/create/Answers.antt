@@ -3,5 +3,5 @@ use Rattle.filing_core.proofs.Filings.{over_file}
 use Rattle.filing_core.proofs.filing.Filing.create.Goals as goal
 
 pub returns : goal.returns
-returns g c = over_file _ (g.W.Write.contents c.args.writer.now) (g.W.Write.contents c.create-disk.new.writer) _ c.in_ok-disk.field-0.disk c.in_ok-disk.field-0.disk c.create-disk.result.0 c.create-disk.result.0 c.create-disk.result.1
-    refl c.in_ok-disk.ensures.opened refl (c.in_ok-made.made, c.in_ok-made.ensures.vacant, c.create-disk.ensures.created, c.create-disk.ensures.writes) c.status_on.ensures
+returns g c = rw c.if-over.false (over_file _ (g.W.Write.contents c.args.writer.now) (g.W.Write.contents c.create-disk.new.writer) _ c.in_ok-disk.field-0.disk c.in_ok-disk.field-0.disk c.create-disk.result.0 c.create-disk.result.0 c.create-disk.result.1
+    refl c.in_ok-disk.ensures.opened refl (c.in_ok-made.made, c.in_ok-made.ensures.vacant, c.create-disk.ensures.created, c.create-disk.ensures.writes) c.status_on.ensures)
