@@ -228,14 +228,30 @@ fn run<D: Disk + Send + Drop, E: Threads + Wait + Sync>(
     (made, settled)
 }
 
-/// Whether as many rounds were made as there must be. Each four calls of the disk settle a growth or more.
+impl End {
+    /// Whether as many rounds were made as there must be, where who commits ended with so many growths settled.
+    fn allows(self, course: Course, made: u64, settled: u64) -> bool {
+        let least = match self {
+            End::Closed => course.rounds / 2,
+            End::Whole | End::Stopped(_) => course.rounds.saturating_mul(course.threads as u64),
+        };
+        settled == made && made >= least
+    }
+
+    /// The same, where who commits was stopped: each four calls of the disk settle a growth or more.
+    fn allows_stopped(self, made: u64) -> bool {
+        match self {
+            End::Stopped(calls) => made >= calls / 4,
+            End::Whole | End::Closed => false,
+        }
+    }
+}
+
+/// Whether as many rounds were made as there must be.
 fn is_right(course: Course, made: u64, settled: Option<u64>) -> bool {
-    let all = course.rounds.saturating_mul(course.threads as u64);
-    match (course.end, settled) {
-        (End::Closed, Some(settled)) => settled == made && made >= course.rounds / 2,
-        (End::Stopped(calls), None) => made >= calls / 4,
-        (_, Some(settled)) => settled == made && made == all,
-        (_, None) => false,
+    match settled {
+        Some(settled) => course.end.allows(course, made, settled),
+        None => course.end.allows_stopped(made),
     }
 }
 
