@@ -319,7 +319,7 @@ fn mixed(phase: u64) -> Course {
     };
     Course {
         phase,
-        threads: u16::try_from(1 + below(number, 4)).unwrap_or(1),
+        threads: u16::try_from(below(number, 4).saturating_add(1)).unwrap_or(1),
         rounds,
         end,
     }
