@@ -372,12 +372,6 @@ goes_on_with_its_samples() {
     done
 }
 
-# ---- the program that measures
-
-speed=$top/crates/cvec_speed/out/cvec_speed
-
-is_measurer_there() { build_older cvec_speed; }
-
 # ---- all of them
 
 count_reasons() { cat "$reasons" 2>/dev/null | wc -l; }

@@ -1,4 +1,4 @@
-"""Memory that is refused: to `play`, `image`, `show`, and works of cvec_speed."""
+"""Memory that is refused: to `play`, `image` and `show`."""
 
 import multiprocessing
 import os
@@ -8,7 +8,7 @@ import sys
 import tempfile
 
 from follower import follow
-from program import MEASURER, PROGRAM, run
+from program import PROGRAM, run
 from reader import answers_of
 from writer import all_kinds, group, header, numbers
 
@@ -170,26 +170,7 @@ def refusing(tally, tables):
             refuse_each(judge, case, library, pool, tally)
 
 
-# The growths that the work `again` makes: number, start and length.
-GROWN = [b'0: 0 3', b'1: 3 2', b'2: 5 1', b'3: 6 3', b'4: 9 2', b'5: 11 1', b'6: 12 3', b'7: 15 2', b'8: 17 1',
-         b'9: 18 3', b'10: 21 2', b'11: 23 1']
-
-
-def judge_refused_growths(job):
-    """Each growth is made, the first time or the second, unless the run had no memory for its words or for the vector."""
-    library, _, number = job
-    found, refused = run_refused(library, number, ['again'], program=MEASURER)
-    lines = found[1].split(b'\n')[:-1]
-    grown = [line for line in lines if line != b'refused memory']
-    if found[0] == 0:
-        right = found[2] == b'' and (grown == GROWN and len(lines) <= len(GROWN) + 1 or lines == [b'refused memory'])
-    else:
-        right = found[0] == 1 and lines == [] and found[2].count(b'\n') == 1
-    return None if right else 'request %d of growths: %r' % (number, found), refused, b'REFUSE=%d again\n' % number
-
-
 def memory_tables(_folder):
-    yield judge_refused_growths, None
     for script in MEMORY_SCRIPTS:
         yield judge_refused_script, script.split(';')
     image = header(1, 8) + group([numbers(1, 2), numbers(3)]) + group([numbers(4)]) + b'\0'
@@ -197,40 +178,3 @@ def memory_tables(_folder):
     runs += [('show', it.hex().encode(), answers_of(it, 'u64')[0]) for it in (all_kinds(1), all_kinds(2))]
     for word, given, wanted in runs:
         yield judge_refused_run, (PROGRAM, [word, 'u64'], given, (*wanted, b''))
-
-
-# ---- works
-
-# What the measurer does by several threads and on files: its words, and how many records a growth has.
-WORKS = [('open-build dir=%s block=3 n=12', 3), ('waits threads=2 phases=2 rounds=3', 1)]
-
-
-def works_in(written):
-    return [line.split(',')[0] for line in written.decode().split('\n')]
-
-
-def judge_refused_work(job):
-    """A work ends by itself, with what it does told, or with one sentence of what it was refused; each growth in its file
-    is whole."""
-    library, (words, block), number = job
-    with tempfile.TemporaryDirectory() as folder:
-        words = words % folder if '%s' in words else words
-        wanted = works_in(run(words.split(' '), program=MEASURER)[1]) if number == 1 else None
-        shutil.rmtree(folder)
-        os.mkdir(folder)
-        (status, written, told), refused = run_refused(library, number, words.split(' '), program=MEASURER)
-        wrong = None
-        if status not in (0, 1) or told.count(b'\n') != status or wanted and status == 0 and works_in(written) != wanted:
-            wrong = 'request %d of %s: %r' % (number, words, (status, written, told))
-        file = os.path.join(folder, 'vector.cvec')
-        if wrong is None and os.path.exists(file):
-            with open(file, 'rb') as image:
-                shown = answers_of(image.read(), 'u64')[0]
-            if shown[1] != b'refused: unborn\n' and (shown[0] != 0 or shown[1].count(b'\n') % block != 0):
-                wrong = 'request %d of %s: the file is answered %r' % (number, words, shown[1][:200])
-        return wrong, refused, ('REFUSE=%d %s\n' % (number, words)).encode()
-
-
-def work_tables(_folder):
-    for work in WORKS:
-        yield judge_refused_work, work

@@ -9,7 +9,6 @@ import time
 
 TOP = os.path.dirname(os.path.dirname(os.path.dirname(os.path.abspath(__file__))))
 PROGRAM = os.path.join(TOP, 'crates/cvec/out/cvec')
-MEASURER = os.path.join(TOP, 'crates/cvec_speed/out/cvec_speed')
 
 
 def run(words, given=b'', program=PROGRAM, limit=60, **options):

@@ -79,10 +79,6 @@ each_request_for_memory_may_be_refused() (
     "$top/tests/fuzz/run" each memory
 )
 
-each_request_of_threads_for_memory_may_be_refused() (
-    "$top/tests/fuzz/run" each works
-)
-
 nothing_that_nobody_wrote_is_answered_wrongly() (
     "$top/tests/fuzz/run" 60 "$(date +%s)"
 )
