@@ -89,6 +89,10 @@ impl<'a, F: Files<File = File> + Clock + AllocGlobal, P: Progress + Sync> Filing
         let (disk, made) = make::<R, FileDisk>(self.alloc, disk, format);
         if made.is_err() {
             names.withdraw(self.files);
+        } else if let Err(error) = keep_name(self.files, self.file) {
+            // What is wanting for this behind the taking of the place, as descriptors, is wanting before it.
+            names.withdraw(self.files);
+            return Err(Complaint::NotOpened(Role::File, error));
         } else if names.take_place(self.files).is_err() {
             return self.create_in::<R, W>(lock, format, writer);
         } else if let Err(error) = keep_name(self.files, self.file) {
