@@ -143,7 +143,8 @@ what_is_made_over_a_file_takes_its_place() (
     done
 )
 
-# It is a vector on the device before it has the name, and the name is too before that is told.
+# It is a vector on the device before it has the name, and the name is too before that is told. Its folder is synced once more
+# before: what is wanting for that is told while the old one stands.
 what_is_made_over_a_file_is_whole_before_it_has_its_name() (
     has_calls || exit $is_skipped
     build_calls
@@ -152,7 +153,7 @@ what_is_made_over_a_file_is_whole_before_it_has_its_name() (
     did 'created\n'
     sed "s/\\.cvec-[0-9]*-[0-9]*/NEW/" "$work/calls" >"$work/made"
     printf '%s\n' 'sync d' 'sync NEW' 'write NEW 0 1 00 00' 'sync NEW' 'write NEW 1 11 43 00' 'sync NEW' 'write NEW 0 1 01 01' 'sync NEW' \
-        'sync d' 'answer 8' | diff - "$work/made"
+        'sync d' 'sync d' 'answer 8' | diff - "$work/made"
 )
 
 # Of a file that isn't made nothing stands, and the one whose place it was to take is as it was.
@@ -166,8 +167,13 @@ a_file_is_as_it_was_where_none_is_made_over_it() (
         cmp "$work/t.cv" "$t"
         [ "$(ls -A "$work/d")" = t.cv ]
     done
-    # It has its place, and whether that is on the device isn't known.
+    # Nor where its folder can't be synced, before it has its place.
     run_with CALLS_FAIL=fsync:2 create u64 "$t" --over
+    was_refused file "cvec: $t: it can't be opened or made (Input/output error (os error 5))"
+    cmp "$work/t.cv" "$t"
+    [ "$(ls -A "$work/d")" = t.cv ]
+    # It has its place, and whether that is on the device isn't known.
+    run_with CALLS_FAIL=fsync:3 create u64 "$t" --over
     was_refused file "cvec: $t: it can't be opened or made (Input/output error (os error 5))"
     is_made_alone
 )
