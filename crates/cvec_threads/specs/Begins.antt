@@ -1,5 +1,5 @@
 -- What handles have of a vector that begins.
-use Rattle.std.specs.Prelude.{◌≡◌, ◌⊎◌, ℕ, [], Option, None, Some}
+use Rattle.std.specs.Prelude.{◌≡◌, ◌≢◌, ◌⊎◌, ℕ, [], Option, None, Some}
 use Rattle.segment_core.specs.declared.format.Format.{Format}
 use Rattle.handle_core.specs.declared.refusal.Refusal.TheVariants.{NotSo}
 use Rattle.handle_core.specs.Refusal.{code_of}
@@ -19,9 +19,13 @@ abbrev pub HasBegun : Option Format → ℕ → Option End → Option End → Op
 HasBegun made seats (Some old) (Some new) (Some phase) = AllAt (λ _ _ _. Begins made seats) phase old new
 HasBegun made seats old new phase = ⊥
 
--- Why it isn't so: the file is refused, and what is left of it; or something else was asked for, and the handle is as it was.
+-- why it isn't so: the file is refused, and what is left of it
 abbrev pub IsNotBegun : ℕ → Option End → Option End → Type 0
-IsNotBegun code old new = Refused (λ refusal. AtAny (λ _ _ _. RefusesBeginning refusal)) code old new ⊎ ((code ≡ code_of NotSo) × (new ≡ old))
+IsNotBegun = Refused (λ refusal. AtAny (λ _ _ _. RefusesBeginning refusal))
+
+-- or there is no such version, and the handle is as it was
+abbrev pub IsNotCreated : ℕ → ℕ → Option End → Option End → Type 0
+IsNotCreated version code old new = IsNotBegun code old new ⊎ ((version ≢ 1) × (version ≢ 2) × (code ≡ code_of NotSo) × (new ≡ old))
 
 -- the handle has what it had, or nothing
 abbrev pub IsLeft : Option End → Option End → Type 0

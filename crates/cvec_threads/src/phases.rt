@@ -8,8 +8,10 @@ ghost use Rattle.book_core.specs.Beginning.{MayBegin};
 ghost use Rattle.handle_core.specs.Begins.{Feeds, RefusesFeeding, RefusesBeginning};
 ghost use Rattle.handle_core.specs.Roles.{RefusesSeat};
 ghost use Rattle.handle_core.specs.Handles.{end_of, Refused};
-ghost use Rattle.handle_core.specs.Ends.{AtAny, Becomes};
-ghost use Rattle.cvec_threads.specs.Begins.{HasBegun, HasFile, HasSeat, IsLeft, IsNotBegun};
+ghost use Rattle.handle_core.specs.Ends.{AtAny, Becomes, IsWidth};
+ghost use Rattle.handle_core.specs.Refusal.{code_of};
+ghost use Rattle.handle_core.specs.declared.refusal.Refusal.TheVariants.{Width};
+ghost use Rattle.cvec_threads.specs.Begins.{HasBegun, HasFile, HasSeat, IsLeft, IsNotBegun, IsNotCreated};
 
 use handle_core::{End, Handle, Refusal};
 use segment_core::Format;
@@ -20,6 +22,7 @@ use std::alloc::Global;
 #[unsafe(no_mangle)]
 pub extern "C" fn cvec_phase_file(alloc: Global, len: u64, width: u16, file: &mut Handle) -> u32
     ensures file { result ≡ 0 → HasFile width (end_of file.new) }
+    ensures width { result ≡ code_of Width → IsWidth width → ⊥ }
     ensures refused { result ≢ 0 → IsLeft (end_of file.old) (end_of file.new) }
 {
     let Ok(room) = Vec::with_capacity(alloc, len as usize) else {
@@ -93,7 +96,7 @@ pub extern "C" fn cvec_phase_create(
 ) -> u32
     ensures begins { result ≡ 0 → (format : Format) × (version_of format ≡ version) × HasBegun (Some format) seats (end_of file.old) (end_of file.new) (end_of phase.new) }
     ensures may { result ≡ 0 → MayBegin growth_limit seats }
-    ensures refused { result ≢ 0 → IsNotBegun result (end_of file.old) (end_of file.new) × (end_of phase.new ≡ end_of phase.old) }
+    ensures refused { result ≢ 0 → IsNotCreated version result (end_of file.old) (end_of file.new) × (end_of phase.new ≡ end_of phase.old) }
 {
     let format = match version {
         1 => Format::One,
