@@ -11,12 +11,24 @@ TOP = os.path.dirname(os.path.dirname(os.path.realpath(__file__)))
 BYTES_OF_A_PROOF = 4 << 30
 
 
-def lanes():
-    """How many crates `rt ci` is to prove side by side (its RT_JOBS): one a processor, as far as the memory goes. By itself it
-    gives a crate several jobs where no others are ready, and two took a fifth more of the processors than one."""
+def as_memory_allows(count):
+    """So many, or as few as there is free memory for."""
     with open("/proc/meminfo", encoding="utf-8") as file:
         free = 1024 * int(re.search(r"MemAvailable:\s+(\d+)", file.read())[1])
-    return max(1, min(len(os.sched_getaffinity(0)), free // BYTES_OF_A_PROOF))
+    return max(1, min(count, free // BYTES_OF_A_PROOF))
+
+
+def lanes():
+    """How many crates `rt ci` is to prove side by side (its RT_JOBS): one a processor. By itself it gives a crate several jobs
+    where no others are ready, and two took a fifth more of the processors than one."""
+    return as_memory_allows(len(os.sched_getaffinity(0)))
+
+
+def lanes_of_gate():
+    """The same for the gate: half as many, and two where there are two. Proofs wait for memory: on 4 processors the same proof
+    took a tenth more of its processor beside one other, and half as much more beside three."""
+    processors = len(os.sched_getaffinity(0))
+    return as_memory_allows(max(min(processors, 2), processors // 2))
 
 
 def lines_of_crates():

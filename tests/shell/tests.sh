@@ -213,6 +213,26 @@ the_gate_and_the_tests_are_counted_together() (
     [ "$(tail -n 1 "$out")" = '2 passed, 0 failed' ]
 )
 
+# So many processors, and so many GiB of free memory, seem to be there.
+lanes_of_gate_on() {
+    cat >"$work/sitecustomize.py" <<PY
+import builtins, io, os
+os.sched_getaffinity = lambda _: set(range($1))
+builtins.open = lambda *_, **__: io.StringIO("MemAvailable: $(($2 << 20)) kB\n")
+PY
+    PYTHONPATH=$work "$top/tools/lanes"
+}
+
+the_gate_proves_half_as_many_crates_at_once_as_there_are_processors() (
+    [ "$(lanes_of_gate_on 1 64)" -eq 1 ]
+    [ "$(lanes_of_gate_on 2 64)" -eq 2 ]
+    [ "$(lanes_of_gate_on 3 64)" -eq 2 ]
+    [ "$(lanes_of_gate_on 4 64)" -eq 2 ]
+    [ "$(lanes_of_gate_on 8 64)" -eq 4 ]
+    [ "$(lanes_of_gate_on 8 9)" -eq 2 ]
+    [ "$(lanes_of_gate_on 8 1)" -eq 1 ]
+)
+
 # Under `set -e` neither `! this` ends a test nor any part of `this && that` but the last.
 each_check_of_a_test_can_fail() (
     check='(\[|!|grep|cmp|diff|tells|kill|[a-z_]+=\$)'
