@@ -86,17 +86,25 @@ fn fill<E: Threads + Wait + Sync>(
     Ok(())
 }
 
-/// Runs the pool, in a phase without a file, and reads what it collected by one more seat.
+/// Runs the pool in a phase, and reads what it collected by one more seat.
+fn collect_in<E: Threads + Wait + Sync>(
+    rt: &E,
+    alloc: Global,
+    live: &Live<Pair>,
+    mut seats: Vec<Seat<Pair>>,
+) -> Result<(u64, Pair), Fault>
+    requires { AreNewSeats live.now.directory live.now.mark seats.items }
+{
+    let mut reader = live.take_seat(&mut seats).ok_or(Fault::Memory)?;
+    fill(rt, alloc, live, seats)?;
+    longest(live, &mut reader)
+}
+
+/// Collects in a phase without a file.
 fn collect<E: Threads + Wait + Sync>(rt: &E, alloc: Global) -> Result<(u64, Pair), Fault> {
     let room = (THREADS as u64).saturating_mul(SHARE.div_ceil(BLOCK));
-    let Begun {
-        live,
-        mut seats,
-        ..
-    } = Live::begin(alloc, Vec::new(alloc), room, THREADS + 1)?;
-    let mut reader = live.take_seat(&mut seats).ok_or(Fault::Memory)?;
-    fill(rt, alloc, &live, seats)?;
-    longest(&live, &mut reader)
+    let Begun { live, seats, .. } = Live::begin(alloc, Vec::new(alloc), room, THREADS + 1)?;
+    collect_in(rt, alloc, &live, seats)
 }
 
 /// Writes how many results there are, and the one with the most steps.

@@ -63,16 +63,31 @@ fn blocks_of(alloc: Global, text: &str, grower: u32) -> Result<Vec<Vec<Pair>>, F
     Ok(blocks)
 }
 
-/// A vault in memory with all postings, in whichever order the growers came.
-fn index<E: Threads + Wait + Sync>(rt: &E, alloc: Global, text: &str) -> Result<Index, Fault> {
+/// The postings that each grower is to gather.
+fn lists_of(alloc: Global, text: &str) -> Result<Vec<Vec<Vec<Pair>>>, Fault> {
     let mut lists = Vec::new(alloc);
     for grower in 0..GROWERS {
         lists.push(blocks_of(alloc, text, grower)?)?;
     }
+    Ok(lists)
+}
+
+/// A vault in memory with all postings of these lists, in whichever order the growers came.
+fn index_of<E: Threads + Wait + Sync>(
+    rt: &E,
+    alloc: Global,
+    lists: &[Vec<Vec<Pair>>],
+) -> Result<Index, Fault> {
+    let source = Lists::try_new(lists).ok_or(Fault::Memory)?;
     let vault = Vault::create_as(alloc, RamDisk::new(alloc), Format::Two)?;
-    let source = Lists::try_new(lists.as_slice()).ok_or(Fault::Memory)?;
     let crewed = crew(rt, alloc, vault, &source, &OpenGate)?;
     Ok(crewed.vault)
+}
+
+/// The same of the words of a text.
+fn index<E: Threads + Wait + Sync>(rt: &E, alloc: Global, text: &str) -> Result<Index, Fault> {
+    let lists = lists_of(alloc, text)?;
+    index_of(rt, alloc, lists.as_slice())
 }
 
 /// The lines that have the word, ascending, each once.
@@ -88,6 +103,34 @@ fn lines_with(alloc: Global, index: &Index, word: &PostingsOf) -> Result<Vec<i64
     Ok(lines)
 }
 
+/// Writes how often a word stands in the text, and in which lines.
+fn tell_word<E: Threads + Wait + Print + Sync>(
+    rt: &E,
+    alloc: Global,
+    index: &Index,
+    text: &str,
+) -> io::Result<()> {
+    let word = PostingsOf(number_of(text));
+    let count = index.count_where(rt, &word);
+    match lines_with(alloc, index, &word) {
+        Ok(lines) => println!(rt; "{text}: {count} times, in lines {lines:?}"),
+        Err(fault) => println!(rt; "{fault}"),
+    }
+}
+
+/// Writes the same of each word.
+fn tell_each<E: Threads + Wait + Print + Sync>(
+    rt: &E,
+    alloc: Global,
+    index: &Index,
+    words: &[String],
+) -> io::Result<()> {
+    for word in words {
+        tell_word(rt, alloc, index, word.as_str())?;
+    }
+    Ok(())
+}
+
 /// Writes how often each word stands in the text, and in which lines.
 pub fn tell<E: Threads + Wait + Print + Sync>(
     rt: &E,
@@ -95,17 +138,8 @@ pub fn tell<E: Threads + Wait + Print + Sync>(
     text: &str,
     words: &[String],
 ) -> io::Result<()> {
-    let index = match index(rt, alloc, text) {
-        Ok(index) => index,
-        Err(fault) => return println!(rt; "{fault}"),
-    };
-    for text in words {
-        let word = PostingsOf(number_of(text.as_str()));
-        let count = index.count_where(rt, &word);
-        match lines_with(alloc, &index, &word) {
-            Ok(lines) => println!(rt; "{text}: {count} times, in lines {lines:?}")?,
-            Err(fault) => println!(rt; "{fault}")?,
-        }
+    match index(rt, alloc, text) {
+        Ok(index) => tell_each(rt, alloc, &index, words),
+        Err(fault) => println!(rt; "{fault}"),
     }
-    Ok(())
 }

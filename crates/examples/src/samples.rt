@@ -133,8 +133,20 @@ fn serve<E: Threads + Wait + Sync, D: Disk + Drop>(
     )
 }
 
-/// Opens the store, appends to it, and has it back. How many samples were there, and how many batches are new in it, of which
-/// each stood among whole ones.
+/// Lets the sensors append to the store, and has it back.
+fn grow_store<E: Threads + Wait + Sync, D: Disk + Drop>(
+    rt: &E,
+    alloc: Global,
+    store: Vault<Pair, D>,
+    whole: &AtomicU64,
+) -> Result<Vault<Pair, D>, Fault> {
+    let (live, flusher, seats) = store.share(GROWTH_LIMIT, SENSORS)?;
+    let (seats, flusher) = serve(rt, &live, flusher, seats, whole)?;
+    Ok(gather(alloc, live, seats, flusher)?)
+}
+
+/// Opens the store and appends to it. How many samples were there, and how many batches are new in it, of which each stood
+/// among whole ones.
 fn grow<E: Threads + Wait + Sync, D: Disk + Drop>(
     rt: &E,
     alloc: Global,
@@ -143,9 +155,7 @@ fn grow<E: Threads + Wait + Sync, D: Disk + Drop>(
     let store = open(alloc, disk)?;
     let before = store.len();
     let whole = AtomicU64::new(0);
-    let (live, flusher, seats) = store.share(GROWTH_LIMIT, SENSORS)?;
-    let (seats, flusher) = serve(rt, &live, flusher, seats, &whole)?;
-    let store = gather(alloc, live, seats, flusher)?;
+    let store = grow_store(rt, alloc, store, &whole)?;
     let new = store.len().saturating_sub(before) / BATCH;
     Ok((before, new.min(whole.load(SeqCst))))
 }

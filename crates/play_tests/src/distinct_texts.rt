@@ -45,10 +45,10 @@ impl DistinctTexts {
     /// Counts the answers of steps.
     pub fn add_answers<R: TextRecord>(
         &mut self,
-        answers: Vec<Answer<R>>,
+        answers: &[Answer<R>],
         from: usize,
     ) -> io::Result<()> {
-        for answer in answers.as_slice().get(from..).unwrap_or(&[]) {
+        for answer in answers.get(from..).unwrap_or(&[]) {
             let mut text = Vec::new(self.alloc);
             write_answers(&mut text, std::slice::from_ref(answer))?;
             text.pop();

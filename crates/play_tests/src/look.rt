@@ -84,6 +84,28 @@ fn are_either<R: TextRecord>(
     Ok(true)
 }
 
+/// The steps that resize a file up to that list, whose last record is the blank one.
+fn steps_up_to<R: TextRecord>(alloc: Global, longer: &[R]) -> io::Result<Vec<Step<R>>> {
+    let mut steps = Vec::new(alloc);
+    steps.push(Step::Open)?;
+    steps.push(Step::Resize(longer.len() as u64, R::blank()))?;
+    Ok(steps)
+}
+
+/// What these steps leave of an image on a disk that stops behind so many calls, and whether all of them were made.
+fn stopped_on<R: TextRecord, E: Threads + Wait + Sync>(
+    alloc: Global,
+    rt: &E,
+    image: &[u8],
+    steps: &[Step<R>],
+    calls: u64,
+) -> io::Result<(RamDisk, bool)> {
+    let disk = RamDisk::from_bytes(alloc, copied(alloc, image)?);
+    let left = driven(alloc, rt, FuseDisk::new(disk, calls, Blow::Stop), steps)?;
+    let settled = matches!(left.answers.last(), Some(Answer::Fine));
+    Ok((left.disk.into_inner(), settled))
+}
+
 /// Whether an image is resized up by a record on a disk that stops at each call of that, with no record lost.
 fn goes_on<R: TextRecord, E: Threads + Wait + Sync>(
     alloc: Global,
@@ -91,22 +113,11 @@ fn goes_on<R: TextRecord, E: Threads + Wait + Sync>(
     image: &[u8],
     list: &[R],
 ) -> io::Result<bool> {
-    let added = R::blank();
     let mut longer = Vec::from_slice(alloc, list)?;
-    longer.push(added)?;
-    let mut steps = Vec::new(alloc);
-    steps.push(Step::Open)?;
-    steps.push(Step::Resize(longer.len() as u64, added))?;
+    longer.push(R::blank())?;
+    let steps = steps_up_to(alloc, longer.as_slice())?;
     for calls in 0..=RESIZE_CALLS {
-        let disk = RamDisk::from_bytes(alloc, copied(alloc, image)?);
-        let left = driven(
-            alloc,
-            rt,
-            FuseDisk::new(disk, calls, Blow::Stop),
-            steps.as_slice(),
-        )?;
-        let settled = matches!(left.answers.last(), Some(Answer::Fine));
-        let disk = left.disk.into_inner();
+        let (disk, settled) = stopped_on(alloc, rt, image, steps.as_slice(), calls)?;
         let kept = are_either(alloc, &disk, list, longer.as_slice(), settled)?;
         if !kept || settled != (calls == RESIZE_CALLS) {
             return Ok(false);

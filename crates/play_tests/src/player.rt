@@ -7,7 +7,7 @@ use crate::repeat::step_in;
 use crate::upgrading::{texts_of_new, texts_of_old, upgrade_onto};
 use crate::words::{last_number, next_number, next_word};
 use disk_core::{Blow, Choice, FuseDisk, ImageLength, PendingBytes, RamDisk};
-use drive_core::{Driven, Step};
+use drive_core::{Answer, Driven, Step};
 use hex::FromHex;
 use play_core::{Asked, read_step_line};
 use std::alloc::Global;
@@ -83,7 +83,7 @@ impl<R: TextRecord> Player<R> {
             .iter()
             .fold(0u64, |sum, calls| sum.saturating_add(*calls));
         let mut texts = DistinctTexts::new(self.alloc);
-        texts.add_answers(answers, from)?;
+        texts.add_answers(answers.as_slice(), from)?;
         texts.write(BAR, out)
     }
 
@@ -176,6 +176,17 @@ impl<R: TextRecord> Player<R> {
         driven(self.alloc, rt, disk, self.steps.as_slice())
     }
 
+    /// What all steps leave on a disk that stops or fails.
+    fn left_on<E: Threads + Wait + Sync>(
+        &self,
+        rt: &E,
+        calls: u64,
+        blow: Blow,
+    ) -> io::Result<RamDisk> {
+        let left = self.driven_on(rt, calls, blow)?;
+        Ok(left.disk.into_inner())
+    }
+
     /// Writes what all steps leave on a disk that stops or fails: the lists of its images.
     fn write_cut<E: Threads + Wait + Sync>(
         &mut self,
@@ -185,13 +196,23 @@ impl<R: TextRecord> Player<R> {
     ) -> io::Result<()> {
         let mut texts = DistinctTexts::new(self.alloc);
         for calls in cut.first..=cut.last {
-            let left = self.driven_on(rt, calls, cut.blow)?;
+            let disk = self.left_on(rt, calls, cut.blow)?;
             let mut lists = Vec::new(self.alloc);
-            self.looks
-                .write::<R, E>(rt, &left.disk.into_inner(), &mut lists)?;
+            self.looks.write::<R, E>(rt, &disk, &mut lists)?;
             texts.add(lists)?;
         }
         texts.write_one(out)
+    }
+
+    /// What all steps are answered on a disk that stops or fails.
+    fn told_on<E: Threads + Wait + Sync>(
+        &self,
+        rt: &E,
+        calls: u64,
+        blow: Blow,
+    ) -> io::Result<Vec<u8>> {
+        let left = self.driven_on(rt, calls, blow)?;
+        text_of_answers(self.alloc, left.answers.as_slice())
     }
 
     /// Writes what all steps are answered on a disk that stops or fails.
@@ -203,12 +224,7 @@ impl<R: TextRecord> Player<R> {
     ) -> io::Result<()> {
         let mut texts = DistinctTexts::new(self.alloc);
         for calls in cut.first..=cut.last {
-            let left = self.driven_on(rt, calls, cut.blow)?;
-            let mut answers = DistinctTexts::new(self.alloc);
-            answers.add_answers(left.answers, 0)?;
-            let mut text = Vec::new(self.alloc);
-            answers.write(BAR, &mut text)?;
-            texts.add(text)?;
+            texts.add(self.told_on(rt, calls, cut.blow)?)?;
         }
         texts.write_one(out)
     }
@@ -327,6 +343,15 @@ impl<R: TextRecord> Player<R> {
             _ => self.step(rt, line, out),
         }
     }
+}
+
+/// The texts of answers, and how often each has come.
+fn text_of_answers<R: TextRecord>(alloc: Global, answers: &[Answer<R>]) -> io::Result<Vec<u8>> {
+    let mut texts = DistinctTexts::new(alloc);
+    texts.add_answers(answers, 0)?;
+    let mut text = Vec::new(alloc);
+    texts.write(BAR, &mut text)?;
+    Ok(text)
 }
 
 /// Answers a line that is none of those of a script.
