@@ -1,6 +1,6 @@
 //! What C has of a vector.
 
-ghost use Rattle.std.specs.Prelude.{◌≡◌, true, false, None, Some, IsSome, MatchBool, MatchOption};
+ghost use Rattle.std.specs.Prelude.{◌≡◌, true, false, None, Some, IsSome, IfSome, MatchBool, MatchOption};
 
 use crate::kept::Kept;
 use crate::session::{End, Session};
@@ -47,17 +47,31 @@ impl Handle {
         };
     }
 
+    /// Gives up what the handle has.
+    fn clear(&mut self, alloc: Global)
+        ensures { end_of self.new ≡ None }
+    {
+        drop(self.take(alloc));
+    }
+
     /// Puts a new end into the handle. What it had is given up. It has nothing where memory for it was refused.
     pub fn fill(&mut self, alloc: Global, end: End) -> bool
         ensures { MatchBool result (end_of self.new ≡ Some end) (end_of self.new ≡ None) }
     {
-        drop(self.take(alloc));
-        match Box::new(alloc, Session { end }) {
-            Ok(session) => {
+        self.clear(alloc);
+        match boxed(alloc, end) {
+            Some(session) => {
                 self.put(session);
                 true
             }
-            Err(_) => false,
+            None => false,
         }
     }
+}
+
+/// A session of an end. `None` where memory for it was refused.
+fn boxed(alloc: Global, end: End) -> Option<Box<Session>>
+    ensures { IfSome result (λ session. session.value.end ≡ end) }
+{
+    Box::new(alloc, Session { end }).ok()
 }
