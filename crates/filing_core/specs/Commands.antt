@@ -202,12 +202,13 @@ module _ {R : Type 0} (form : Encoding R) (old new : Option (List ℕ)) (filed :
       × EndsAs (NoneLive KeepsSoFar states_of left) (λ _. Unit {0}) ended × (faults_of left ≡ faults_of disk + failed_folding ended)
       × WritesAnswer old new (IsFolded form (KeepsSoFar left) (bytes_of (states_of disk))) ended)
 
-  -- `load`: the growths of the input's lines, by so many growers
+  -- `load`: the growths of the input's lines, by so many growers; the complaint tells what phases have settled
   abbrev pub IsLoadRun : Spelling R → Option (List ℕ) → ℕ → Type 0
-  IsLoadRun spelling input growers =
-      IsOverFile (IsNoInput spelling form.width input) (λ disk left ended. (growths : List (List R)) × AreInputGrowths spelling form.width input growths
-      × EndsAs ((size : ℕ) × IsLoaded form KeepsSoFar states_of growths growers disk left size) (IsLoadRefusal form KeepsSoFar states_of faults_of growths growers disk left) ended
-      × WritesAnswer old new (λ text. (size : ℕ) × IsLoaded form KeepsSoFar states_of growths growers disk left size × (text ≡ loaded_line (length growths) size)) ended)
+  IsLoadRun spelling input growers = IsRefusedBefore old new filed (IsNoInput spelling form.width input)
+      ⊎ (IsLeftUnopened old new filed roles.File ⊎ ((appended : Appended) × IsEngineDone filed (IsAppendComplaint form appended) (λ disk left ended.
+      (growths : List (List R)) × AreInputGrowths spelling form.width input growths
+      × EndsAs (IsLoaded form KeepsSoFar states_of growths growers disk left appended) (IsLoadRefusal form KeepsSoFar states_of faults_of growths growers disk left appended) ended
+      × WritesText old new (loaded_line appended.growths appended.size) ended)))
 
   -- `append`: growths of so many lines of the input each; the complaint tells what was settled
   abbrev pub IsAppendRun : Spelling R → Option (List ℕ) → ℕ → Type 0

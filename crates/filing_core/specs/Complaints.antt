@@ -78,7 +78,7 @@ IsComplaintOf form left fault (complaints.Fault told) = told ≡ fault
 IsComplaintOf form left fault (complaints.Damaged sound told) = (told ≡ fault) × IsSoundOn form left fault sound
 IsComplaintOf form left fault other = ⊥
 
--- the complaint of `append` has also what was settled, where the file was opened
+-- the complaint of `append` or `load` has also what was settled, where the file was opened
 abbrev pub IsAppendComplaint : {R : Type 0} → Encoding R → Appended → Disk → FileFault → Complaint → Type 0
 IsAppendComplaint form appended left (Open fault) complaint = IsComplaintOf form left (Open fault) complaint
 IsAppendComplaint form appended left fault complaint = complaint ≡ complaints.Appended appended fault

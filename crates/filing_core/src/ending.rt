@@ -57,7 +57,7 @@ pub fn status_on<R: TextRecord>(
     }
 }
 
-/// How `append` ended whose engine gave its disk back so.
+/// How `append` or `load` ended whose engine gave its disk back so.
 pub fn status_of_append<R: TextRecord>(
     alloc: Global,
     disk: FileDisk,

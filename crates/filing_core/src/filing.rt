@@ -76,10 +76,10 @@ impl<'a, F: Files<File = File> + Clock + AllocGlobal, P: Progress + Sync> Filing
         let growths = read_growth_lines::<R, I>(self.alloc, reader, shown)?;
         let Opened { disk, lock: _lock } = self.open(Access::Writes)?;
         let gate = CountingGate::new(self.progress, growths.count() as u64);
-        let (disk, ended) = load::<R, S, FileDisk, W, CountingGate<'_, P>, E>(
+        let (disk, appended, ended) = load::<R, S, FileDisk, W, CountingGate<'_, P>, E>(
             rt, self.alloc, disk, growths, seats, &gate, writer,
         );
-        status_on::<R>(self.alloc, disk, ended)
+        status_of_append::<R>(self.alloc, disk, appended, ended)
     }
 
     fn append<R: TextRecord + OpensToWrite, I: Read, W: Write>(

@@ -4,7 +4,6 @@ use Rattle.std.specs.Global.{Vec}
 use Rattle.std.proofs.lemmas.List.{length-map}
 use Rattle.record_core.specs.Bytes.{Encoding}
 use Rattle.disk_core.specs.State.{State}
-use Rattle.disk_core.specs.Calls.{bytes_of}
 use Rattle.block_core.specs.Growth.{Growth}
 use Rattle.directory_core.specs.Chain.{grown_records}
 use Rattle.book_core.specs.declared.seat.Receipt.{Receipt}
@@ -19,14 +18,12 @@ use Rattle.vault_core.specs.Vault.{VaultOf, list_of}
 use Rattle.crew_core.specs.Crewing.{HasCrewed, IsCrewFault, IsReason, crew_room, receipt_of}
 use Rattle.crew_core.specs.declared.crewing.CrewFault.{CrewFault}
 use Rattle.crew_core.specs.declared.crewing.CrewFault.TheVariants as crew_faults
+use Rattle.load_core.proofs.Rooms.{any_room, slice_room}
 use Rattle.load_core.specs.Dealt.{count_for, dealt}
 use Rattle.files_core.specs.declared.fault.FileFault.{FileFault}
 use Rattle.files_core.specs.declared.fault.Stopped.{Stopped}
-use Rattle.files_core.specs.declared.fault.FileFault.TheVariants as faults
 use Rattle.files_core.specs.declared.fault.FileFault.TheVariants.{Grower as by_grower}
-use Rattle.load_core.specs.Loading.{AreDealt, AreDealtBy, AllMade, StandBehind, Appends, IsFirstStop, IsGivenUp, IsGrowthStop, IsLoaded, IsLoadRefusal, IsStopOf, line_behind}
-use Rattle.files_core.specs.Opened.{IsOpenedOn, LeavesBeforeOr}
-use Rattle.files_core.proofs.Opened.{opened_list, opened_alone, opened_then}
+use Rattle.load_core.specs.Loading.{AreDealt, AreDealtBy, AllMade, IsSlice, StandBehind, IsFirstStop, IsGivenUp, IsGrowthStop, IsStopOf, line_behind}
 
 some_of : {X Y : Type 0} (f : X → Y) (xs : List X) (k : ℕ) (y : Y) → slice_get (map f xs) k ≡ Some y → (x : X) × (slice_get xs k ≡ Some x) × (f x ≡ y)
 some_of f [] k y there = cc there
@@ -83,13 +80,13 @@ module _ {R D : Type 0} (form : Encoding R) (keeps : D → Type 0) (states : D �
         let same : its ≡ there.0 = one_some (sym at ∙ there.1) in
         ap (λ (v : Vec Receipt). length v.items) same ∙ ap length there.2 ∙ length-map own (receipt_of (length (list_of old)))
 
-    pub stopped_as : (stopped : Stopped) → stopped.size ≡ length (list_of new)
-        → IsFirstStop growers (count_for (length growths) growers) receipts faults stopped → IsStopOf form.width growths growers crewed.0 stopped
-    stopped_as stopped size stop =
+    pub stopped_as : (before : ℕ) (stopped : Stopped) → stopped.size ≡ length (list_of new)
+        → IsFirstStop before growers (count_for (length growths) growers) receipts faults stopped → IsStopOf form.width before growths growers crewed.0 stopped
+    stopped_as before stopped size stop =
         let long = own_long stopped.grower stop.its stop.inside stop.its_are in
         record {
           inside = stop.inside;
-          line_is = stop.line_is ∙ ap (line_behind growers stopped.grower) long;
+          line_is = stop.line_is ∙ ap (line_behind before growers stopped.grower) long;
           why = elim stop.why [
             | inl has ↦ subst
                 (λ n. IsReason form.width (crew_room (count_for (length growths) growers) growers) n
@@ -135,34 +132,38 @@ module _ {R D : Type 0} (form : Encoding R) (keeps : D → Type 0) (states : D �
           ap list_of has.0 ∙ own.1.list_is,
         )
 
-    pub dealt_stopped : {X : Type 0} (left : X → D) (told : X → FileFault) (may_stop : ℕ → ℕ → Type 0) (new : VaultOf R D)
+    pub dealt_stopped : {X : Type 0} (before : ℕ) (left : X → D) (told : X → FileFault) (may_stop : ℕ → ℕ → Type 0) (new : VaultOf R D)
         (receipts : List (Vec Receipt)) (faults : List (Option GrowFault))
         → HasCrewed form keeps states count block may_stop of old new (map (λ its. its.items) receipts) faults
         → (result : Result (VaultOf R D) X) → IfErr result (λ r. (left r ≡ new.pen.disk) × ((stopped : Stopped) × (told r ≡ by_grower stopped)
-        × (stopped.size ≡ length (list_of new)) × IsFirstStop of count receipts faults stopped))
-        → IfErr result (λ r. IsGrowthStop form keeps states growths growers old (left r) (told r))
-    dealt_stopped left told may_stop new receipts faults crewed (Ok w) has = has
-    dealt_stopped left told may_stop new receipts faults crewed (Err r) has =
+        × (stopped.size ≡ length (list_of new)) × IsFirstStop before of count receipts faults stopped))
+        → IfErr result (λ r. IsGrowthStop form keeps states before growths growers old (left r) (told r))
+    dealt_stopped before left told may_stop new receipts faults crewed (Ok w) has = has
+    dealt_stopped before left told may_stop new receipts faults crewed (Err r) has =
         let own = dealt_crewed may_stop new (map (λ its. its.items) receipts) faults crewed in
         let stopped = has.1.0 in
-        let first : IsFirstStop growers (count_for (length growths) growers) receipts faults stopped =
-        subst (λ n. IsFirstStop n (count_for (length growths) growers) receipts faults stopped) so.growers_are
-        (subst (λ (c : ℕ → ℕ). IsFirstStop of c receipts faults stopped) so.counts_are has.1.3) in
-        subst (IsGrowthStop form keeps states growths growers old (left r)) (sym has.1.1) (
+        let first : IsFirstStop before growers (count_for (length growths) growers) receipts faults stopped =
+        subst (λ n. IsFirstStop before n (count_for (length growths) growers) receipts faults stopped) so.growers_are
+        (subst (λ (c : ℕ → ℕ). IsFirstStop before of c receipts faults stopped) so.counts_are has.1.3) in
+        subst (IsGrowthStop form keeps states before growths growers old (left r)) (sym has.1.1) (
           own.0,
           are_dealt may_stop growths growers old new receipts faults own,
           stand_behind may_stop growths growers old new receipts faults own (left r) has.0,
           size_is may_stop growths growers old new receipts faults own stopped.size has.1.2,
-          stopped_as may_stop growths growers old new receipts faults own stopped has.1.2 first,
+          stopped_as may_stop growths growers old new receipts faults own before stopped has.1.2 first,
         )
 
-    pub dealt_given_up : (fault : CrewFault R D) (left : D) (told : FileFault) → IsCrewFault form keeps states old (crew_room count of) of fault → IsGivenUp fault left told
-        → IsGrowthStop form keeps states growths growers old left told
-    dealt_given_up (crew_faults.Share back fault) left told refused gives =
-        subst (IsGrowthStop form keeps states growths growers old left) (sym gives.1)
-        (inl (gives.0 ∙ ap (λ v. v.pen.disk) refused.0, inr (share_as old _ _ _ _ fault so.counts_are so.growers_are refused.1)))
-    dealt_given_up (crew_faults.Gather g) left told refused gives =
-        subst (IsGrowthStop form keeps states growths growers old left) (sym gives.1) (inr (
+    pub dealt_given_up : (before : ℕ) → IsSlice growers growths → (fault : CrewFault R D) (left : D) (told : FileFault)
+        → IsCrewFault form keeps states old (crew_room count of) of fault → IsGivenUp fault left told
+        → IsGrowthStop form keeps states before growths growers old left told
+    dealt_given_up before slice (crew_faults.Share back fault) left told refused gives =
+        subst (IsGrowthStop form keeps states before growths growers old left) (sym gives.1) (inl (
+          gives.0 ∙ ap (λ v. v.pen.disk) refused.0,
+          inr (any_room old (crew_room (count_for (length growths) growers) growers) growers fault (omega arith) (slice_room (length growths) growers slice)
+              (share_as old _ _ _ _ fault so.counts_are so.growers_are refused.1)),
+        ))
+    dealt_given_up before slice (crew_faults.Gather g) left told refused gives =
+        subst (IsGrowthStop form keeps states before growths growers old left) (sym gives.1) (inr (
           g.flusher.pass.entries,
           record {
             live = g.live;
@@ -179,56 +180,3 @@ module _ {R D : Type 0} (form : Encoding R) (keeps : D → Type 0) (states : D �
               let own = subst keeps gives.0 model in
               (refused.4 own, subst (λ d. LeavesOnly (states old.pen.disk) (states d) (OpensToGrown form (list_of old) g.flusher.pass.entries)) (sym gives.0) (refused.7 own)),
         ))
-
-  -- the growths stand behind the list of the file that was opened
-  pub appended_to : {failures : D → ℕ} (disk left : D) (v : VaultOf R D) (made : List (Growth R)) → IsOpenedOn form keeps states failures disk v
-      → StandBehind form keeps states v left made → keeps left → Appends form states disk left (list_of v) made
-  appended_to disk left v made opened stands model =
-      let before = stands.model model in
-      record {
-        file = opened_list form (bytes_of (states disk)) v.pen (list_of v) (opened.opened before);
-        images = opened_then (states disk) (states v.pen.disk) (states left) (OpensToGrown form (list_of v) made) (opened.only_syncs before) (stands.images model);
-        settled = stands.settled model;
-      }
-
-  pub loaded_by : {failures : D → ℕ} (growths : List (List R)) (growers : ℕ) (disk left : D) (v w : VaultOf R D) → IsOpenedOn form keeps states failures disk v → left ≡ w.pen.disk
-      → (made : List (Growth R)) × AreDealt growths growers made × AllMade growths growers made × StandBehind form keeps states v w.pen.disk made × (list_of w ≡ list_of v ++ grown_records made)
-      → IsLoaded form keeps states growths growers disk left (length (list_of w))
-  loaded_by growths growers disk left v w opened same grown = record {
-    was = list_of v;
-    made = grown.0;
-    dealt_are = grown.1;
-    all = grown.2;
-    stands = λ model. appended_to disk left v grown.0 opened (subst (λ d. StandBehind form keeps states v d grown.0) (sym same) grown.3) model;
-    size_is = ap length grown.4;
-  }
-
-  pub refused_by : {failures : D → ℕ} (growths : List (List R)) (growers : ℕ) (disk left : D) (v : VaultOf R D)
-      → IsOpenedOn form keeps states failures disk v → (fault : FileFault) → IsGrowthStop form keeps states growths growers v left fault
-      → IsLoadRefusal form keeps states failures growths growers disk left fault
-  refused_by growths growers disk left v opened (faults.Vault fault) (inl (same, why)) = (
-    list_of v,
-    [],
-    (λ model.
-        let before = subst keeps same model in (
-          opened_list form (bytes_of (states disk)) v.pen (list_of v) (opened.opened before),
-          subst (λ d. LeavesBeforeOr (states disk) (states d) (OpensToGrown form (list_of v) [])) (sym same)
-              (opened_alone (states disk) (states v.pen.disk) (OpensToGrown form (list_of v) []) (opened.only_syncs before)),
-        )),
-    inl (v, opened, same, why),
-  )
-  refused_by growths growers disk left v opened (faults.Vault fault) (inr some) = (
-    list_of v,
-    some.0,
-    (λ model.
-        let both = some.2 model in (
-          opened_list form (bytes_of (states disk)) v.pen (list_of v) (opened.opened both.0),
-          opened_then (states disk) (states v.pen.disk) (states left) (OpensToGrown form (list_of v) some.0) (opened.only_syncs both.0) both.1,
-        )),
-    inr some.1,
-  )
-  refused_by growths growers disk left v opened (faults.Grower stopped) stop = (list_of v, stop.0, stop.1, (λ model. appended_to disk left v stop.0 opened stop.2 model), stop.3, stop.4)
-  refused_by growths growers disk left v opened (faults.Open fault) stop = absurd stop
-  refused_by growths growers disk left v opened (faults.Word word) stop = absurd stop
-  refused_by growths growers disk left v opened (faults.Input refusal) stop = absurd stop
-  refused_by growths growers disk left v opened (faults.Upgrade fault) stop = absurd stop

@@ -1,5 +1,8 @@
 pub mod Stops
+pub mod Slices
+pub mod Rooms
 pub mod Crewed
+pub mod Phases
 pub mod OneGrower
 pub mod Rows
 pub mod PenOver

@@ -1,14 +1,15 @@
 -- The growths of one grower, to which all are dealt.
 use Rattle.std.proofs.Common.{◌≡◌, ℕ, zero, suc, ◌+◌, ◌*◌, ◌<◌, ◌≤◌, Bool, List, []}
-use Rattle.std.proofs.Common.{◌∷◌, length, map, take, get_or, slice_get, All, Some, refl, sym, ap, ◌∙◌, arith}
+use Rattle.std.proofs.Common.{◌∷◌, ◌++◌, length, map, take, get_or, slice_get, All, Some, refl, sym, ap, ◌∙◌, arith}
 use Rattle.std.specs.Prelude.{cond}
 use Rattle.std.proofs.lemmas.Bool.{eq-eqb}
-use Rattle.std.proofs.lemmas.List.{take_all}
+use Rattle.std.proofs.lemmas.List.{map-append, take-append-drop, take_all}
 use Rattle.std.proofs.lemmas.List.Elements.{All-head, All-tail}
 use Rattle.block_core.specs.Growth.{Growth}
 use Rattle.book_core.specs.Lists.{own_of}
-use Rattle.load_core.specs.Dealt.{count_for, dealt}
-use Rattle.load_core.specs.Loading.{AreDealt, AllMade}
+use Rattle.segment_core.specs.Written.{joined}
+use Rattle.load_core.specs.Dealt.{behind_slice, count_for, dealt, slice_limit, slice_of}
+use Rattle.load_core.specs.Loading.{AreDealt, AreMadeBy, AllMade}
 
 -- the records of each growth
 abbrev pub each_records : {R : Type 0} → List (Growth R) → List (List R)
@@ -48,3 +49,12 @@ pub all_dealt : {R : Type 0} (growths : List (List R)) (made : List (Growth R)) 
 all_dealt growths made dealt all =
     let many : length made ≡ length growths = ap length (sym (own_first made dealt.by_growers)) ∙ all 0 (omega arith) ∙ all_for_one (length growths) in
     dealt_first growths made dealt (omega (arith, many)) ∙ take_all (length made) growths (omega (arith, many))
+
+-- and all that its phases have made have the records of all, in order
+pub all_in_phases : {R : Type 0} (growths : List (List R)) (phases : List (List (Growth R))) → AreMadeBy 1 growths phases [] → each_records (joined phases) ≡ growths
+all_in_phases growths [] so = so
+all_in_phases {R} growths (made ∷ phases) so =
+    map-append (λ (growth : Growth R). growth.records) made (joined phases)
+    ∙ ap (λ (gs : List (List R)). gs ++ each_records (joined phases)) (all_dealt (slice_of 1 growths) made so.0 so.1)
+    ∙ ap (λ (gs : List (List R)). slice_of 1 growths ++ gs) (all_in_phases (behind_slice 1 growths) phases so.2)
+    ∙ take-append-drop (slice_limit 1) growths

@@ -7,6 +7,7 @@ at_place [] k x inside is = absurd (omega (arith, inside))
 at_place (y ∷ xs) zero x inside is = ap Some (sym is)
 at_place (y ∷ xs) (suc k) x inside is = at_place xs k x (omega (arith, inside)) is
 
--- a product that saturates, and a sum of it that does
-pub saturated : (most product same more times plus : ℕ) → product ≡ same → times ≡ min product most → plus ≡ min (times + more) most → plus ≡ min most (same + more)
-saturated most product same more times plus is first then = omega arith
+-- a product that saturates, and two sums of it that do
+pub saturated : (most product same more before times plus all : ℕ) → product ≡ same → times ≡ min product most → plus ≡ min (times + more) most → all ≡ min (plus + before) most
+    → all ≡ min most (before + (same + more))
+saturated most product same more before times plus all is first then last = omega arith

@@ -3,8 +3,8 @@ use Rattle.std.proofs.Common.{◌≡◌, ℕ, zero, suc, ◌-◌, ◌*◌, ◌^�
 use Rattle.block_core.specs.Growth.{Growth}
 use Rattle.files_core.specs.declared.appended.Appended.{Appended}
 use Rattle.load_core.specs.Appending.{AreOfBlocks}
-use Rattle.load_core.specs.Dealt.{count_for, dealt}
-use Rattle.load_core.specs.Loading.{AllMade, AreDealt}
+use Rattle.load_core.specs.Dealt.{behind_slice, count_for, dealt, slice_limit, slice_of}
+use Rattle.load_core.specs.Loading.{AllMade, AreDealt, AreMadeBy, AreToldPhases}
 
 -- ---- told lines
 
@@ -54,3 +54,42 @@ not_by_a_third so = omega (arith, so.by_growers 0 (grown 0 0 2 first_of_three) (
 
 not_apart : AreDealt three 2 (grown 0 5 0 (1 ∷ []) ∷ []) → ⊥
 not_apart so = omega (arith, (so.chained 0 (grown 0 5 0 first_of_three) refl).start)
+
+-- ---- phases
+
+-- as many of each grower, and no more than 1,048,568 together
+limits : (slice_limit 1 ≡ 1048568) × (slice_limit 3 ≡ 1048566) × (slice_limit 64 ≡ 1048512)
+limits = (refl, refl, refl)
+
+-- what is fewer is one phase
+abbrev first_first : List (Growth ℕ)
+first_first = grown 0 0 0 (1 ∷ []) ∷ grown 1 1 0 (2 ∷ []) ∷ []
+
+abbrev two : List (List ℕ)
+two = (1 ∷ []) ∷ (2 ∷ []) ∷ []
+
+one_phase : (slice_of 1 two ≡ two) × (behind_slice 1 two ≡ [])
+one_phase = (refl, refl)
+
+-- no phase has fewer growths than it takes
+no_short_phase : AreMadeBy 1 two ((grown 0 0 0 (1 ∷ []) ∷ []) ∷ (grown 0 0 0 (2 ∷ []) ∷ []) ∷ []) [] → ⊥
+no_short_phase so = omega (arith, so.1 0 (omega arith))
+
+-- the second has none again of the first
+none_again : AreMadeBy 1 two (first_first ∷ (grown 0 0 0 (1 ∷ []) ∷ []) ∷ []) [] → ⊥
+none_again so = omega (arith, so.2.1 0 (omega arith))
+
+-- the second has those behind the first
+second_behind : (growths left : List (List ℕ)) (first second : List (Growth ℕ)) → AreMadeBy 3 growths (first ∷ second ∷ []) left
+    → AreDealt (slice_of 3 (behind_slice 3 growths)) 3 second × (left ≡ behind_slice 3 (behind_slice 3 growths))
+second_behind growths left first second so = (so.2.0, so.2.2)
+
+-- none is left out
+none_left_out : AreMadeBy 1 two [] [] → ⊥
+none_left_out so = omega (arith, ap length so)
+
+-- what is told of phases are the growths that they made, each of a line
+told_of_phases : (growths left : List (List ℕ)) (phases : List (List (Growth ℕ))) (n lines size : ℕ) → length growths ≡ 9 → length left ≡ 2
+    → AreToldPhases growths 1 [] phases left (told n lines size) → (n ≡ 7) × (lines ≡ 7)
+told_of_phases growths left phases n lines size nine two so =
+    let first = so.growths_are in let second = so.lines_are in (omega (arith, first, nine, two), omega (arith, first, second, nine, two))

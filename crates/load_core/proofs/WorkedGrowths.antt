@@ -15,8 +15,8 @@ use Rattle.files_core.proofs.WorkedDisks.{Disk, ThreeFiles, itself, known, as_lo
 use Rattle.load_core.specs.Appending.{GrowthsStand}
 use Rattle.load_core.specs.Groups.{OpensToFront}
 use Rattle.load_core.specs.Dealt.{dealt}
-use Rattle.load_core.specs.Loading.{AllMade, IsLoaded}
-use Rattle.load_core.proofs.OneGrower.{all_dealt, each_records}
+use Rattle.load_core.specs.Loading.{AllMade, AreDealt, IsLoaded, MayAppend}
+use Rattle.load_core.proofs.OneGrower.{all_in_phases, each_records}
 
 abbrev told : ℕ → ℕ → ℕ → Appended
 told growths lines size = record { growths = growths; lines = lines; size = size }
@@ -98,20 +98,18 @@ module _ {R : Type 0} {form : Encoding R} {r : R} (files : ThreeFiles form r) wh
   growth = record { number = 0; start = 0; seat = 0; serial = 0; records = r ∷ [] }
 
   abbrev Loaded : Disk → ℕ → Type 0
-  Loaded left size = IsLoaded form known itself ((r ∷ []) ∷ []) 1 (old files) left size
+  Loaded left size = IsLoaded form known itself ((r ∷ []) ∷ []) 1 (old files) left (told 1 1 size)
 
   one_loaded : Loaded (later files) 1
   one_loaded = record {
     was = [];
-    made = growth ∷ [];
-    dealt_are = record { chained = chained; by_growers = by_growers; records_are = records_are };
-    all = all;
+    phases = (growth ∷ []) ∷ [];
+    told = record { made_by = (dealt_are, all, refl); growths_are = refl; lines_are = refl; size_is = refl };
     stands = λ model. record {
       file = files.opens_none;
       images = leaves_one files (OpensToGrown form [] (growth ∷ [])) (record { count = 1; known = omega arith; opens = files.opens_one });
       settled = opens_then files;
     };
-    size_is = refl;
   }
     where
       chained : (g : ℕ) (e : Growth R) → slice_get (growth ∷ []) g ≡ Some e → IsNextGrowth (take g (growth ∷ [])) e
@@ -126,6 +124,9 @@ module _ {R : Type 0} {form : Encoding R} {r : R} (files : ThreeFiles form r) wh
       records_are zero (suc j) e lt at = absurd cc
       records_are (suc grower) j e lt at = absurd (omega (arith, lt))
 
+      dealt_are : AreDealt ((r ∷ []) ∷ []) 1 (growth ∷ [])
+      dealt_are = record { chained = chained; by_growers = by_growers; records_are = records_are }
+
       all : AllMade ((r ∷ []) ∷ []) 1 (growth ∷ [])
       all zero lt = refl
       all (suc grower) lt = absurd (omega (arith, lt))
@@ -134,16 +135,33 @@ module _ {R : Type 0} {form : Encoding R} {r : R} (files : ThreeFiles form r) wh
   chain_records [] = refl
   chain_records (e ∷ made) = ap (λ rs. e.records ++ rs) (chain_records made)
 
-  loaded_long : (left : Disk) (size : ℕ) (loaded : Loaded left size) → length (loaded.was ++ grown_records loaded.made) ≡ 1
+  loaded_long : (left : Disk) (size : ℕ) (loaded : Loaded left size) → length (loaded.was ++ grown_records (lists.joined loaded.phases)) ≡ 1
   loaded_long left size loaded =
-      let records : grown_records loaded.made ≡ r ∷ [] = chain_records loaded.made ∙ ap lists.joined (all_dealt ((r ∷ []) ∷ []) loaded.made loaded.dealt_are loaded.all) in
+      let made = lists.joined loaded.phases in
+      let records : grown_records made ≡ r ∷ [] = chain_records made ∙ ap lists.joined (all_in_phases ((r ∷ []) ∷ []) loaded.phases loaded.told.made_by) in
       let was = none_before files loaded.was (loaded.stands tt).file in
-      omega (arith, length-append loaded.was (grown_records loaded.made), ap length records, was)
+      omega (arith, length-append loaded.was (grown_records made), ap length records, was)
 
   loaded_right : (size : ℕ) → Loaded (later files) size → size ≡ 1
-  loaded_right size loaded = loaded.size_is ∙ loaded_long (later files) size loaded
+  loaded_right size loaded = loaded.told.size_is ∙ loaded_long (later files) size loaded
 
   not_loaded_lost : (size : ℕ) → Loaded (still files) size → ⊥
   not_loaded_lost size loaded =
       let opens = (loaded.stands tt).settled files.none (settled_image files.none) in
-      omega (arith, loaded_long (still files) size loaded, as_long files files.none (loaded.was ++ grown_records loaded.made) [] opens files.opens_none)
+      omega (arith, loaded_long (still files) size loaded, as_long files files.none (loaded.was ++ grown_records (lists.joined loaded.phases)) [] opens files.opens_none)
+
+  -- ---- a phase that was refused
+
+  -- what it has begun may stand
+  one_may_append : MayAppend form itself (old files) (later files) [] [] (growth ∷ [])
+  one_may_append = record {
+    file = files.opens_none;
+    images = leaves_one files (OpensToGrown form [] (growth ∷ [])) (record { count = 1; known = omega arith; opens = files.opens_one });
+    settled = λ some image is. absurd (omega (arith, some));
+  }
+
+  -- what a phase before it has made isn't lost
+  no_phase_lost : (made : List (Growth R)) → MayAppend form itself (old files) (still files) [] ((growth ∷ []) ∷ []) made → ⊥
+  no_phase_lost made may =
+      let front = may.settled (omega arith) files.none (settled_image files.none) in
+      omega (arith, as_long files files.none ((r ∷ []) ++ grown_records (take front.count made)) [] front.opens files.opens_none)

@@ -1,5 +1,5 @@
 -- What the definitions of stops and refusals of `load` and `append` allow, and the nearest that they don't.
-use Rattle.std.proofs.Common.{◌≡◌, inl, inr, ℕ, ◌^◌, ◌-◌, ◌<◌, ◌≤◌, min, List, [], ◌∷◌, length, Option, Some, None, Result, Ok, refl, subst, arith}
+use Rattle.std.proofs.Common.{◌≡◌, ◌⊎◌, inl, inr, ℕ, ◌^◌, ◌-◌, ◌<◌, ◌≤◌, min, List, [], ◌∷◌, length, Option, Some, None, Result, Ok, refl, sym, subst, ◌∙◌, arith}
 use Rattle.record_core.specs.Bytes.{Encoding}
 use Rattle.disk_core.specs.State.{State, settled}
 use Rattle.text_core.specs.Text.{Spelling}
@@ -7,7 +7,9 @@ use Rattle.text_core.specs.declared.refusal.Refusal.TheVariants as refusals
 use Rattle.block_core.specs.Growth.{Growth}
 use Rattle.book_core.specs.declared.fault.GrowFault.TheVariants.{TooLong}
 use Rattle.pen_core.specs.declared.fault.OpenFault.{OpenFault}
+use Rattle.pen_core.specs.declared.fault.PenFault.{PenFault}
 use Rattle.pen_core.specs.declared.fault.PenFault.TheVariants as faults
+use Rattle.pen_core.specs.Refusals.{first_refusal, ready_lines}
 use Rattle.vault_core.specs.declared.fault.VaultFault.{VaultFault}
 use Rattle.vault_core.specs.declared.fault.VaultFault.TheVariants.{Pen, Unsettled}
 use Rattle.vault_core.specs.Vault.{VaultOf}
@@ -49,9 +51,9 @@ none_more_told end now so = so.2
 not_over : IsRestTold More 17 (told_so 2 20 5) (told_so 2 20 5) (Some (Ok tt)) → ⊥
 not_over so = let is : ◌≡◌ {A = Option (Result (Unit {0}) FileFault)} (Some (Ok tt)) None = so.0 in cc is
 
--- line 8 is that of the third growth of the second of three growers, which made two
-lines_of_growers : (line_behind 3 1 2 ≡ 8) × (line_behind 1 0 0 ≡ 1)
-lines_of_growers = (refl, refl)
+-- line 8 is that of the third growth of the second of three growers, which made two; behind a phase it is counted on
+lines_of_growers : (line_behind 0 3 1 2 ≡ 8) × (line_behind 0 1 0 0 ≡ 1) × (line_behind 1048566 3 1 2 ≡ 1048574)
+lines_of_growers = (refl, refl, refl)
 
 -- ---- refusals of commands, on disks that are their states
 
@@ -99,12 +101,20 @@ module _ (form : Encoding ℕ) (b : ℕ) where
       → (made : List (List ℕ)) × GrowthsStand form itself disk left appended made []
   for_want_of_memory left appended so = (so.0, subst (λ (more : List (List ℕ)). GrowthsStand form itself disk left appended so.0 more) (so.6 refl) (so.2 tt))
 
-  unloaded : (left : Disks) (fault : OpenFault) → IsLoadRefusal form known itself no_fault ((b ∷ []) ∷ []) 1 disk left (told.Open fault) → IsNotOpened form known itself no_fault disk left fault
-  unloaded left fault so = so
+  abbrev Loaded_not : Disks → Appended → FileFault → Type 0
+  Loaded_not left appended fault = IsLoadRefusal form known itself no_fault ((b ∷ []) ∷ []) 1 disk left appended fault
+
+  unloaded : (left : Disks) (appended : Appended) (fault : OpenFault) → Loaded_not left appended (told.Open fault)
+      → (appended ≡ told_so 0 0 0) × IsNotOpened form known itself no_fault disk left fault
+  unloaded left appended fault so = so
 
   -- a stop's grower is one of them
-  no_other_grower : (left : Disks) (stopped : Stopped) → stopped.grower ≡ 1 → IsLoadRefusal form known itself no_fault ((b ∷ []) ∷ []) 1 disk left (told.Grower stopped) → ⊥
-  no_other_grower left stopped one so = omega (arith, one, so.5.inside)
+  no_other_grower : (left : Disks) (appended : Appended) (stopped : Stopped) → stopped.grower ≡ 1 → Loaded_not left appended (told.Grower stopped) → ⊥
+  no_other_grower left appended stopped one so = omega (arith, one, so.8.inside)
+
+  -- and the line of its growth is behind those that are told
+  line_of_stop : (left : Disks) (appended : Appended) (stopped : Stopped) → appended.lines ≡ 40 → Loaded_not left appended (told.Grower stopped) → 40 < stopped.line
+  line_of_stop left appended stopped forty so = let line = so.8.line_is in omega (arith, forty, line)
 
   -- ---- all that stands is told
 
@@ -132,9 +142,19 @@ module _ {R D : Type 0} (keeps : D → Type 0) (left : D) (made : List (Growth R
   given_up : (so : IsNotEnded keeps 5 2 left made fault) → (so.live.directory.room ≡ 5) × (length so.seats ≡ 2) × (so.flusher.pen.disk ≡ left) × (so.flusher.pass.entries ≡ made)
   given_up so = (so.room_is, so.as_many, so.disk_is, so.made_are)
 
--- no grower, or too many growths, begin no load
-no_grower : {R D : Type 0} (v : VaultOf R D) → IsLoadNotBegun 5 0 v (Pen faults.TooLarge)
-no_grower v = inl (refl, inl refl)
+-- no grower begins no load, and more than 64 don't; that there are many growths is no reason
+no_grower : {R D : Type 0} (v : VaultOf R D) → IsLoadNotBegun 0 v (Pen faults.TooLarge)
+no_grower v = inl (refl, refl)
 
-too_many : {R D : Type 0} (v : VaultOf R D) → IsLoadNotBegun (2 ^ 32) 4 v (Pen faults.TooLarge)
-too_many v = inl (refl, inr (omega arith))
+module _ {R D : Type 0} (v : VaultOf R D) (ready : first_refusal (ready_lines v.pen) ≡ None) where
+  too_many_growers : IsLoadNotBegun 65 v (Pen faults.TooLarge)
+  too_many_growers = inr (inr (ready, inl (refl, inr (inr (inr (omega arith))))))
+
+  by_growers_alone : (growers : ℕ) → IsLoadNotBegun growers v (Pen faults.TooLarge) → (growers ≡ 0) ⊎ (64 < growers)
+  by_growers_alone growers (inl (is, none)) = inl none
+  by_growers_alone growers (inr (inl first)) = let other : ◌≡◌ {A = Option PenFault} None (Some faults.TooLarge) = sym ready ∙ first in absurd (cc other)
+  by_growers_alone growers (inr (inr (first, inl (is, inl no_room)))) = absurd (omega (arith, no_room))
+  by_growers_alone growers (inr (inr (first, inl (is, inr (inl past))))) = absurd (omega (arith, past))
+  by_growers_alone growers (inr (inr (first, inl (is, inr (inr (inl none)))))) = inl none
+  by_growers_alone growers (inr (inr (first, inl (is, inr (inr (inr many)))))) = inr many
+  by_growers_alone growers (inr (inr (first, inr (is, may)))) = absurd (cc is)

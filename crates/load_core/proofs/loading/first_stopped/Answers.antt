@@ -19,6 +19,6 @@ returns-in-loop-grower g c =
               (subst (λ fault. fault ≡ get_or c.args.crewed.now.faults.items c.loop-grower.grower fault) has c.index-in-loop-grower.ensures))
           | inr fewer ↦ inr (fewer.0, omega (arith, fewer.1, made, c.count-count.ensures))
         ];
-        line_is = saturated _ _ _ _ _ _ product c.saturating_mul.ensures c.saturating_add.ensures;
+        line_is = saturated _ _ _ _ _ _ _ _ product c.saturating_mul.ensures c.saturating_add.ensures c.saturating_add-in-loop-grower.ensures;
       },
     )

@@ -7,6 +7,5 @@ returns-clause-done g c = told_done c.write_loaded-written.result c.told.result 
 
 pub returns-clause-writes : goal.returns-clause-writes
 returns-clause-writes g c =
-    rw (← c.len.ensures.is)
-    (told_text (g.W.Write.contents c.args.writer.now) (g.W.Write.contents c.write_loaded-written.new.writer) (loaded_line c.args.growths c.len.result)
-    c.write_loaded-written.result c.told.result c.told.ensures c.write_loaded-written.ensures)
+    told_text (g.W.Write.contents c.args.writer.now) (g.W.Write.contents c.write_loaded-written.new.writer) (loaded_line c.args.appended.growths c.args.appended.size)
+    c.write_loaded-written.result c.told.result c.told.ensures c.write_loaded-written.ensures
