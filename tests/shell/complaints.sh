@@ -73,8 +73,6 @@ an_empty_line() { given '5\n\n6\n'; }
 
 long_line() { seq -s ' ' 1 131072 >"$in"; }
 
-many_lines() { seq 1 1048569 >"$in"; }
-
 long_input() { head -c 67108865 /dev/zero >"$in"; }
 
 folder_as_input() { in=$work; }

@@ -6,10 +6,7 @@ use crate::beside::{BesideFault, write_beside};
 use crate::bytes::write_open;
 use crate::input::{write_input, write_word};
 use crate::role::{Role, name_of, only_reads, write_in_use, write_not_opened};
-use crate::vault::{
-    about_new, write_commit_fault, write_growth_fault, write_resize_fault, write_stopped,
-    write_vault,
-};
+use crate::vault::{about_new, write_commit_fault, write_resize_fault, write_stopped, write_vault};
 use files_core::{Appended, FileFault};
 use lines_core::Excerpt;
 use pen_core::PenFault;
@@ -29,7 +26,7 @@ pub enum Complaint {
     Fault(FileFault),
     /// As the command's engine refuses a damaged file. So many records are sound before the damage.
     Damaged(u64, FileFault),
-    /// `append` was refused when so much was settled.
+    /// `append` or `load` was refused when so much was settled.
     Appended(Appended, FileFault),
     /// `serve` was refused when so many growths of its clients were settled.
     Served(u64, FileFault),
@@ -84,8 +81,7 @@ fn write_fault<W: fmt::Write>(
         FileFault::Input(refusal) => write_input(f, words, refusal, shown),
         FileFault::Open(fault) => write_open(f, words.file, Some(words.record_type), fault),
         FileFault::Vault(fault) => match words.task {
-            FileTask::Load(_) => write_growth_fault(f, words.file, fault),
-            FileTask::Append { .. } | FileTask::Serve(_) => {
+            FileTask::Load(_) | FileTask::Append { .. } | FileTask::Serve(_) => {
                 write_commit_fault(f, words.file, fault)
             }
             FileTask::Resize { in_parts, .. } => {
@@ -119,20 +115,39 @@ fn write_wrong<W: fmt::Write>(
     }
 }
 
-/// How many lines of the input stand as growths.
-fn write_lines<W: fmt::Write>(f: &mut Formatter<W>, lines: u64, fault: FileFault) -> fmt::Result {
-    let behind = match fault {
-        FileFault::Vault(VaultFault::Pen(PenFault::Disk(_))) => ", and maybe some behind them",
+/// What may stand behind the lines of the input that stand as growths.
+fn about_behind(task: FileTask<'_>, fault: FileFault) -> &'static str {
+    match (task, fault) {
+        (FileTask::Load(_), FileFault::Vault(_)) =>
+            ", and maybe some behind them: `cvec check` tells how many records there are",
+        (_, FileFault::Vault(VaultFault::Pen(PenFault::Disk(_)))) => ", and maybe some behind them",
         _ => "",
-    };
+    }
+}
+
+/// How many lines of the input stand as growths. Where a grower of `load` stopped, that tells what stands.
+fn write_lines<W: fmt::Write>(
+    f: &mut Formatter<W>,
+    task: FileTask<'_>,
+    lines: u64,
+    fault: FileFault,
+) -> fmt::Result {
+    if let (FileTask::Load(_), FileFault::Grower(_)) = (task, fault) {
+        return Ok(());
+    }
+    let behind = about_behind(task, fault);
     write!(f, "; the growths of the first {lines} lines stand{behind}")
 }
 
 /// What is sound or stands, behind what is wrong, where a complaint tells of that.
-fn write_standing<W: fmt::Write>(f: &mut Formatter<W>, complaint: &Complaint) -> fmt::Result {
+fn write_standing<W: fmt::Write>(
+    f: &mut Formatter<W>,
+    words: &FileWords<'_>,
+    complaint: &Complaint,
+) -> fmt::Result {
     match complaint {
         Complaint::Damaged(sound, _) => write!(f, "; the {sound} records before that are sound"),
-        Complaint::Appended(appended, fault) => write_lines(f, appended.lines, *fault),
+        Complaint::Appended(appended, fault) => write_lines(f, words.task, appended.lines, *fault),
         Complaint::Served(growths, _) => write!(
             f,
             "; the first {growths} growths of its clients stand"
@@ -148,7 +163,7 @@ fn write_of_file<W: fmt::Write>(
     shown: Option<&Excerpt>,
 ) -> fmt::Result {
     write_wrong(f, words, complaint, shown)?;
-    write_standing(f, complaint)
+    write_standing(f, words, complaint)
 }
 
 fn write_stat_fault<W: fmt::Write>(

@@ -1,7 +1,6 @@
 //! Why a vault refuses a command, what its file has then, and what to do next.
 
 use crate::bytes::about_disk;
-use directory_core::GROWTH_LIMIT;
 use disk_core::DiskFault;
 use files_core::Stopped;
 use pen_core::PenFault;
@@ -84,26 +83,6 @@ pub fn write_resize_fault<W: fmt::Write>(
     match about_resize(fault, in_parts) {
         Some(about) => write!(f, "{name}: {about}"),
         None => write_vault(f, name, fault),
-    }
-}
-
-/// What stands where a command that makes many growths at once was refused by the file.
-pub fn write_growth_fault<W: fmt::Write>(
-    f: &mut Formatter<W>,
-    name: &str,
-    fault: VaultFault,
-) -> fmt::Result {
-    match fault {
-        VaultFault::Pen(PenFault::TooLarge) => write!(
-            f,
-            "{name}: the input has more lines than the {} growths that are made at once; it is as it was; `cvec append` takes any number of lines",
-            GROWTH_LIMIT
-        ),
-        VaultFault::Pen(PenFault::Broken) | VaultFault::Unsettled(_) => write!(
-            f,
-            "{name}: the system didn't write it, or put it on the device, which may be full; restart the system, and it opens to the vector of before, and behind it some of the growths; `cvec check` tells how many records there are"
-        ),
-        fault => write_vault(f, name, fault),
     }
 }
 

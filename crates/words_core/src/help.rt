@@ -143,16 +143,15 @@ Refused: exists (the file stays as it is), file, memory, and the disk's faults.
 const LOAD: &[u8] = b"cvec load TYPE FILE [--seats=N] [--lenient] [--quiet] < LINES
 
 Appends a growth for each line of the input: records with one space between each two. N growers (1 to 64, else 1) take the
-lines in turn. When it has told 'loaded', all growths are on the device. The input has at most 67108864 bytes and 1048568
-lines; 'append' takes any. With --lenient a line may end with a carriage return too, and may have tabs for blanks, and more
-of them than one, also at its front and end.
+lines in turn. When it has told 'loaded', all growths are on the device. The input has at most 67108864 bytes; 'append'
+takes any. With --lenient a line may end with a carriage return too, and may have tabs for blanks, and more of them than
+one, also at its front and end.
 
   $ echo '5 6 7' | cvec load u64 t.cv
   loaded 1 growths, size 3
 
-Refused: line N and too large at line N (nothing is grown), input, input too long, file, the file's first fault, too
-large (too many lines; nothing is grown), closed, full, too long, broken (the device may be full; some growths may
-stand), memory, and the disk's faults.
+Refused: line N and too large at line N (nothing is grown), input, input too long, file, the file's first fault, closed,
+full, too long, broken (the device may be full), memory (some growths may stand), and the disk's faults.
 ";
 
 const APPEND: &[u8] =
