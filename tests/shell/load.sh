@@ -52,6 +52,108 @@ a_bad_line_grows_nothing() (
     did 'loaded 1 growths, size 131070\n'
 )
 
+# ---- more lines than a phase takes, which are 1,048,568
+
+# Each line stands once, and in the order of the input where one grower makes all.
+more_lines_than_a_phase_takes_are_loaded_in_order() (
+    run create u64 "$work/t.cv"
+    seq 1 2500000 >"$in"
+    run load u64 "$work/t.cv"
+    did 'loaded 2500000 growths, size 2500000\n'
+    run list u64 "$work/t.cv"
+    cmp "$in" "$out"
+)
+
+# Three growers have 349,522 lines each of a phase, line k, from 0, the grower k modulo 3. The growths of a phase stand behind
+# those of the one before, and those of a grower in the order of its lines. It prints the first line that doesn't, and how many
+# phases there are.
+lines_of_three_growers() {
+    awk '{
+        phase = int((NR - 1) / 1048566)
+        if (phase != last) { delete before; last = phase }
+        grower = ($1 - 1) % 3
+        due = grower in before ? before[grower] + 3 : phase * 1048566 + grower + 1
+        if ($1 != due) { print "record " NR " is " $1 " in place of " due; exit }
+        before[grower] = $1
+    }
+    END { print phase + 1 " phases" }' "$1"
+}
+
+more_lines_than_a_phase_takes_are_loaded_by_growers_in_turn() (
+    run create u64 "$work/t.cv"
+    seq 1 2500000 >"$in"
+    run load u64 "$work/t.cv" --seats=3
+    did 'loaded 2500000 growths, size 2500000\n'
+    run list u64 "$work/t.cv"
+    [ "$(wc -l <"$out")" -eq 2500000 ]
+    [ "$(lines_of_three_growers "$out")" = '3 phases' ]
+)
+
+# Just as many as two phases take begin no third one; one line more does, and has a growth of its own.
+the_last_phase_has_what_is_left() (
+    for lines in 2097136 2097137; do
+        rm -f "$work/t.cv"
+        run create flagged "$work/t.cv"
+        yes 1:0 | head -n $((lines - 1)) >"$in"
+        echo '7:1 8:0' >>"$in"
+        run load flagged "$work/t.cv"
+        did "loaded $lines growths, size $((lines + 1))\n"
+        run list flagged "$work/t.cv"
+        tail -n 3 "$out" | paste -sd ' ' | grep -qx '1:0 7:1 8:0'
+    done
+)
+
+a_bad_line_of_a_later_phase_grows_nothing() (
+    run create u64 "$work/t.cv"
+    before=$(cksum <"$work/t.cv")
+    { seq 1 1500000; echo x; echo 5; } >"$in"
+    run load u64 "$work/t.cv" --seats=2
+    was_refused 'line 1500001' 'nothing was grown'
+    [ "$before" = "$(cksum <"$work/t.cv")" ]
+)
+
+# The file has the first lines of the input, at least those of a first phase, and not all of them.
+stands_behind_a_phase() {
+    run list u64 "$work/t.cv"
+    stood=$(wc -l <"$out")
+    [ "$stood" -ge 1048568 ]
+    [ "$stood" -lt "$(wc -l <"$in")" ]
+    head -n "$stood" "$in" | cmp - "$out"
+}
+
+# A growth of one record takes 12 bytes of the file, and 10 more where it is committed alone: so those of a first phase take
+# 23,068,496 at most, with all else of the file, and 2,090,000 take 25,080,000 at least. The device takes 23,500,288.
+a_phase_that_a_full_device_stops_leaves_those_before() (
+    run create u64 "$work/t.cv"
+    seq 1 2090000 >"$in"
+    status=0
+    (
+        trap '' XFSZ
+        ulimit -f 45899
+        exec "$top/crates/cvec/out/cvec" load u64 "$work/t.cv" <"$in" >"$out" 2>"$err"
+    ) || status=$?
+    answers_refusal broken
+    tells 'the growths of the first 1048568 lines stand, and maybe some behind them: `cvec check` tells how many records there are'
+    stands_behind_a_phase
+)
+
+# Once the file is longer than a first phase makes it, the load is killed, at some moments. All growths take 36,000,000 bytes
+# at least.
+a_load_that_is_killed_in_a_later_phase_leaves_those_before() (
+    seq 1 3000000 >"$in"
+    for bytes in 23068507 26000000 30000000; do
+        rm -f "$work/t.cv"
+        run create u64 "$work/t.cv"
+        "$top/crates/cvec/out/cvec" load u64 "$work/t.cv" <"$in" >/dev/null 2>&1 &
+        until [ "$(stat -c %s "$work/t.cv")" -gt "$bytes" ]; do kill -0 $!; done
+        kill -9 $!
+        wait $! || true
+        stands_behind_a_phase
+    done
+)
+
+# ---- append
+
 input_of_any_length_is_appended() (
     run create u64 "$work/t.cv"
     seq 1 300000 >"$in"
