@@ -4,6 +4,7 @@ ghost use Rattle.std.specs.Prelude.{◌≡◌};
 
 use phase_core::{Committer, Grower, HostDisk, HostVault, Phase};
 use record_core::{Flagged, Pair, Record};
+use std::mem;
 
 /// Which end it is.
 #[derive(Drop)]
@@ -43,7 +44,7 @@ impl<R: Record> Role<R> {
     pub(crate) fn put(&mut self, role: Role<R>)
         ensures { self.new ≡ role }
     {
-        *self = role;
+        drop(mem::replace(self, role));
     }
 }
 
@@ -52,6 +53,6 @@ impl Session {
     pub(crate) fn put(&mut self, end: End)
         ensures { self.new.end ≡ end }
     {
-        self.end = end;
+        drop(mem::replace(&mut self.end, end));
     }
 }
