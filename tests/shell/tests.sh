@@ -233,6 +233,41 @@ the_gate_proves_half_as_many_crates_at_once_as_there_are_processors() (
     [ "$(lanes_of_gate_on 8 1)" -eq 1 ]
 )
 
+# A check that keeps its files as it makes them: two of one function, one of another. An older one lies there.
+slow_functions_of_a_crate_are_told() (
+    there=$work/there kept=$work/there/crates/low/out/incremental
+    mkdir -p "$there/tests" "$there/bin" "$kept/old"
+    cp "$top/tests/slow" "$there/tests"
+    touch -d @90 "$kept/old/Rattle-low-proofs.gone.Lts.oantt"
+    cat >"$there/bin/rt" <<'SH'
+#!/bin/sh
+[ "$*" = 'check --jobs 1' ] || exit 3
+mkdir -p out/incremental/new/records && cd out/incremental/new || exit 3
+touch -d @100 Rattle-low-specs.Lib.oantt
+touch -d @103.5 Rattle-low-proofs.one.first.Lts.oantt
+touch -d @104 Rattle-low-proofs.one.first.Code.Given.oantt
+touch -d @106 records/Rattle-low-proofs.one.second.Proof.decls.oantt
+touch -d @107 other
+echo 'what it says'
+[ ! -e ../../../broken ]
+SH
+    chmod +x "$there/bin/rt"
+    PATH=$there/bin:$PATH
+    "$there/tests/slow" low >"$out"
+    printf '%8s one.first\n%8s one.second\n' 4.0 2.0 | cmp - "$out"
+    [ "$("$there/tests/slow" low 1)" = '     4.0 one.first' ]
+    : >"$there/crates/low/broken"
+    status=0
+    "$there/tests/slow" low >"$out" 2>"$err" || status=$?
+    [ "$status" -eq 1 ]
+    [ ! -s "$out" ]
+    [ "$(cat "$err")" = 'what it says' ]
+    status=0
+    "$there/tests/slow" none 2>"$err" || status=$?
+    [ "$status" -eq 2 ]
+    tells 'usage: tests/slow CRATE [N]'
+)
+
 # Under `set -e` neither `! this` ends a test nor any part of `this && that` but the last.
 each_check_of_a_test_can_fail() (
     check='(\[|!|grep|cmp|diff|tells|kill|[a-z_]+=\$)'
