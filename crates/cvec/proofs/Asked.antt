@@ -100,7 +100,9 @@ module _ {R : Type 0} (form : Encoding R) (old new : Option (List ℕ)) (filed :
 
   no_usage_of_task : (spelling : Spelling R) (task : FileTask) (input : Option (List ℕ)) → IsCommandRun form spelling task input old new filed → IsNoUsage filed
   no_usage_of_task spelling (Create format over) input run = no_usage_over _ _ run
-  no_usage_of_task spelling (Load growers) input run = no_usage_over _ _ run
+  no_usage_of_task spelling (Load growers) input (inl refused) = subst IsNoUsage (sym refused.told) tt
+  no_usage_of_task spelling (Load growers) input (inr (inl shut)) = no_usage_alone old new filed _ shut
+  no_usage_of_task spelling (Load growers) input (inr (inr done)) = no_usage_of_done filed _ _ done.1
   no_usage_of_task spelling (Append block every) input (inl shut) = no_usage_alone old new filed _ shut
   no_usage_of_task spelling (Append block every) input (inr done) = no_usage_of_done filed _ _ done.1
   no_usage_of_task spelling Check input run = no_usage_reading _ _ _ run
