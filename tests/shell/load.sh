@@ -112,12 +112,11 @@ a_bad_line_of_a_later_phase_grows_nothing() (
     [ "$before" = "$(cksum <"$work/t.cv")" ]
 )
 
-# The file has the first lines of the input, at least those of a first phase, and not all of them.
+# The file has the first lines of the input, at least those of a first phase.
 stands_behind_a_phase() {
     run list u64 "$work/t.cv"
     stood=$(wc -l <"$out")
     [ "$stood" -ge 1048568 ]
-    [ "$stood" -lt "$(wc -l <"$in")" ]
     head -n "$stood" "$in" | cmp - "$out"
 }
 
@@ -135,21 +134,25 @@ a_phase_that_a_full_device_stops_leaves_those_before() (
     answers_refusal broken
     tells 'the growths of the first 1048568 lines stand, and maybe some behind them: `cvec check` tells how many records there are'
     stands_behind_a_phase
+    [ "$stood" -lt 2090000 ]
 )
 
 # Once the file is longer than a first phase makes it, the load is killed, at some moments. All growths take 36,000,000 bytes
-# at least.
+# at least. One that was about to end may have ended: not all did.
 a_load_that_is_killed_in_a_later_phase_leaves_those_before() (
     seq 1 3000000 >"$in"
+    cut_off=0
     for bytes in 23068507 26000000 30000000; do
         rm -f "$work/t.cv"
         run create u64 "$work/t.cv"
         "$top/crates/cvec/out/cvec" load u64 "$work/t.cv" <"$in" >/dev/null 2>&1 &
         until [ "$(stat -c %s "$work/t.cv")" -gt "$bytes" ]; do kill -0 $!; done
-        kill -9 $!
+        kill -9 $! || :
         wait $! || true
         stands_behind_a_phase
+        [ "$stood" -eq 3000000 ] || cut_off=$((cut_off + 1))
     done
+    [ "$cut_off" -gt 0 ]
 )
 
 # ---- append
