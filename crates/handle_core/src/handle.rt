@@ -48,7 +48,7 @@ impl Handle {
     }
 
     /// Gives up what the handle has.
-    fn clear(&mut self, alloc: Global)
+    fn give_up(&mut self, alloc: Global)
         ensures { end_of self.new ≡ None }
     {
         drop(self.take(alloc));
@@ -58,7 +58,7 @@ impl Handle {
     pub fn fill(&mut self, alloc: Global, end: End) -> bool
         ensures { MatchBool result (end_of self.new ≡ Some end) (end_of self.new ≡ None) }
     {
-        self.clear(alloc);
+        self.give_up(alloc);
         match boxed(alloc, end) {
             Some(session) => {
                 self.put(session);

@@ -44,6 +44,7 @@ impl<R: Record> Role<R> {
     pub(crate) fn put(&mut self, role: Role<R>)
         ensures { self.new ≡ role }
     {
+        // To prove a drop in place, as of `*self = role`, takes long.
         drop(mem::replace(self, role));
     }
 }
@@ -53,6 +54,7 @@ impl Session {
     pub(crate) fn put(&mut self, end: End)
         ensures { self.new.end ≡ end }
     {
+        // To prove a drop in place, as of `self.end = end`, takes minutes.
         drop(mem::replace(&mut self.end, end));
     }
 }
