@@ -22,38 +22,13 @@ use crate::writable::OpensToWrite;
 use disk_core::Disk;
 use pen_core::OpenFault;
 use record_core::Record;
-use search_core::Equals;
+use search_core::{Equals, count_equal, first_equal};
 use segment_core::Framed;
 use std::alloc::Global;
 use std::io::Write;
 use std::thread::Threads;
 use text_core::{TextRecord, write_found, write_number_line};
 use vault_core::Vault;
-
-/// How many of the records are this one.
-fn count_equal<R: Record>(records: &[R], wanted: R) -> u64
-    ensures { result ≡ count_by (λ r. R.Eq.eq r wanted) records.now }
-{
-    let mut count: u64 = 0;
-    for r in records {
-        if *r == wanted {
-            count += 1;
-        }
-    }
-    count
-}
-
-/// The place of the first of the records that is this one.
-fn first_equal<R: Record>(records: &[R], wanted: R) -> Option<u64>
-    ensures { IsFirst (λ r. R.Eq.eq r wanted) records.now result }
-{
-    for k in 0..records.len() {
-        if records[k] == wanted {
-            return Some(k as u64);
-        }
-    }
-    None
-}
 
 /// How many records are this one of a file whose frames were walked.
 fn count_parts<R: Record, D: Disk>(

@@ -1,8 +1,6 @@
 //! `count` and `find` beside a writer. That `==` calls no other records equal is a law of `Record`.
 
 ghost use Rattle.std.specs.Prelude.{◌≡◌, ◌≤◌};
-ghost use Rattle.std.specs.List.{count_by};
-ghost use Rattle.search_core.specs.Search.{IsFirst};
 ghost use Rattle.follow_core.specs.Answers.{IsCountLine, IsFoundLine};
 ghost use Rattle.follow_core.specs.Beside.{AnswersRecords, IsReadBeside};
 
@@ -10,34 +8,10 @@ use crate::ended::LookEnd;
 use crate::reading::read_vector;
 use disk_core::Shared;
 use record_core::Record;
+use search_core::{count_equal, first_equal};
 use std::alloc::Global;
 use std::io::Write;
 use text_core::{TextRecord, write_found, write_number_line};
-
-/// How many of the records equal this one.
-fn count_equal<R: Record>(records: &[R], wanted: R) -> u64
-    ensures { result ≡ count_by (λ r. R.Eq.eq r wanted) records.now }
-{
-    let mut count: u64 = 0;
-    for r in records {
-        if *r == wanted {
-            count += 1;
-        }
-    }
-    count
-}
-
-/// The position of the first record that equals this one.
-fn first_equal<R: Record>(records: &[R], wanted: R) -> Option<u64>
-    ensures { IsFirst (λ r. R.Eq.eq r wanted) records.now result }
-{
-    for k in 0..records.len() {
-        if records[k] == wanted {
-            return Some(k as u64);
-        }
-    }
-    None
-}
 
 /// Writes how many records of the vector are this one, as it is at one moment of the call.
 pub fn count_beside<R: TextRecord, S: Shared, W: Write>(

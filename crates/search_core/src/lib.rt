@@ -6,9 +6,11 @@
 #![tactic(auto)]
 
 mod batch;
+mod equal;
 mod picking;
 mod search;
 mod slices;
 
+pub use equal::{count_equal, first_equal};
 pub use picking::{Equals, Pick};
 pub use search::{count_where, find_first};

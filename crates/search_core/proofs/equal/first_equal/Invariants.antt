@@ -1,6 +1,6 @@
 use Rattle.std.proofs.Common.{◌≡◌, take}
 use Rattle.std.specs.List.{count_by}
-use Rattle.follow_core.proofs.searching.first_equal.Given as goal
+use Rattle.search_core.proofs.equal.first_equal.Given as goal
 
 -- none so far is the one
 abbrev pub invariant-loop-k : goal.invariant-loop-k
