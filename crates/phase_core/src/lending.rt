@@ -22,6 +22,15 @@ use std::alloc::Global;
 use std::sync::Arc;
 use vault_core::{Vault, VaultFault};
 
+/// The vector for both ends of a phase. `None` where there is no memory for it: then nothing is left of it.
+fn both<R: Record>(alloc: Global, live: Live<R>) -> Option<(Arc<Live<R>>, Arc<Live<R>>)>
+    ensures { IfSome result (λ r. (arc_value r.0 ≡ live) × (arc_value r.1 ≡ live)) }
+{
+    let live = Arc::new(alloc, live).ok()?;
+    let other = live.clone().ok()?;
+    Some((live, other))
+}
+
 /// One phase for all its ends. `None` where there is no memory for it: then nothing is left of it.
 fn shared<R: Record, D: Disk + Drop>(
     alloc: Global,
@@ -36,10 +45,7 @@ fn shared<R: Record, D: Disk + Drop>(
     ensures flusher { IfSome result (λ r. (r.1.flusher ≡ flusher) × (r.1.made ≡ made)) }
     ensures seats { IfSome result (λ r. r.0.seats.items ≡ seats.items) }
 {
-    let Ok(live) = Arc::new(alloc, live) else {
-        return None;
-    };
-    let Ok(other) = live.clone() else {
+    let Some((live, other)) = both(alloc, live) else {
         return None;
     };
     Some((Phase { live, seats }, Committer::new(other, flusher, made)))

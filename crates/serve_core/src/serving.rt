@@ -196,8 +196,37 @@ fn disk_of<R: Record, D: Disk>(flusher: Flusher<R, D>) -> (D, u64)
     (disk, settled)
 }
 
-/// Serves a client with each of the seats, where there is memory for them, and counts what is settled then. Gives the disk
-/// back.
+/// Serves a client with each of the seats, where there is memory for them.
+fn serve_seats<
+    R: Record,
+    D: Disk + Drop,
+    I: Read + Send + Drop,
+    W: Write + Send + Drop,
+    E: Threads + Wait + Sync,
+>(
+    rt: &E,
+    alloc: Global,
+    live: &Live<R>,
+    flusher: Flusher<R, D>,
+    seats: Vec<Seat<R>>,
+    pipes: Vec<Pipes<I, W>>,
+) -> (Flusher<R, D>, Result<(), ServeFault>)
+    requires of { IsFlusherOf (D.keeps flusher.pen.disk) live.now flusher }
+    requires new { AreNewSeats live.now.directory live.now.mark seats.items }
+    requires as_many { vec_len seats ≡ vec_len pipes }
+    ensures back { ComesBack R.form D.keeps D.states D.faults live.now flusher result.0 result.1 }
+    ensures clients { TakesClientsIn R.form D.keeps D.states live.now I.remaining W.contents pipes.items result.0 result.1 }
+{
+    match Vec::with_capacity(alloc, pipes.len()) {
+        Ok(room) => run_phase(rt, alloc, live, flusher, seats, pipes, room),
+        Err(_) => {
+            let fault = VaultFault::Pen(PenFault::Memory);
+            (flusher, Err(ServeFault::Share(fault)))
+        }
+    }
+}
+
+/// Serves a client with each of the seats, and counts what is settled then. Gives the disk back.
 fn serve_phase<
     R: Record,
     D: Disk + Drop,
@@ -217,18 +246,9 @@ fn serve_phase<
         × TakesClientsIn R.form D.keeps D.states begun.0 I.remaining W.contents pipes.items phase.flusher result.2 }
 {
     let (live, flusher, seats) = begun;
-    match Vec::with_capacity(alloc, pipes.len()) {
-        Ok(room) => {
-            let (flusher, served) = run_phase(rt, alloc, &live, flusher, seats, pipes, room);
-            let (disk, growths) = disk_of(flusher);
-            (disk, Served { growths }, served)
-        }
-        Err(_) => {
-            let (disk, growths) = disk_of(flusher);
-            let fault = VaultFault::Pen(PenFault::Memory);
-            (disk, Served { growths }, Err(ServeFault::Share(fault)))
-        }
-    }
+    let (flusher, served) = serve_seats(rt, alloc, &live, flusher, seats, pipes);
+    let (disk, growths) = disk_of(flusher);
+    (disk, Served { growths }, served)
 }
 
 /// Begins a phase with as much room as a directory has, or, where the system has no addresses for the passes of that, with
