@@ -117,10 +117,11 @@ fn write_wrong<W: fmt::Write>(
 
 /// What may stand behind the lines of the input that stand as growths.
 fn about_behind(task: FileTask<'_>, fault: FileFault) -> &'static str {
-    match (task, fault) {
-        (FileTask::Load(_), FileFault::Vault(_)) =>
-            ", and maybe some behind them: `cvec check` tells how many records there are",
-        (_, FileFault::Vault(VaultFault::Pen(PenFault::Disk(_)))) => ", and maybe some behind them",
+    match fault {
+        FileFault::Vault(_) if matches!(task, FileTask::Load(_)) => {
+            ", and maybe some behind them: `cvec check` tells how many records there are"
+        }
+        FileFault::Vault(VaultFault::Pen(PenFault::Disk(_))) => ", and maybe some behind them",
         _ => "",
     }
 }
@@ -132,7 +133,7 @@ fn write_lines<W: fmt::Write>(
     lines: u64,
     fault: FileFault,
 ) -> fmt::Result {
-    if let (FileTask::Load(_), FileFault::Grower(_)) = (task, fault) {
+    if matches!(task, FileTask::Load(_)) && matches!(fault, FileFault::Grower(_)) {
         return Ok(());
     }
     let behind = about_behind(task, fault);

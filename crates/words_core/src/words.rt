@@ -202,17 +202,27 @@ fn set_task<'a>(words: &ArgMatches<'a>) -> Option<FileTask<'a>> {
     })
 }
 
+/// What the words of `create` ask for.
+fn create_task<'a>(words: &ArgMatches<'a>) -> FileTask<'a> {
+    FileTask::Create {
+        format: format_of(words.get_str("format")).unwrap_or(Format::One),
+        over: words.get_flag("over"),
+    }
+}
+
+/// What the words of `list` ask for.
+fn list_task<'a>(words: &ArgMatches<'a>) -> FileTask<'a> {
+    FileTask::List {
+        from: words.get_str("from"),
+        count: words.get_str("count"),
+    }
+}
+
 /// The task over a file that a command's name and words ask for, where it has words of its own.
 fn worded_task<'a>(name: &str, words: &ArgMatches<'a>) -> Option<FileTask<'a>> {
     match name {
-        "create" => Some(FileTask::Create {
-            format: format_of(words.get_str("format")).unwrap_or(Format::One),
-            over: words.get_flag("over"),
-        }),
-        "list" => Some(FileTask::List {
-            from: words.get_str("from"),
-            count: words.get_str("count"),
-        }),
+        "create" => Some(create_task(words)),
+        "list" => Some(list_task(words)),
         "count" | "find" | "resize" => recorded_task(name, words),
         "set" => set_task(words),
         "upgrade" => Some(FileTask::Upgrade(words.get_str("NEW")?)),
