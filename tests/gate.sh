@@ -55,10 +55,10 @@ prove_all() {
     RT_JOBS=${RT_JOBS-$("$top/tools/lanes")}
     export RT_JOBS
     began=$(mktemp) || exit 1
-    count_of rt ci
+    count_of "$top/tools/prove" --gate
     take_edits_back
     if [ "$failed" -eq 0 ]; then
-        rm -f "$c_library" "$threads_library"
+        find "$c_library" "$threads_library" ! -newer "$began" -delete 2>/dev/null
         "$top/tests/c_library" "$began" || :
     fi
     rm -f "$began"

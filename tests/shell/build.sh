@@ -340,9 +340,9 @@ if __name__ == "__main__":
 RT
 }
 
-# proves WIDE JOBS: what tools/prove has that toolchain say stands in $out then.
+# proves WIDE JOBS [WORD]: what tools/prove has that toolchain say stands in $out then.
 proves() {
-    PATH=$there/bin:/usr/bin:/bin KEPT=$there/kept WIDE=$1 RT_JOBS=$2 "$there/tools/prove" >"$out"
+    PATH=$there/bin:/usr/bin:/bin KEPT=$there/kept WIDE=$1 RT_JOBS=$2 "$there/tools/prove" ${3+"$3"} >"$out"
 }
 
 # Alone, or where what stands beside it has time, a crate has all processors. Where there are enough others, one job costs
@@ -385,6 +385,21 @@ what_the_gate_asks_for_beside_proofs_is_left_to_it() (
     grep -qx 'looks: check --jobs --empty-contracts' "$out"
 )
 
+# It is given the toolchain's own jobs, compiles by both compilers, and looks for all.
+the_gate_proves_as_the_toolchain_does() (
+    seeming_repository
+    dividing_toolchain
+    proves 12 3 --gate
+    [ "$(grep -c ' proof 1$' "$out")" -eq 16 ]
+    [ "$(grep '^compiled' "$out" | paste -sd,)" = 'compiled by llvm,compiled by rattle' ]
+    grep -qx 'looks: check --jobs --empty-contracts' "$out"
+    grep -qx 'keeps: low-False-sum' "$out"
+    status=0
+    "$top/tools/prove" gate 2>"$err" || status=$?
+    [ "$status" -eq 2 ]
+    tells 'usage: tools/prove [--gate]'
+)
+
 # The toolchain at hand proves a crate of one function so, and keeps it apart.
 the_toolchain_at_hand_is_run() (
     has rt 'a proof by tools/prove' || exit "$is_skipped"
@@ -398,7 +413,7 @@ the_toolchain_at_hand_is_run() (
     [ "$(tail -n 1 "$out")" = '1 passed, 0 failed' ]
 )
 
-# With it the proof of a static library leaves its archive.
+# With it the proof of a static library leaves its archive, also in the gate, which looks for all.
 the_toolchain_at_hand_archives_what_it_proves() (
     has rt 'a proof by tools/prove' || exit "$is_skipped"
     there=$work/small
@@ -406,9 +421,13 @@ the_toolchain_at_hand_archives_what_it_proves() (
     echo "small$$ staticlib:" >"$there/crates.txt"
     printf '#![tactic(auto)]\n\n#[unsafe(no_mangle)]\npub extern "C" fn small_one() -> u8 {\n    1\n}\n' \
         >"$there/crates/small$$/src/lib.rt"
-    (cd "$there" && RT_JOBS=1 "$top/tools/prove" >"$out" 2>"$err")
-    grep -qx "rt: small$$ proved" "$out"
-    grep -q small_one "$there/crates/small$$/out/libsmall$$.a"
+    for words in '' --gate; do
+        (cd "$there" && RT_JOBS=1 "$top/tools/prove" $words >"$out" 2>"$err")
+        grep -qx "rt: small$$ proved" "$out"
+        grep -q small_one "$there/crates/small$$/out/libsmall$$.a"
+        rm "$there/crates/small$$/out/libsmall$$.a"
+    done
+    grep -q '^empty contracts' "$out"
 )
 
 # 'rt lib' runs over the noted libraries of the copy. Where it fails, nothing is left here.
@@ -485,6 +504,27 @@ the_libraries_for_c_are_made_of_what_was_proved() (
     makes_libraries
     [ "$status" -eq 0 ]
     [ "$there/crates/low/src/lib.rt" -nt "$there/crates/cvec_c/out/libcvec_c.a" ]
+)
+
+# It is taken to be of the sources as they were when the gate began. The other one is made.
+what_a_proof_has_archived_isnt_proved_once_more() (
+    seeming_libraries
+    touch -d '1 minute ago' "$work/began"
+    mkdir "$there/crates/cvec_c/out"
+    echo archived >"$there/crates/cvec_c/out/libcvec_c.a"
+    makes_libraries "$work/began"
+    [ "$status" -eq 0 ]
+    [ "$(cat "$there/crates/cvec_c/out/libcvec_c.a")" = archived ]
+    [ "$(stat -c %Y "$there/crates/cvec_c/out/libcvec_c.a")" -eq "$(stat -c %Y "$work/began")" ]
+    [ "$(cat "$there/crates/cvec_threads/out/libcvec_threads.a")" = 'sources of low' ]
+    # Now neither is newer, so both are made; where both are, nothing else is asked for.
+    makes_libraries "$work/began"
+    [ "$status" -eq 0 ]
+    [ "$(cat "$there/crates/cvec_c/out/libcvec_c.a")" = 'sources of low' ]
+    touch "$there"/crates/*/out/lib*.a
+    rm -r "$there/crates/low"
+    makes_libraries "$work/began"
+    [ "$status" -eq 0 ]
 )
 
 # It is made on another device, and comes over it to a full one: a file there has 64 KiB at most.

@@ -70,7 +70,14 @@ RT
     cd "$work"
     "$top/tests/gate_times" --table "$work/table" "$work/rt" ci >"$out"
     # Of each step a second, and of the tests, the compiler and what comes behind none.
-    grep -q '^| one  *| *1 | *| *1 | *| *1 | *| *| *2 |$' "$work/table"
+    grep -q '^| one  *| *1 | *| *1 | *| *1 | *| *| *[23] |$' "$work/table"
+    mkdir "$work/tools"
+    cp "$work/rt" "$work/tools/prove"
+    "$top/tests/gate_times" --table "$work/table" "$work/tools/prove" --gate >"$out"
+    grep -q '^| one  *| *1 | *| *1 | *| *1 | *| *| *[23] |$' "$work/table"
+    # By itself it proves for a build.
+    "$top/tests/gate_times" --table "$work/table" "$work/tools/prove" >"$out"
+    grep -q '^| one  *| *| *| *| *| *| *2 | *1 | *[23] |$' "$work/table"
     status=0
     "$top/tests/gate_times" sh -c 'exit 3' >"$out" || status=$?
     [ "$status" -eq 3 ]
@@ -186,7 +193,7 @@ seeming_gate() {
     cp "$top/test" "$there"
     cp "$top/tests/gate.sh" "$there/tests"
     mkdir -p "$there/bin" "$there/crates/one" "$there/tests/wrong/one" "$there/tools"
-    cp "$top/tools/lanes" "$top/tools/crates.py" "$there/tools"
+    cp "$top/tools/lanes" "$top/tools/crates.py" "$top/tools/prove" "$there/tools"
     : >"$there/tests/wrong/one/a.edit"
     printf '#!/bin/sh\necho "lanes $RT_JOBS"\n[ "$1" = ci ] && [ -e crates/one/must-fail/a.edit ] && echo "3 passed, 0 failed"\n' >"$there/bin/rt"
     chmod +x "$there/bin/rt"
@@ -296,6 +303,10 @@ no_library_of_an_earlier_run_is_left_by_the_gate() (
     [ "$(tail -n 1 "$out")" = '5 passed, 0 failed' ]
     [ -z "$(ls "$there/crates/cvec_c/out" "$there/crates/cvec_threads/out" | grep '[.]a$')" ]
     [ -s "$there/told" ]
+    # What the proofs leave stays.
+    echo ": >'$there/crates/cvec_c/out/libcvec_c.a'" >>"$there/bin/rt"
+    PATH=$there/bin:$PATH "$there/test" >"$out"
+    [ -e "$there/crates/cvec_c/out/libcvec_c.a" ]
 )
 
 # `./build` only seems one, and tells what it was asked for.
