@@ -279,7 +279,7 @@ static uint32_t commit(int fd, uint64_t gate, const uint8_t *bytes, size_t len) 
 /* A new name is durable only when its folder is synced. */
 static uint32_t sync_folder(const char *path) {
     char *whole = realpath(path, NULL);
-    if (whole == NULL) return CVEC_DISK_OPEN;
+    if (whole == NULL) return errno == ENOMEM ? CVEC_MEMORY : CVEC_DISK_OPEN;
     char *name = strrchr(whole, '/');
     name[name == whole ? 1 : 0] = '\0';
     int fd = open_path(whole, O_RDONLY | O_DIRECTORY);

@@ -43,6 +43,52 @@ a_c_program_has_records_of_each_type() (
     done
 )
 
+# Each request for memory is refused in turn, until none is met: also that of the system for the path's real name.
+a_creation_in_c_names_memory_that_was_refused() (
+    has_c || exit $is_skipped
+    make_c_library
+    cat >"$work/memory.c" <<'MEMORY'
+#define _POSIX_C_SOURCE 200809L
+#include "cvec.h"
+#include <errno.h>
+#include <stdbool.h>
+#include <stdio.h>
+#include <stdlib.h>
+#include <unistd.h>
+
+extern void *__libc_malloc(size_t), *__libc_calloc(size_t, size_t), *__libc_realloc(void *, size_t);
+
+static unsigned seen, refused;
+
+static bool is_refused(void) {
+    if (++seen != refused) return false;
+    errno = ENOMEM;
+    return true;
+}
+
+void *malloc(size_t len) { return is_refused() ? NULL : __libc_malloc(len); }
+void *calloc(size_t count, size_t len) { return is_refused() ? NULL : __libc_calloc(count, len); }
+void *realloc(void *at, size_t len) { return is_refused() ? NULL : __libc_realloc(at, len); }
+
+int main(int argc, char **argv) {
+    if (argc != 2) return 2;
+    for (refused = 1;; refused++) {
+        cvec_file file;
+        seen = 0;
+        const uint32_t answer = cvec_create(&file, argv[1], CVEC_U64);
+        const unsigned met = seen;
+        if (answer == CVEC_DONE) cvec_close(&file);
+        if (met < refused) return answer == CVEC_DONE && refused > 1 ? 0 : 1;
+        if (answer != CVEC_DONE && answer != CVEC_MEMORY) return printf("request %u: %u\n", refused, (unsigned)answer), 1;
+        unlink(argv[1]);
+    }
+}
+MEMORY
+    cc -std=c99 -O2 -Wall -Wextra -Werror -pedantic "-I$c" -o "$work/memory" "$work/memory.c" "$work/cvec_file.o" \
+        "$c_library" "$kit_library"
+    "$work/memory" "$work/file"
+)
+
 # Each front of a file, and a file with another byte at each place.
 a_file_is_refused_in_c_as_by_the_program() (
     has_c || exit $is_skipped

@@ -45,16 +45,11 @@ int posix_memalign(void **at, size_t align, size_t len) {
         } \
     while (0)
 
-/* Whether it was memory: of the library, or of a call of the system. */
-static bool is_of_memory(uint32_t answer) {
-    return answer == CVEC_MEMORY || (answer == CVEC_DISK_OPEN && errno == ENOMEM);
-}
-
 /* The same call once more, where memory was refused. */
 #define AGAIN(call, answer) \
     do { \
         answer = call; \
-        if (is_of_memory(answer)) answer = call; \
+        if (answer == CVEC_MEMORY) answer = call; \
     } while (0)
 
 /* How many records each growth has. The records of the vector are 0, 1, 2 and so on. */
