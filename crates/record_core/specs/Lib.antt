@@ -1,4 +1,5 @@
 pub mod Bytes
+pub mod Joined
 pub mod Cells
 pub mod Limits
 pub mod WritesBack

@@ -5,6 +5,7 @@
 //! and that the bytes of record i stand at i times the width (both of them).
 #![tactic(auto)]
 
+mod joined;
 mod key_flag;
 mod key_value;
 mod limit;
@@ -12,6 +13,7 @@ mod number;
 mod record;
 mod records;
 
+pub use joined::{Bytes16, Bytes24, Bytes32, Bytes64, Half, Joined};
 pub use key_flag::Flagged;
 pub use key_value::Pair;
 pub use limit::{GROWTH_HEAD_LEN, PAYLOAD_LIMIT, RECORD_LIMIT};
