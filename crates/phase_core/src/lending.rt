@@ -23,7 +23,7 @@ use std::sync::Arc;
 use vault_core::{Vault, VaultFault};
 
 /// The vector for both ends of a phase. `None` where there is no memory for it: then nothing is left of it.
-fn both<R: Record>(alloc: Global, live: Live<R>) -> Option<(Arc<Live<R>>, Arc<Live<R>>)>
+fn for_both_ends<R: Record>(alloc: Global, live: Live<R>) -> Option<(Arc<Live<R>>, Arc<Live<R>>)>
     ensures { IfSome result (λ r. (arc_value r.0 ≡ live) × (arc_value r.1 ≡ live)) }
 {
     let live = Arc::new(alloc, live).ok()?;
@@ -45,7 +45,7 @@ fn shared<R: Record, D: Disk + Drop>(
     ensures flusher { IfSome result (λ r. (r.1.flusher ≡ flusher) × (r.1.made ≡ made)) }
     ensures seats { IfSome result (λ r. r.0.seats.items ≡ seats.items) }
 {
-    let Some((live, other)) = both(alloc, live) else {
+    let Some((live, other)) = for_both_ends(alloc, live) else {
         return None;
     };
     Some((Phase { live, seats }, Committer::new(other, flusher, made)))
