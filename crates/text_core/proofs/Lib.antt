@@ -5,6 +5,7 @@ pub mod SignedLemmas
 pub mod KeyedLemmas
 pub mod Joins
 pub mod HexLines
+pub mod InHexLemmas
 pub mod Reading
 pub mod LineLemmas
 pub mod FarCuts

@@ -8,6 +8,7 @@ pub mod Lines
 pub mod GroupLine
 pub mod Words
 pub mod HexLine
+pub mod InHex
 pub mod Answers
 pub mod Refusals
 pub mod Status

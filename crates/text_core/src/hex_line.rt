@@ -41,7 +41,7 @@ pub fn bytes_of_hex_line(alloc: Global, input: &[u8]) -> Result<Vec<u8>, Refusal
 }
 
 /// Writes the hex of a piece, by way of the buffer.
-fn write_hex<W: Write>(piece: &[u8], text: &mut [u8], writer: &mut W) -> io::Result<()>
+pub(crate) fn write_hex<W: Write>(piece: &[u8], text: &mut [u8], writer: &mut W) -> io::Result<()>
     requires { 2 * length piece.now ≤ length text.old }
     ensures { OnOk result (Appends (W.contents writer.old) (W.contents writer.new) (encode_lower piece.now)) }
 {

@@ -5,6 +5,7 @@ mod flagged;
 mod group_line;
 mod halves;
 mod hex_line;
+mod in_hex;
 mod input;
 mod line;
 mod number;
