@@ -37,7 +37,10 @@ pub use disk_core::{
 pub use fault::Fault;
 pub use flush_core::{FlushFault, Flusher, Lane, Tick};
 pub use pen_core::{FoldStage, OpenFault, PenFault, Stage};
-pub use record_core::{Flagged, PAYLOAD_LIMIT, Pair, RECORD_LIMIT, Record};
+pub use record_core::{
+    Bytes16, Bytes24, Bytes32, Bytes64, Flagged, Half, Joined, PAYLOAD_LIMIT, Pair, RECORD_LIMIT,
+    Record,
+};
 pub use search_core::{Equals, Pick, count_where, find_first};
 pub use segment_core::{Format, ScanFault};
 pub use vault_core::{

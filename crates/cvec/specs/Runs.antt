@@ -3,10 +3,11 @@ use Rattle.std.specs.Prelude.{◌≡◌, ℕ, List, Option, Some, None, IfSome, 
 use Rattle.std.specs.Io.KnownBytes.{Appends, Keeps}
 use Rattle.std.specs.Int.{w32, w64}
 use Rattle.record_core.specs.Bytes.{Encoding, unsigned, signed, pair, flagged}
+use Rattle.record_core.specs.Joined.{bytes16, bytes24, bytes32, bytes64}
 use Rattle.words_core.specs.declared.request.Task.{Task}
 use Rattle.words_core.specs.declared.request.Task.TheVariants.{Image, Show, Play}
 use Rattle.words_core.specs.declared.request.RecordType.{RecordType}
-use Rattle.words_core.specs.declared.request.RecordType.TheVariants.{U32, U64, I64, Pair, Flagged}
+use Rattle.words_core.specs.declared.request.RecordType.TheVariants.{U32, U64, I64, Pair, Flagged, Bytes16, Bytes24, Bytes32, Bytes64}
 use Rattle.words_core.specs.declared.request.Request.{Request}
 use Rattle.words_core.specs.declared.request.Request.TheVariants.{Input, File, Stat, Tell}
 use Rattle.words_core.specs.declared.request.FileTask.{FileTask}
@@ -22,6 +23,7 @@ use Rattle.text_core.specs.Text.{Spelling, ended_line}
 use Rattle.text_core.specs.Numbers.{number_spelling}
 use Rattle.text_core.specs.SignedNumbers.{signed_spelling}
 use Rattle.text_core.specs.Keyed.{pair_spelling, flagged_spelling}
+use Rattle.text_core.specs.InHex.{hex_spelling}
 use Rattle.text_core.specs.Refusals.{refusal_line, refused_line}
 use Rattle.image_core.specs.Engines.{IsImageRun, IsShowRun}
 use Rattle.play_core.specs.Playing.{IsPlayRun}
@@ -39,6 +41,10 @@ IsProgramRun task U64 = IsTaskRun task (unsigned w64) (number_spelling 64)
 IsProgramRun task I64 = IsTaskRun task (signed w64) signed_spelling
 IsProgramRun task Pair = IsTaskRun task pair pair_spelling
 IsProgramRun task Flagged = IsTaskRun task flagged flagged_spelling
+IsProgramRun task Bytes16 = IsTaskRun task bytes16 (hex_spelling bytes16)
+IsProgramRun task Bytes24 = IsTaskRun task bytes24 (hex_spelling bytes24)
+IsProgramRun task Bytes32 = IsTaskRun task bytes32 (hex_spelling bytes32)
+IsProgramRun task Bytes64 = IsTaskRun task bytes64 (hex_spelling bytes64)
 
 -- what a command over a file has done, on records of one of the program's types
 abbrev pub IsTypedCommandRun : RecordType → FileTask → Option (List ℕ) → Option (List ℕ) → Option (List ℕ) → Result Status Complaint → Type 0
@@ -47,6 +53,10 @@ IsTypedCommandRun U64 = IsCommandRun (unsigned w64) (number_spelling 64)
 IsTypedCommandRun I64 = IsCommandRun (signed w64) signed_spelling
 IsTypedCommandRun Pair = IsCommandRun pair pair_spelling
 IsTypedCommandRun Flagged = IsCommandRun flagged flagged_spelling
+IsTypedCommandRun Bytes16 = IsCommandRun bytes16 (hex_spelling bytes16)
+IsTypedCommandRun Bytes24 = IsCommandRun bytes24 (hex_spelling bytes24)
+IsTypedCommandRun Bytes32 = IsCommandRun bytes32 (hex_spelling bytes32)
+IsTypedCommandRun Bytes64 = IsCommandRun bytes64 (hex_spelling bytes64)
 
 -- the line that is printed of a complaint
 abbrev pub complaint_line : Complaint → List ℕ

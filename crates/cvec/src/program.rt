@@ -15,7 +15,7 @@ use image_core::{image, show};
 use lines_core::Excerpt;
 use load_core::Dealt;
 use play_core::play;
-use record_core::{Flagged, Pair};
+use record_core::{Bytes16, Bytes24, Bytes32, Bytes64, Flagged, Pair};
 use sentences::{BesideFault, Complaint};
 use std::alloc::Global;
 use std::convert::AsStr;
@@ -76,6 +76,10 @@ fn run_task<I: Read, W: Write, E: Threads + Wait + Sync>(
         RecordType::I64 => run_of::<i64, I, W, E>(alloc, rt, task, reader, writer),
         RecordType::Pair => run_of::<Pair, I, W, E>(alloc, rt, task, reader, writer),
         RecordType::Flagged => run_of::<Flagged, I, W, E>(alloc, rt, task, reader, writer),
+        RecordType::Bytes16 => run_of::<Bytes16, I, W, E>(alloc, rt, task, reader, writer),
+        RecordType::Bytes24 => run_of::<Bytes24, I, W, E>(alloc, rt, task, reader, writer),
+        RecordType::Bytes32 => run_of::<Bytes32, I, W, E>(alloc, rt, task, reader, writer),
+        RecordType::Bytes64 => run_of::<Bytes64, I, W, E>(alloc, rt, task, reader, writer),
     }
 }
 
@@ -143,6 +147,18 @@ fn run_filing<
         ),
         RecordType::Flagged => {
             filing.run::<Flagged, Dealt<Flagged>, I, W, E>(rt, task, reader, shown, writer)
+        }
+        RecordType::Bytes16 => {
+            filing.run::<Bytes16, Dealt<Bytes16>, I, W, E>(rt, task, reader, shown, writer)
+        }
+        RecordType::Bytes24 => {
+            filing.run::<Bytes24, Dealt<Bytes24>, I, W, E>(rt, task, reader, shown, writer)
+        }
+        RecordType::Bytes32 => {
+            filing.run::<Bytes32, Dealt<Bytes32>, I, W, E>(rt, task, reader, shown, writer)
+        }
+        RecordType::Bytes64 => {
+            filing.run::<Bytes64, Dealt<Bytes64>, I, W, E>(rt, task, reader, shown, writer)
         }
     }
 }

@@ -2,16 +2,18 @@
 use Rattle.std.specs.Prelude.{ℕ, List, Option}
 use Rattle.std.specs.Int.{w32, w64}
 use Rattle.record_core.specs.Bytes.{Encoding, unsigned, signed, pair, flagged}
+use Rattle.record_core.specs.Joined.{bytes16, bytes24, bytes32, bytes64}
 use Rattle.cvec_hex.specs.declared.request.HexRequest.{HexRequest}
 use Rattle.cvec_hex.specs.declared.request.HexTask.{HexTask}
 use Rattle.cvec_hex.specs.declared.request.HexTask.TheVariants.{Image, Show}
 use Rattle.cvec_hex.specs.declared.request.HexType.{HexType}
-use Rattle.cvec_hex.specs.declared.request.HexType.TheVariants.{U32, U64, I64, Pair, Flagged}
+use Rattle.cvec_hex.specs.declared.request.HexType.TheVariants.{U32, U64, I64, Pair, Flagged, Bytes16, Bytes24, Bytes32, Bytes64}
 use Rattle.text_core.specs.declared.status.Status.{Status}
 use Rattle.text_core.specs.Text.{Spelling}
 use Rattle.text_core.specs.Numbers.{number_spelling}
 use Rattle.text_core.specs.SignedNumbers.{signed_spelling}
 use Rattle.text_core.specs.Keyed.{pair_spelling, flagged_spelling}
+use Rattle.text_core.specs.InHex.{hex_spelling}
 use Rattle.image_core.specs.Engines.{IsImageRun, IsShowRun}
 
 -- how the task's engine may end over records of these bytes and texts, and what it has written then
@@ -26,6 +28,10 @@ IsRunOn U64 task = IsHexTaskRun task (unsigned w64) (number_spelling 64)
 IsRunOn I64 task = IsHexTaskRun task (signed w64) signed_spelling
 IsRunOn Pair task = IsHexTaskRun task pair pair_spelling
 IsRunOn Flagged task = IsHexTaskRun task flagged flagged_spelling
+IsRunOn Bytes16 task = IsHexTaskRun task bytes16 (hex_spelling bytes16)
+IsRunOn Bytes24 task = IsHexTaskRun task bytes24 (hex_spelling bytes24)
+IsRunOn Bytes32 task = IsHexTaskRun task bytes32 (hex_spelling bytes32)
+IsRunOn Bytes64 task = IsHexTaskRun task bytes64 (hex_spelling bytes64)
 
 -- how the program may end that was asked for this
 abbrev pub IsHexRun : HexRequest → List ℕ → Option (List ℕ) → Option (List ℕ) → Status → Type 0

@@ -5,7 +5,7 @@ ghost use Rattle.cvec_hex.specs.Runs.{IsHexTaskRun, IsHexRun};
 
 use crate::request::{HexRequest, HexTask, HexType};
 use image_core::{image, show};
-use record_core::{Flagged, Pair};
+use record_core::{Bytes16, Bytes24, Bytes32, Bytes64, Flagged, Pair};
 use std::alloc::Global;
 use std::io::{Read, Write};
 use text_core::{Status, TextRecord};
@@ -45,5 +45,9 @@ pub fn run<I: Read, W: Write>(
         HexType::I64 => run_of::<i64, I, W>(alloc, task, reader, writer),
         HexType::Pair => run_of::<Pair, I, W>(alloc, task, reader, writer),
         HexType::Flagged => run_of::<Flagged, I, W>(alloc, task, reader, writer),
+        HexType::Bytes16 => run_of::<Bytes16, I, W>(alloc, task, reader, writer),
+        HexType::Bytes24 => run_of::<Bytes24, I, W>(alloc, task, reader, writer),
+        HexType::Bytes32 => run_of::<Bytes32, I, W>(alloc, task, reader, writer),
+        HexType::Bytes64 => run_of::<Bytes64, I, W>(alloc, task, reader, writer),
     }
 }

@@ -19,6 +19,10 @@ pub enum HexType {
     I64,
     Pair,
     Flagged,
+    Bytes16,
+    Bytes24,
+    Bytes32,
+    Bytes64,
 }
 
 /// A task on records of one type.
@@ -45,6 +49,10 @@ fn type_of(word: &str) -> Option<HexType> {
         "i64" => Some(HexType::I64),
         "pair" => Some(HexType::Pair),
         "flagged" => Some(HexType::Flagged),
+        "bytes16" => Some(HexType::Bytes16),
+        "bytes24" => Some(HexType::Bytes24),
+        "bytes32" => Some(HexType::Bytes32),
+        "bytes64" => Some(HexType::Bytes64),
         _ => None,
     }
 }

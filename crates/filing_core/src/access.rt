@@ -13,7 +13,7 @@ use std::fs::{self, File, Metadata, OpenFile, OpenOptions, TryLockError};
 use std::io::ErrorKind;
 use std::os::unix::fs::{FileExt, FileTypeExt, MetadataExt, OpenOptionsExt, PermissionsExt};
 use std::rt::Files;
-use std::time::{Clock, Duration};
+use std::time::{Clock, Duration, Instant};
 use std::{io, thread};
 
 /// The milliseconds between two tries for a lock, and how many are a second.
@@ -250,6 +250,17 @@ fn wait_for_readers(role: Role, seconds: u64) -> u64 {
     }
 }
 
+/// How many naps it has waited for. Where there is a clock, so many as the time since has: on a busy machine a nap takes longer.
+fn naps_since<C: Clock>(clock: &C, begun: Option<Instant>, naps: u64) -> u64 {
+    let Some(begun) = begun else {
+        return naps;
+    };
+    match begun.elapsed(clock) {
+        Ok(since) => naps.max(since.as_secs().saturating_mul(NAPS)),
+        Err(_) => naps,
+    }
+}
+
 /// Locks the file at this path, and tries again: for so many seconds while a command has it that writes, and for some at least
 /// while others only read it. Each try opens it anew, for meanwhile another file may have got this name.
 pub fn lock_within<F: Files<File = File> + Clock + AllocGlobal>(
@@ -263,10 +274,12 @@ pub fn lock_within<F: Files<File = File> + Clock + AllocGlobal>(
 {
     let for_writer = seconds.saturating_mul(NAPS);
     let for_readers = wait_for_readers(role, seconds).saturating_mul(NAPS);
-    for naps in 0..for_readers {
+    let begun = Instant::now(files).ok();
+    for slept in 0..for_readers {
+        let naps = naps_since(files, begun, slept);
         match lock(files, path, access) {
             Ok(file) => return Ok(file),
-            Err(Unlocked::Read | Unlocked::Replaced) => {}
+            Err(Unlocked::Read | Unlocked::Replaced) if naps < for_readers => {}
             Err(Unlocked::Written) if naps < for_writer => {}
             Err(unlocked) => return Err(unlocked.complaint(role)),
         }

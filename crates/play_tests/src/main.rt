@@ -13,7 +13,7 @@ mod words;
 
 use crate::player::Player;
 use crate::words::asked_in;
-use record_core::{Flagged, Pair};
+use record_core::{Bytes24, Flagged, Pair};
 use std::alloc::Global;
 use std::io;
 use std::process::ExitCode;
@@ -88,6 +88,7 @@ fn answered_by_type<E: Threads + Wait + Sync>(
         b"i64" => answered::<i64, E>(alloc, rt, input),
         b"pair" => answered::<Pair, E>(alloc, rt, input),
         b"flagged" => answered::<Flagged, E>(alloc, rt, input),
+        b"bytes24" => answered::<Bytes24, E>(alloc, rt, input),
         _ => answered::<u64, E>(alloc, rt, input),
     }
 }

@@ -3,7 +3,7 @@
 use crate::shown::{write_bad_word, write_given, write_given_of};
 use files_core::Word;
 use lines_core::Excerpt;
-use record_core::{Flagged, PAYLOAD_LIMIT, Pair};
+use record_core::{Bytes16, Bytes24, Bytes32, Bytes64, Flagged, PAYLOAD_LIMIT, Pair};
 use std::fmt::{self, Formatter};
 use text_core::{INPUT_LIMIT, Refusal};
 use words_core::{FileTask, FileWords, Following, RecordType};
@@ -16,6 +16,10 @@ fn record_form(record_type: RecordType) -> &'static str {
         RecordType::I64 => "a number from -9223372036854775808 to 9223372036854775807",
         RecordType::Pair => "a u64 and an i64 with a colon between them, as 7:-3",
         RecordType::Flagged => "a u64 and 0 or 1 with a colon between them, as 5:1",
+        RecordType::Bytes16 => "32 hex digits in lower case",
+        RecordType::Bytes24 => "48 hex digits in lower case",
+        RecordType::Bytes32 => "64 hex digits in lower case",
+        RecordType::Bytes64 => "128 hex digits in lower case",
     }
 }
 
@@ -39,6 +43,10 @@ fn excerpt_of_records(records: &[u8], record_type: RecordType) -> Excerpt {
         RecordType::I64 => Excerpt::of_bad_word::<i64>(records, b','),
         RecordType::Pair => Excerpt::of_bad_word::<Pair>(records, b','),
         RecordType::Flagged => Excerpt::of_bad_word::<Flagged>(records, b','),
+        RecordType::Bytes16 => Excerpt::of_bad_word::<Bytes16>(records, b','),
+        RecordType::Bytes24 => Excerpt::of_bad_word::<Bytes24>(records, b','),
+        RecordType::Bytes32 => Excerpt::of_bad_word::<Bytes32>(records, b','),
+        RecordType::Bytes64 => Excerpt::of_bad_word::<Bytes64>(records, b','),
     }
 }
 

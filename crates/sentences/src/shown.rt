@@ -83,6 +83,9 @@ fn flaw_by_type(word: &[u8], record_type: RecordType) -> Flaw {
         RecordType::U32 | RecordType::U64 => flaw_of_number(word, false),
         RecordType::I64 => flaw_of_number(word, true),
         RecordType::Pair | RecordType::Flagged => flaw_of_keyed(word, record_type),
+        RecordType::Bytes16 | RecordType::Bytes24 | RecordType::Bytes32 | RecordType::Bytes64 => {
+            Flaw::Form
+        }
     }
 }
 

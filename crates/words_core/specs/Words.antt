@@ -3,7 +3,7 @@ use Rattle.std.specs.Prelude.{ℕ, List, codes}
 use Rattle.words_core.specs.declared.request.Task.{Task}
 use Rattle.words_core.specs.declared.request.Task.TheVariants.{Image, Show, Play}
 use Rattle.words_core.specs.declared.request.RecordType.{RecordType}
-use Rattle.words_core.specs.declared.request.RecordType.TheVariants.{U32, U64, I64, Pair, Flagged}
+use Rattle.words_core.specs.declared.request.RecordType.TheVariants.{U32, U64, I64, Pair, Flagged, Bytes16, Bytes24, Bytes32, Bytes64}
 
 abbrev pub task_word : Task → List ℕ
 task_word Image = codes "image"
@@ -16,3 +16,7 @@ type_word U64 = codes "u64"
 type_word I64 = codes "i64"
 type_word Pair = codes "pair"
 type_word Flagged = codes "flagged"
+type_word Bytes16 = codes "bytes16"
+type_word Bytes24 = codes "bytes24"
+type_word Bytes32 = codes "bytes32"
+type_word Bytes64 = codes "bytes64"

@@ -4,7 +4,9 @@ use clap::{Arg, ArgAction, Command};
 use std::alloc::{AllocError, Global};
 
 /// The words for the types of record.
-const TYPES: [&str; 5] = ["u32", "u64", "i64", "pair", "flagged"];
+const TYPES: [&str; 9] = [
+    "u32", "u64", "i64", "pair", "flagged", "bytes16", "bytes24", "bytes32", "bytes64",
+];
 
 /// The words for the versions of a file.
 const FORMATS: [&str; 2] = ["1", "2"];

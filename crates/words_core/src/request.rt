@@ -3,7 +3,7 @@
 ghost use Rattle.std.specs.Prelude.{◌≡◌};
 ghost use Rattle.words_core.specs.Words.{type_word};
 
-use record_core::{Flagged, Pair, width_of};
+use record_core::{Bytes16, Bytes24, Bytes32, Bytes64, Flagged, Pair, width_of};
 use segment_core::Format;
 use stat_core::Form;
 use std::num::NonZeroU32;
@@ -27,6 +27,10 @@ pub enum RecordType {
     I64,
     Pair,
     Flagged,
+    Bytes16,
+    Bytes24,
+    Bytes32,
+    Bytes64,
 }
 
 impl RecordType {
@@ -40,6 +44,10 @@ impl RecordType {
             RecordType::I64 => "i64",
             RecordType::Pair => "pair",
             RecordType::Flagged => "flagged",
+            RecordType::Bytes16 => "bytes16",
+            RecordType::Bytes24 => "bytes24",
+            RecordType::Bytes32 => "bytes32",
+            RecordType::Bytes64 => "bytes64",
         }
     }
 
@@ -51,6 +59,10 @@ impl RecordType {
             RecordType::I64 => width_of::<i64>(),
             RecordType::Pair => width_of::<Pair>(),
             RecordType::Flagged => width_of::<Flagged>(),
+            RecordType::Bytes16 => width_of::<Bytes16>(),
+            RecordType::Bytes24 => width_of::<Bytes24>(),
+            RecordType::Bytes32 => width_of::<Bytes32>(),
+            RecordType::Bytes64 => width_of::<Bytes64>(),
         }
     }
 }

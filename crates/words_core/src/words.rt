@@ -94,6 +94,10 @@ fn record_type_of(word: &str) -> Option<RecordType>
         "i64" => Some(RecordType::I64),
         "pair" => Some(RecordType::Pair),
         "flagged" => Some(RecordType::Flagged),
+        "bytes16" => Some(RecordType::Bytes16),
+        "bytes24" => Some(RecordType::Bytes24),
+        "bytes32" => Some(RecordType::Bytes32),
+        "bytes64" => Some(RecordType::Bytes64),
         _ => None,
     }
 }
