@@ -301,7 +301,11 @@ a_copy_has_the_permissions_of_its_file() (
 )
 
 every_type_has_files() (
-    for of in u32:7:8 u64:18446744073709551615:8 i64:-3:4 pair:7:-3,8:0 flagged:5:1,6:0; do
+    # Half of the widest record, in hex.
+    half=00112233445566778899aabbccddeeff0102030405060708090a0b0c0d0e0fff
+    most=ffffffffffffffffffffffffffffffff
+    for of in u32:7:8 u64:18446744073709551615:8 i64:-3:4 pair:7:-3,8:0 flagged:5:1,6:0 bytes16:$most:${half%"${half#????????????????????????????????}"} \
+        bytes24:${half%????????????????}:${most}0000000000000000 bytes32:$half:$most$most bytes64:$half$half:$most$most$half; do
         t=$work/t.cv
         rm -f "$t"
         type=${of%%:*}

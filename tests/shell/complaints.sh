@@ -229,6 +229,7 @@ what_is_wrong_with_a_line_is_told() (
     line_is_told_as pair '1:2:3\n' '"1:2:3" at its byte 1 is no record'
     line_is_told_as flagged '07:1\n' '"07:1" at its byte 1 has a zero in front'
     line_is_told_as flagged '7:2\n' '"7:2" at its byte 1 is no record'
+    line_is_told_as bytes16 '00112233445566778899AABBCCDDEEFF\n' '"00112233445566778899AABBCCDDEEFF" at its byte 1 is no record'
 )
 
 # Forty bytes are shown at most, and what no terminal shows is told by its number.
