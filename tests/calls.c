@@ -10,6 +10,7 @@
    CALLS_FAIL=CALL:N  the call of this name fails, which is number N of those with it, from 1: EIO, or ENOSPC of a write
    CALLS_LARGEST=N    a request for more than N bytes of memory is refused
    CALLS_WAIT=N       each pread is made N microseconds later
+   CALLS_NAP=N        each nap takes N microseconds more, as on a busy machine
    CALLS_MOVE=FILE    once the first lock is had, the file FILE.new gets the name FILE */
 #define _GNU_SOURCE
 #include <dlfcn.h>
@@ -20,19 +21,21 @@
 #include <string.h>
 #include <sys/file.h>
 #include <sys/stat.h>
+#include <time.h>
 #include <unistd.h>
 
 enum call { READ, WRITE, PREAD, PWRITE, FDATASYNC, FSYNC, STATX, FLOCK, CALLS };
 static const char *const names[CALLS] = {"read", "write", "pread", "pwrite", "fdatasync", "fsync", "statx", "flock"};
 static int seen[CALLS], made[CALLS], failing = -1, failing_at, log_to = -1;
 static size_t part = (size_t)-1, largest = (size_t)-1;
-static useconds_t before_read;
+static useconds_t before_read, in_nap;
 static const char *moved;
 
 /* The program's own descriptors keep their numbers. */
 __attribute__((constructor)) static void begin(void) {
     const char *log = getenv("CALLS_LOG"), *most = getenv("CALLS_PART"), *fail = getenv("CALLS_FAIL");
     const char *bytes = getenv("CALLS_LARGEST"), *wait = getenv("CALLS_WAIT");
+    const char *nap = getenv("CALLS_NAP");
     if (log != NULL) {
         int opened = open(log, O_WRONLY | O_CREAT | O_APPEND | O_CLOEXEC, 0666);
         log_to = fcntl(opened, F_DUPFD_CLOEXEC, 200);
@@ -42,6 +45,7 @@ __attribute__((constructor)) static void begin(void) {
     if (bytes != NULL) largest = strtoul(bytes, NULL, 10);
     moved = getenv("CALLS_MOVE");
     if (wait != NULL) before_read = (useconds_t)atoi(wait);
+    if (nap != NULL) in_nap = (useconds_t)atoi(nap);
     for (int call = 0; fail != NULL && call < CALLS; call++) {
         size_t length = strlen(names[call]);
         if (strncmp(fail, names[call], length) == 0 && fail[length] == ':') {
@@ -116,6 +120,16 @@ ssize_t pwrite(int fd, const void *bytes, size_t n, off_t place) {
         note(fd, "write", more);
     }
     return done;
+}
+
+int nanosleep(const struct timespec *asked, struct timespec *left) {
+    if (in_nap > 0) usleep(in_nap);
+    return NEXT(nanosleep)(asked, left);
+}
+
+int clock_nanosleep(clockid_t clock, int flags, const struct timespec *asked, struct timespec *left) {
+    if (in_nap > 0) usleep(in_nap);
+    return NEXT(clock_nanosleep)(clock, flags, asked, left);
 }
 
 static int synced(int fd, int failed) {

@@ -160,10 +160,10 @@ until_locked() {
 
 has_locks_listed() { [ -r /proc/locks ] || lacks 'there is no /proc/locks to see which files are locked'; }
 
-# Runs a second command, which has 20 seconds, with pipes for a client.
+# Runs a second command, which has a minute, with pipes for a client.
 second() {
     status=0
-    timeout 20 "$program" "$@" <"$in" >"$out" 2>"$err" 3</dev/null 4>/dev/null || status=$?
+    timeout 60 "$program" "$@" <"$in" >"$out" 2>"$err" 3</dev/null 4>/dev/null || status=$?
 }
 
 # Two files of the records 5 and 6, one that was changed since, and the input that a second command would take.

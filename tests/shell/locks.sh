@@ -512,3 +512,22 @@ a_command_that_has_waited_for_readers_is_refused() (
     for pid in $waiting; do wait "$pid"; done
     [ "$(cksum <"$t")" = "$sum" ]
 )
+
+# Each nap takes a tenth of a second more, as on a busy machine. Of two seconds there are 400.
+a_wait_on_a_busy_machine_is_as_long_as_it_says() (
+    has_calls || exit $is_skipped
+    command -v flock >/dev/null || lacks 'there is no flock to lock a file with' || exit $is_skipped
+    build_calls
+    two_files
+    t=$work/t.cv
+    exec 9<"$t"
+    flock 9
+    begun=$(date +%s%N)
+    status=0
+    CALLS_NAP=100000 LD_PRELOAD=$work/calls.so timeout 30 "$program" clear u64 "$t" --wait=2 <"$in" >"$out" 2>"$err" 9<&- || status=$?
+    waited=$((($(date +%s%N) - begun) / 1000000))
+    answers_refusal file
+    tells "cvec: $t: another command uses it; nothing was read or written; wait for its end"
+    [ "$waited" -ge 2000 ]
+    [ "$waited" -lt 20000 ]
+)
