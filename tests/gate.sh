@@ -48,6 +48,15 @@ take_edits_back() {
     tried_edits=
 }
 
+# Prints the CPU minutes of all that has been waited for so far. They go by way of a file: a subshell has waited for nothing.
+tell_minutes() {
+    spent=$(mktemp) || return 0
+    times >"$spent"
+    awk '{ for (k = 1; k <= 2; k++) { split($k, part, "[ms]"); minutes += part[1] + part[2] / 60 } }
+        END { printf "the proofs took %.1f CPU minutes\n", minutes }' "$spent"
+    rm -f "$spent"
+}
+
 # Where the libraries for C can't be built over what was proved, none of an earlier run is left, and the tests that take them have
 # them proved once more.
 prove_all() {
@@ -57,6 +66,7 @@ prove_all() {
     began=$(mktemp) || exit 1
     count_of "$top/tools/prove" --gate
     take_edits_back
+    tell_minutes
     if [ "$failed" -eq 0 ]; then
         find "$c_library" "$threads_library" ! -newer "$began" -delete 2>/dev/null
         "$top/tests/c_library" "$began" || :
