@@ -12,7 +12,7 @@ until_longer_than() {
 }
 
 # The example's store of samples is killed and opened again: it has whole batches, and goes on behind them. The 60 batches
-# take 48,000 bytes and more, and at least 5 of 10 kills come before the last of them.
+# take 36,000 bytes and more, and at least 5 of 10 kills come before the last of them.
 a_killed_store_of_samples_goes_on() (
     build_older examples
     stopped=0
@@ -20,7 +20,7 @@ a_killed_store_of_samples_goes_on() (
         rm -f "$work/samples.cv"
         "$examples" samples "$work/samples.cv" >"$out" &
         child=$!
-        until_longer_than $((k * 4000)) "$work/samples.cv" $child
+        until_longer_than $((k * 3000)) "$work/samples.cv" $child
         kill -9 $child || true
         wait $child || true
         told=$(cat "$out")

@@ -17,6 +17,7 @@
 //! | change records in place | `Vault::change`, `change_runs`; `begin_fold`, `settle` |
 //! | have a shorter file, or one of another version | `copy`, `upgrade` |
 //! | search | `Vault::count_where`, `find_first`, with a `Pick` |
+//! | keep records of a type of my own | `impl Record`, or `Joined` of two that are `Half` |
 //!
 //! A refusal is the call's own enum; `Fault` is any of them, for a program that tells it and ends. The long guide is
 //! `docs/use/guide.md`, with the clause that carries each of its sentences.

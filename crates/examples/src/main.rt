@@ -4,6 +4,7 @@
 
 mod collect;
 mod postings;
+mod sample;
 mod samples;
 
 use std::{env, io};

@@ -8,9 +8,10 @@ ghost use Rattle.concurrent_vector.specs.Beginning.{AreNewSeats};
 ghost use Rattle.concurrent_vector.specs.Flusher.{IsFlusherOf};
 ghost use Rattle.concurrent_vector.specs.Gathering.{AreOfPhase};
 
+use crate::sample::Sample;
 use concurrent_vector::{
-    Disk, Fault, FileDisk, Flusher, Format, GROWTH_LIMIT, Live, OpenFault, Pair, ScanFault, Seat,
-    Vault, gather,
+    Disk, Fault, FileDisk, Flusher, Format, GROWTH_LIMIT, Live, OpenFault, ScanFault, Seat, Vault,
+    gather,
 };
 use std::alloc::{AllocGlobal, Global};
 use std::fs::File;
@@ -36,22 +37,22 @@ const WINDOW: u64 = 200;
 /// others append. Counts those of its batches that stood among whole ones: all, for a growth is there whole or not at all.
 fn sense<E: Wait>(
     rt: &E,
-    live: &Live<Pair>,
-    seat: &mut Seat<Pair>,
+    live: &Live<Sample>,
+    seat: &mut Seat<Sample>,
     whole: &AtomicU64,
 ) -> Result<(), Fault>
     requires { IsSeatOf live.now seat.old }
     ensures { IsSeatOf live.now seat.new }
 {
-    let key = seat.id() as u64;
+    let sensor = u32::from(seat.id());
     for batch in 0..BATCHES {
         let value = batch as i64;
-        let receipt = live.grow_by(rt, seat, BATCH, Pair { key, value })?;
+        let receipt = live.grow_by(rt, seat, BATCH, Sample { sensor, value })?;
         live.await_receipt(rt, seat, &receipt)?;
         live.look(seat)?;
         let store = live.snapshot(seat)?;
         let newest = store.len().saturating_sub(WINDOW)..store.len();
-        let is_mine = |i: &u64| store.get(*i).is_some_and(|sample| sample.key == key);
+        let is_mine = |i: &u64| store.get(*i).is_some_and(|sample| sample.sensor == sensor);
         if newest.filter(is_mine).count() as u64 % BATCH == 0 {
             whole.fetch_add(1, SeqCst);
         }
@@ -62,10 +63,10 @@ fn sense<E: Wait>(
 /// A thread for each seat, and then the flusher may end. The seats come back, unless one of the sensors was refused.
 fn work<E: Threads + Wait + Sync>(
     rt: &E,
-    live: &Live<Pair>,
-    seats: Vec<Seat<Pair>>,
+    live: &Live<Sample>,
+    seats: Vec<Seat<Sample>>,
     whole: &AtomicU64,
-) -> Result<Vec<Seat<Pair>>, Fault>
+) -> Result<Vec<Seat<Sample>>, Fault>
     requires { AreNewSeats live.now.directory live.now.mark seats.items }
     ensures { IfOk result (λ back. All (IsSeatOf live.now) back.items) }
 {
@@ -75,7 +76,7 @@ fn work<E: Threads + Wait + Sync>(
         rt,
         seats.as_mut_slice(),
         SENSORS as usize,
-        &|_, seat: &mut Seat<Pair>|
+        &|_, seat: &mut Seat<Sample>|
             requires { IsSeatOf live.now seat.old }
             ensures { IsSeatOf live.entry.now seat.new }
         {
@@ -90,9 +91,9 @@ fn work<E: Threads + Wait + Sync>(
 
 /// What is promised of seats that come back from a thread: they are of the `Live` that they were used with.
 #[derive(Drop)]
-struct ComeBack(Snapshot<Live<Pair>>);
+struct ComeBack(Snapshot<Live<Sample>>);
 
-impl Promise<Result<Vec<Seat<Pair>>, Fault>> for ComeBack {
+impl Promise<Result<Vec<Seat<Sample>>, Fault>> for ComeBack {
     ghost use Rattle.std.specs.Prelude.{All, IfOk};
     ghost use Rattle.concurrent_vector.specs.Lists.{IsSeatOf};
 
@@ -103,11 +104,11 @@ impl Promise<Result<Vec<Seat<Pair>>, Fault>> for ComeBack {
 /// that the system may refuse. Then all parts of the phase are back.
 fn serve<E: Threads + Wait + Sync, D: Disk + Drop>(
     rt: &E,
-    live: &Live<Pair>,
-    flusher: Flusher<Pair, D>,
-    seats: Vec<Seat<Pair>>,
+    live: &Live<Sample>,
+    flusher: Flusher<Sample, D>,
+    seats: Vec<Seat<Sample>>,
     whole: &AtomicU64,
-) -> Result<(Vec<Seat<Pair>>, Flusher<Pair, D>), Fault>
+) -> Result<(Vec<Seat<Sample>>, Flusher<Sample, D>), Fault>
     requires flusher { IsFlusherOf (D.keeps flusher.pen.disk) live.now flusher }
     requires seats { AreNewSeats live.now.directory live.now.mark seats.items }
     ensures { IfOk result (λ back. AreOfPhase (D.keeps back.1.pen.disk) live.now back.0.items back.1) }
@@ -115,14 +116,14 @@ fn serve<E: Threads + Wait + Sync, D: Disk + Drop>(
     thread::scope(
         thread::scope_env(),
         rt,
-        move |scope| -> Result<(Vec<Seat<Pair>>, Flusher<Pair, D>), Fault>
+        move |scope| -> Result<(Vec<Seat<Sample>>, Flusher<Sample, D>), Fault>
             requires { IsFlusherOf (D.keeps flusher.pen.disk) live.now flusher × AreNewSeats live.now.directory live.now.mark seats.items }
             ensures { IfOk result (λ back. AreOfPhase (D.keeps back.1.pen.disk) live.entry.now back.0.items back.1) }
         {
             let mut flusher = flusher;
             let working = scope.spawn_with(
                 ComeBack(Snapshot::of(live)),
-                move || -> Result<Vec<Seat<Pair>>, Fault>
+                move || -> Result<Vec<Seat<Sample>>, Fault>
                     requires { AreNewSeats live.now.directory live.now.mark seats.items }
                     ensures { IfOk result (λ seats. All (IsSeatOf live.entry.now) seats.items) }
                 { work(rt, live, seats, whole) },
@@ -137,9 +138,9 @@ fn serve<E: Threads + Wait + Sync, D: Disk + Drop>(
 fn grow_store<E: Threads + Wait + Sync, D: Disk + Drop>(
     rt: &E,
     alloc: Global,
-    store: Vault<Pair, D>,
+    store: Vault<Sample, D>,
     whole: &AtomicU64,
-) -> Result<Vault<Pair, D>, Fault> {
+) -> Result<Vault<Sample, D>, Fault> {
     let (live, flusher, seats) = store.share(GROWTH_LIMIT, SENSORS)?;
     let (seats, flusher) = serve(rt, &live, flusher, seats, whole)?;
     Ok(gather(alloc, live, seats, flusher)?)
@@ -161,7 +162,7 @@ fn grow<E: Threads + Wait + Sync, D: Disk + Drop>(
 }
 
 /// The store in the file, a new one where there is none.
-fn open<D: Disk + Drop>(alloc: Global, disk: D) -> Result<Vault<Pair, D>, Fault> {
+fn open<D: Disk + Drop>(alloc: Global, disk: D) -> Result<Vault<Sample, D>, Fault> {
     match Vault::open(alloc, disk) {
         Err((disk, OpenFault::Scan(ScanFault::Unborn))) => Ok(Vault::create_as(
             alloc,
