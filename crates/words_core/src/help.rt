@@ -159,15 +159,15 @@ const APPEND: &[u8] =
     b"cvec append TYPE FILE [--block=N] [--every=MS] [--lenient] [--progress] [--quiet] < LINES
 
 Appends growths of an input of any length, and puts them on the device some lines at a time. The records of N lines, else of
-one, are a growth; the last one may have fewer lines. Lines that have come wait for more MS milliseconds (1 to 60000, else
-200), and no longer than until there are 4 MiB. Where a line is refused, the growths before the one that it is in stand, and
-standard error tells of how many lines they are. --lenient takes lines as 'load' does with it. With --progress a line of
+one, are a growth; the last one may have fewer lines. A growth that has its lines waits for more MS milliseconds (1 to 60000,
+else 200), and no longer than until there are 4 MiB. Where a line is refused, the growths before the one that it is in stand,
+and standard error tells of how many lines they are. --lenient takes lines as 'load' does with it. With --progress a line of
 standard error tells what is on the device, at most each second, also where that is no terminal.
 
   $ seq 1 1000000 | cvec append u64 t.cv --block=1000
   appended 1000 growths, size 1000000
 
-Refused: as load, but for too many lines.
+Refused: as load; input too long is of the lines of one growth.
 ";
 
 const CHECK: &[u8] = b"cvec check TYPE FILE [--quiet]

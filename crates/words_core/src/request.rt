@@ -86,7 +86,7 @@ pub enum FileTask<'a> {
     },
     /// Growths of the input are appended, by so many growers.
     Load(u16),
-    /// Growths of an input of any length are appended, each of so many lines. Lines that have come wait for more so
+    /// Growths of an input of any length are appended, each of so many lines. One that has its lines waits for more so
     /// many milliseconds at most.
     Append {
         block: NonZeroU32,
