@@ -11,8 +11,9 @@
             ...
 
 The library is found by the environment's CVEC_LIBRARY, and else beside this module. With numpy, records are arrays; without
-it they are lists and memoryviews, of tuples and bytes for the two types with two fields. Threads may share a file: its calls
-take turns. A file says how wide its records are and not of which type: one of u64 is opened as i64 too."""
+it they are lists and memoryviews, of tuples and bytes for the two types with two fields. One of bytes16, bytes24, bytes32 or
+bytes64 is a `bytes` of that length, and in an array a V, as numpy has it. Threads may share a file: its calls take turns. A file
+says how wide its records are and not of which type: one of u64 is opened as i64 too."""
 import builtins
 import ctypes
 import mmap
@@ -80,6 +81,11 @@ _TYPES = {it.name: it for it in [
     _Type(2, "i64", c_int64),
     _Type(3, "pair", Pair),
     _Type(4, "flagged", Flagged),
+    # C has those of bytes as rows of words.
+    _Type(5, "bytes16", c_uint64 * 2),
+    _Type(6, "bytes24", c_uint64 * 3),
+    _Type(7, "bytes32", c_uint64 * 4),
+    _Type(8, "bytes64", c_uint64 * 8),
 ]}
 
 
@@ -245,8 +251,8 @@ def _begin(call, path, kind, *fault):
 
 
 def create(path, kind):
-    """Makes a file of version 1 and this record type: u32, u64, i64, pair or flagged. One that is there stays, and is
-    refused."""
+    """Makes a file of version 1 and this record type: u32, u64, i64, pair, flagged, bytes16, bytes24, bytes32 or bytes64. One that
+    is there stays, and is refused."""
     return _begin(_LIB.cvec_create, path, kind)
 
 
@@ -350,12 +356,7 @@ class Map:
         """The records of the pieces, one by one."""
         form = self._kind.in_file
         for piece in self.pieces():
-            if numpy is not None:
-                yield from piece.tolist()
-            elif form.is_number:
-                yield from piece
-            else:
-                yield from form.record.iter_unpack(piece)
+            yield from piece.tolist() if numpy is not None else form.each(piece)
 
     def close(self):
         """Lets go of the file. Pieces that are still held keep the map."""

@@ -7,7 +7,8 @@ docs/use/serve.md has the bytes. It isn't proved.
         print(server.seats[0].read())
 
 A seat belongs to one thread or process at a time. With numpy, records are arrays; without it they are lists, of tuples for
-the two types with two fields. A file says how wide its records are and not of which type: one of u64 is served as i64 too."""
+the two types with two fields. One of bytes16, bytes24, bytes32 or bytes64 is a `bytes` of that length, and in an array a V, as
+numpy has it. A file says how wide its records are and not of which type: one of u64 is served as i64 too."""
 import errno
 import fcntl
 import os

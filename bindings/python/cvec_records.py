@@ -11,28 +11,32 @@ except ImportError:
 class Form:
     """How the records of a type stand one behind the other: each as `struct` packs it, which is how numpy has it."""
 
+    is_bytes = False
+
     def __init__(self, format, dtype, align=False):
         self.record = struct.Struct(format)
         self.width = self.record.size
-        self.is_number = isinstance(dtype, str)
+        self.is_number = isinstance(dtype, str) and not self.is_bytes
         self.dtype = numpy and numpy.dtype(dtype, align=align)
 
     def pack(self, records):
-        """The bytes of a row of whole numbers, or of tuples for a type with two fields, or of an array of numpy with one
-        dimension. A flag is whatever is true or false. ValueError: not all of them are records of the type."""
+        """The bytes of a row of whole numbers, of tuples for a type with two fields, or of `bytes` for one of bytes; or of an array
+        of numpy with one dimension. A flag is whatever is true or false. ValueError: not all of them are records of the type."""
         if numpy is not None and isinstance(records, numpy.ndarray):
-            return self._pack_array(records)
-        pack_all = map if self.is_number else itertools.starmap
+            if records.ndim != 1:
+                raise ValueError(f"no records of the type: an array with {records.ndim} dimensions")
+            if not records.dtype.hasobject:
+                return self._pack_array(records)
+            records = records.tolist()
         try:
-            return b"".join(pack_all(self.record.pack, records))
+            return b"".join(self._packed(records))
         except (struct.error, TypeError) as fault:
             raise ValueError(f"no records of the type: {fault}") from fault
 
+    def _packed(self, records):
+        return (map if self.is_number else itertools.starmap)(self.record.pack, records)
+
     def _pack_array(self, array):
-        if array.ndim != 1:
-            raise ValueError(f"no records of the type: an array with {array.ndim} dimensions")
-        if array.dtype.hasobject:
-            return self.pack(array.tolist())
         if array.dtype.names != self.dtype.names:
             raise ValueError(f"no records of the type: an array of {array.dtype}")
         row = numpy.zeros(len(array), dtype=self.dtype)
@@ -42,10 +46,38 @@ class Form:
 
     def unpack(self, data):
         """The records of these bytes: an array, or a list."""
-        if numpy is not None:
-            return numpy.frombuffer(data, dtype=self.dtype)
+        return numpy.frombuffer(data, dtype=self.dtype) if numpy is not None else list(self.each(data))
+
+    def each(self, data):
+        """The records of these bytes, one by one, and none of numpy's."""
         records = self.record.iter_unpack(data)
-        return [number for number, in records] if self.is_number else list(records)
+        return (it for it, in records) if self.is_number or self.is_bytes else records
+
+
+class BytesForm(Form):
+    """That of a type whose records are any bytes of one length. In an array they are of V, since S takes zeros off their ends."""
+
+    is_bytes = True
+
+    def __init__(self, width):
+        super().__init__(f"{width}s", f"V{width}")
+
+    def _packed(self, records):
+        return map(self._whole, records)
+
+    def _whole(self, record):
+        """The record. `struct` would cut one that is longer, and put zeros behind one that is shorter."""
+        if isinstance(record, bytes) and len(record) == self.width:
+            return record
+        # What an array has when it is read record by record.
+        if numpy is not None and isinstance(record, numpy.void) and record.dtype == self.dtype:
+            return record
+        raise ValueError(f"no records of the type: {record!r} isn't {self.width} bytes")
+
+    def _pack_array(self, array):
+        if array.dtype != self.dtype:
+            raise ValueError(f"no records of the type: an array of {array.dtype}")
+        return array.tobytes()
 
 
 def _column(values, dtype):
@@ -70,6 +102,7 @@ IN_FILE = {
     "i64": Form("<q", "<i8"),
     "pair": Form("<Qq", [("key", "<u8"), ("value", "<i8")]),
     "flagged": Form("<Q?", [("key", "<u8"), ("flag", "?")]),
+    **{f"bytes{width}": BytesForm(width) for width in (16, 24, 32, 64)},
 }
 
 # Those that C has: a flagged is as wide as what is aligned to its key.

@@ -24,13 +24,27 @@ GOOD = {
     "i64": [-2 ** 63, 2 ** 63 - 1],
     "pair": [(2 ** 64 - 1, -2 ** 63), (0, 2 ** 63 - 1)],
     "flagged": [(2 ** 64 - 1, True), (0, False)],
+    # With zeros at the end, which a text would lose.
+    "bytes16": [bytes(range(16)), bytes(16), b"\xff" * 15 + b"\0"],
+    "bytes24": [bytes(range(24)), bytes(24), b"\xff" * 23 + b"\0"],
+    "bytes32": [bytes(range(32)), bytes(32), b"\xff" * 31 + b"\0"],
+    "bytes64": [bytes(range(64)), bytes(64), b"\xff" * 63 + b"\0"],
 }
+
+
+def no_bytes(width):
+    """Rows of what isn't so many bytes."""
+    return [[bytes(width - 1)], [bytes(width + 1)], [bytes(width), bytes(width - 1)], [bytes(2 * width)], [b""], bytes(width),
+            ["0" * width], ["00" * width], [bytearray(width)], [(bytes(width),)], [[0] * width], [0], [None], 1, "0" * width]
+
+
 BAD = {
     "u32": [[-1], [2 ** 32], [1.0], ["1"], [[1, 2]], [None], 1],
     "u64": [[-1], [2 ** 64], [1.5], [1, 2 ** 64 + 1], [(1, 2)]],
     "i64": [[2 ** 63], [-2 ** 63 - 1], [1.0]],
     "pair": [[(1, 2 ** 63)], [(-1, 1)], [(1.0, 1)], [(1,)], [(1, 2, 3)], [1, 2]],
     "flagged": [[(2 ** 64, True)], [(-1, True)], [True]],
+    **{f"bytes{width}": no_bytes(width) for width in (16, 24, 32, 64)},
 }
 
 
@@ -90,9 +104,10 @@ def check_arrays():
     for kind, row in GOOD.items():
         with made(kind) as file:
             file.append(array(row, dtype=cvec.IN_FILE[kind].dtype))
-            if cvec.IN_FILE[kind].is_number:
+            # Of tuples numpy makes an array with two dimensions.
+            if not isinstance(row[0], tuple):
                 file.append(array(row, dtype=object))
-        assert listed(kind) == row * (2 if cvec.IN_FILE[kind].is_number else 1), kind
+        assert listed(kind) == row * (1 if isinstance(row[0], tuple) else 2), kind
     with made("i64") as file:
         check_refused(file, [array([2 ** 63], dtype="u8"), array([1, 2 ** 63])])
     with made("pair") as file:
@@ -106,6 +121,26 @@ def check_arrays():
         with cvec.Map(PATH, "flagged") as seen:
             file.append(list(seen.pieces())[0])
     assert listed("flagged") == [(0, True), (0, False), (0, True)] * 2
+
+
+def check_arrays_of_bytes():
+    """An array of V is taken as it is, also one that isn't in one piece; what its elements are is a record too."""
+    one, other, last = GOOD["bytes24"]
+    seen = numpy.frombuffer(one + other + last, dtype="V24")
+    with made("bytes24") as file:
+        check_refused(file, [seen.reshape(3, 1), seen.view("S24"), seen.view("V8"), seen.view("V12"), seen.view("V72"), seen.view("u8"),
+                             seen.view("u1").reshape(3, 24), seen.view([("low", "V16"), ("high", "V8")]),
+                             [seen.view("V8")[0]], [seen.view("S24")[2]], [seen.view([("low", "V16"), ("high", "V8")])[0]],
+                             numpy.array([one, other[1:]], dtype=object), numpy.array([one, 0], dtype=object)])
+        assert len(file) == 0
+        file.append(seen[::2])
+        file.append(list(seen))
+        file.append([seen[1], one])
+        assert file.read().dtype == "V24" and file.read(1, 1).tobytes() == last
+        with cvec.Map(PATH, "bytes24") as mapped:
+            assert [piece.dtype for piece in mapped.pieces()] == ["V24"] * 3
+            file.append(list(mapped.pieces())[0])
+    assert listed("bytes24") == [one, last, one, other, last, other, one, one, last]
 
 
 def check_threads():
@@ -284,6 +319,7 @@ def check_interrupts():
 check_rows()
 if numpy is not None:
     check_arrays()
+    check_arrays_of_bytes()
 check_threads()
 check_fork()
 check_closing()

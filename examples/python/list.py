@@ -12,13 +12,17 @@ def records_of(path, kind):
         return file.read(), "copy"
 
 
+def text_of(form, record):
+    """As the program lists it."""
+    if form.is_bytes:
+        return bytes(record).hex()
+    return str(int(record)) if form.is_number else ":".join(str(int(it)) for it in record)
+
+
 def main(kind, path):
     records, way = records_of(path, kind)
     for record in records:
-        if kind in ("pair", "flagged"):
-            print(f"{int(record[0])}:{int(record[1])}")
-        else:
-            print(int(record))
+        print(text_of(cvec.IN_FILE[kind], record))
     print(f"by {way}", file=sys.stderr)
 
 

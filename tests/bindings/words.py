@@ -7,13 +7,13 @@ def record_of(kind, word):
     if kind == "flagged":
         key, flag = word.split(":")
         return int(key), flag == "1"
-    return int(word)
+    return bytes.fromhex(word) if kind.startswith("bytes") else int(word)
 
 
 def text_of(kind, record):
     if kind in ("pair", "flagged"):
         return f"{int(record[0])}:{int(record[1])}"
-    return str(int(record))
+    return bytes(record).hex() if kind.startswith("bytes") else str(int(record))
 
 
 def listed(kind, records):

@@ -49,11 +49,16 @@ a_python_program_loses_nothing() (
     [ "$(cat "$out")" = 'with numpy' ]
 )
 
+# The file of this type and hex is listed this way.
+lists() {
+    python3 -c 'import sys; open(sys.argv[1], "wb").write(bytes.fromhex(sys.argv[2]))' "$work/file" "$3"
+    python_runs list "$2" "$work/file"
+    tells "by $1"
+}
+
 # The file of this hex is listed this way, as the program shows it.
 is_listed() {
-    python3 -c 'import sys; open(sys.argv[1], "wb").write(bytes.fromhex(sys.argv[2]))' "$work/file" "$2"
-    python_runs list u64 "$work/file"
-    tells "by $1"
+    lists "$1" u64 "$2"
     is_shown_as_written u64 "$work/file"
 }
 
@@ -70,6 +75,26 @@ a_mapped_file_is_read_where_no_change_is_live() (
     is_listed map "$changed${fold}00"
     is_listed map "$shrunk${fold}010308000000010000000000000000"
     is_listed copy "$runs"
+)
+
+# A growth of two records, of which the second is changed, and then a fold of that change.
+records_of_bytes_are_listed_in_hexadecimal() (
+    has_c && has python3 'the library for Python' || exit $is_skipped
+    make_python_library
+    one=00112233445566778899aabbccddeeff two=ff000000000000000000000000000000 three=0a0b0c0d0e0f00000000000000000000
+    head=01435645435345470110000101280000000100000002000000
+    change=0102180000000100000000000000$three
+    lists copy bytes16 "$head$one$two${change}00"
+    printf '%s\n' $one $three | cmp - "$out"
+    lists map bytes16 "$head$one$three${change}0104080000000100000000000000""00"
+    printf '%s\n' $one $three | cmp - "$out"
+    four=$one$two eight=$one$two$three$one
+    lists map bytes32 "01435645435345470120000101280000000100000001000000${four}00"
+    printf '%s\n' $four | cmp - "$out"
+    lists map bytes24 "01435645435345470118000101200000000100000001000000${one}ff00000000000000""00"
+    printf '%s\n' ${one}ff00000000000000 | cmp - "$out"
+    lists map bytes64 "01435645435345470140000101480000000100000001000000${eight}00"
+    printf '%s\n' $eight | cmp - "$out"
 )
 
 # pip makes a wheel by this module, here with libraries that only seem such: the one of the folder that CVEC_LIB names, or the
