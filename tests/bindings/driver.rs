@@ -1,5 +1,5 @@
 //! Follows a table of cases by cvec.rs, as driver.c does by cvec.h: driver FILE
-use cvec::{Error, File, Flagged, Pair, Record, Stat};
+use cvec::{Bytes, Error, File, Flagged, Pair, Record, Stat};
 use std::collections::HashMap;
 use std::ffi::OsString;
 use std::fs;
@@ -44,6 +44,33 @@ impl Word for Flagged {
     }
 }
 
+/// The bytes of a text in hexadecimal.
+fn bytes_of(hex: &str) -> Vec<u8> {
+    (0..hex.len()).step_by(2).map(|k| u8::from_str_radix(&hex[k..k + 2], 16).unwrap()).collect()
+}
+
+fn hex_of(bytes: &[u8]) -> String {
+    bytes.iter().map(|it| format!("{it:02x}")).collect()
+}
+
+impl<const N: usize> Word for Bytes<N>
+where
+    Bytes<N>: Record,
+{
+    fn of(word: &str) -> Self {
+        Bytes(bytes_of(word).try_into().unwrap())
+    }
+    fn text(&self) -> String {
+        hex_of(&self.0)
+    }
+}
+
+/// C writes and reads a row of them as words of 8 bytes.
+const fn is_as_in_c<const N: usize>() -> bool {
+    size_of::<[Bytes<N>; 2]>() == 2 * N && align_of::<Bytes<N>>() == align_of::<u64>()
+}
+const _: () = assert!(is_as_in_c::<16>() && is_as_in_c::<24>() && is_as_in_c::<32>() && is_as_in_c::<64>());
+
 /// A file of any type.
 trait Handle {
     fn stat(&self) -> Stat;
@@ -84,24 +111,24 @@ fn opened<R: Word + 'static>(how: &str, path: &str) -> Result<Box<dyn Handle>, E
     }))
 }
 
-fn open(how: &str, kind: &str, path: &str) -> Result<Box<dyn Handle>, Error> {
-    match kind {
-        "u32" => opened::<u32>(how, path),
-        "u64" => opened::<u64>(how, path),
-        "i64" => opened::<i64>(how, path),
-        "pair" => opened::<Pair>(how, path),
-        "flagged" => opened::<Flagged>(how, path),
-        _ => panic!("{kind}"),
-    }
+/// What a file of a type is opened by, and what checks an image of it.
+type Calls = (fn(&str, &str) -> Result<Box<dyn Handle>, Error>, fn(&[u8]) -> Result<Stat, Error>);
+
+fn calls_of<R: Word + 'static>() -> Calls {
+    (opened::<R>, cvec::check::<R>)
 }
 
-fn check(kind: &str, image: &[u8]) -> Result<Stat, Error> {
+fn calls(kind: &str) -> Calls {
     match kind {
-        "u32" => cvec::check::<u32>(image),
-        "u64" => cvec::check::<u64>(image),
-        "i64" => cvec::check::<i64>(image),
-        "pair" => cvec::check::<Pair>(image),
-        "flagged" => cvec::check::<Flagged>(image),
+        "u32" => calls_of::<u32>(),
+        "u64" => calls_of::<u64>(),
+        "i64" => calls_of::<i64>(),
+        "pair" => calls_of::<Pair>(),
+        "flagged" => calls_of::<Flagged>(),
+        "bytes16" => calls_of::<Bytes<16>>(),
+        "bytes24" => calls_of::<Bytes<24>>(),
+        "bytes32" => calls_of::<Bytes<32>>(),
+        "bytes64" => calls_of::<Bytes<64>>(),
         _ => panic!("{kind}"),
     }
 }
@@ -113,7 +140,7 @@ fn stat_text(it: &Stat) -> String {
 
 fn frames(kind: &str, path: &str) -> Result<String, Error> {
     let image = fs::read(path).unwrap();
-    let stat = check(kind, &image)?;
+    let stat = calls(kind).1(&image)?;
     let (mut at, mut text) = (11, stat_text(&stat));
     while at < stat.gate {
         let it = cvec::frame_at(&image, at, stat.version, stat.width).unwrap();
@@ -134,8 +161,7 @@ fn read(file: &dyn Handle, from: &str, count: Option<&&str>) -> Result<String, E
 }
 
 fn put(path: &str, hex: &str) {
-    let bytes: Vec<u8> = (0..hex.len()).step_by(2).map(|k| u8::from_str_radix(&hex[k..k + 2], 16).unwrap()).collect();
-    fs::write(path, bytes).unwrap();
+    fs::write(path, bytes_of(hex)).unwrap();
 }
 
 fn shell(command: &str) {
@@ -147,7 +173,7 @@ fn follow(handles: &mut HashMap<String, Box<dyn Handle>>, line: &str) -> Result<
     let words: Vec<&str> = line.split(' ').collect();
     match words[0] {
         "create" | "open" | "open-to-read" => {
-            let file = open(words[0], words[2], words[3])?;
+            let file = calls(words[2]).0(words[0], words[3])?;
             handles.insert(words[1].to_string(), file);
         }
         "append" => handles.get_mut(words[1]).unwrap().append(&words[2..])?,
@@ -160,8 +186,7 @@ fn follow(handles: &mut HashMap<String, Box<dyn Handle>>, line: &str) -> Result<
             return Ok(String::new());
         }
         "bytes" => {
-            let text: String = fs::read(words[1]).unwrap().iter().map(|it| format!("{it:02x}")).collect();
-            return Ok(text + "\n");
+            return Ok(hex_of(&fs::read(words[1]).unwrap()) + "\n");
         }
         "sh" => {
             shell(&line[3..]);

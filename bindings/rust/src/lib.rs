@@ -32,6 +32,17 @@ pub struct Flagged {
     pub flag: bool,
 }
 
+/// Any 16, 24, 32 or 64 bytes. C has them as rows of words, so they are aligned as these.
+#[repr(C, align(8))]
+#[derive(Clone, Copy, Debug, PartialEq, Eq, PartialOrd, Ord, Hash)]
+pub struct Bytes<const N: usize>(pub [u8; N]);
+
+impl<const N: usize> Default for Bytes<N> {
+    fn default() -> Self {
+        Bytes([0; N])
+    }
+}
+
 /// What an image with a vector holds.
 #[repr(C)]
 #[derive(Clone, Copy, Debug, Default, PartialEq, Eq)]
@@ -132,6 +143,10 @@ unsafe extern "C" {
     fn cvec_check_i64(image: *const u8, len: usize, stat: *mut Stat, fault: *mut Fault) -> u32;
     fn cvec_check_pair(image: *const u8, len: usize, stat: *mut Stat, fault: *mut Fault) -> u32;
     fn cvec_check_flagged(image: *const u8, len: usize, stat: *mut Stat, fault: *mut Fault) -> u32;
+    fn cvec_check_bytes16(image: *const u8, len: usize, stat: *mut Stat, fault: *mut Fault) -> u32;
+    fn cvec_check_bytes24(image: *const u8, len: usize, stat: *mut Stat, fault: *mut Fault) -> u32;
+    fn cvec_check_bytes32(image: *const u8, len: usize, stat: *mut Stat, fault: *mut Fault) -> u32;
+    fn cvec_check_bytes64(image: *const u8, len: usize, stat: *mut Stat, fault: *mut Fault) -> u32;
     fn cvec_frame_at(image: *const u8, len: usize, at: u64, version: u8, width: u16, frame: *mut Frame) -> u32;
     fn cvec_create(file: *mut RawFile, path: *const c_char, kind: c_int) -> u32;
     fn cvec_open(file: *mut RawFile, path: *const c_char, kind: c_int, fault: *mut Fault) -> u32;
@@ -151,7 +166,7 @@ mod sealed {
     }
 }
 
-/// A type of records that a file may have: u32, u64, i64, `Pair` and `Flagged`.
+/// A type of records that a file may have: u32, u64, i64, `Pair`, `Flagged`, and `Bytes` of 16, 24, 32 and 64.
 pub trait Record: sealed::Kind + Copy + Default {}
 
 macro_rules! records {
@@ -172,6 +187,10 @@ records! {
     i64, 2, cvec_check_i64;
     Pair, 3, cvec_check_pair;
     Flagged, 4, cvec_check_flagged;
+    Bytes<16>, 5, cvec_check_bytes16;
+    Bytes<24>, 6, cvec_check_bytes24;
+    Bytes<32>, 7, cvec_check_bytes32;
+    Bytes<64>, 8, cvec_check_bytes64;
 }
 
 /// What the image holds, or its first fault.
