@@ -29,7 +29,8 @@ static size_t width_of(const char *type) {
     static const struct {
         const char *name;
         size_t width;
-    } types[] = {{"u32", 4}, {"u64", 8}, {"i64", 8}, {"pair", 16}, {"flagged", 9}};
+    } types[] = {{"u32", 4},      {"u64", 8},      {"i64", 8},      {"pair", 16},    {"flagged", 9},
+                 {"bytes16", 16}, {"bytes24", 24}, {"bytes32", 32}, {"bytes64", 64}};
     for (size_t k = 0; k < sizeof types / sizeof *types; k++)
         if (strcmp(types[k].name, type) == 0)
             return types[k].width;

@@ -13,7 +13,7 @@
 #include <sys/wait.h>
 #include <unistd.h>
 
-enum { LONGEST = 1 << 20, ROOM = (1 << 20) + 4096, LONGEST_WAIT = 120, FREE_DESCRIPTOR = 500 };
+enum { LONGEST = 1 << 22, ROOM = (1 << 20) + 4096, LONGEST_WAIT = 120, FREE_DESCRIPTOR = 500 };
 
 static const uint64_t untouched = 0xA5A5A5A5A5A5A5A5;
 
@@ -40,11 +40,33 @@ static uint64_t take(const unsigned char *bytes, size_t len) {
     return value;
 }
 
+/* Of a type of bytes how many these are, else 0. */
+static size_t bytes_of_type(void) { return strncmp(type, "bytes", 5) ? 0 : strtoul(type + 5, NULL, 10); }
+
+/* The bytes of a word in hexadecimal, all of them: it is whole bytes. */
+static size_t put_hex(size_t at, const char *word) {
+    for (; *word != '\0'; word += 2) {
+        char two[] = {word[0], word[1], '\0'};
+        records[at++] = (unsigned char)strtoul(two, NULL, 16);
+    }
+    return at;
+}
+
+static size_t tell_hex(const unsigned char *at, size_t len) {
+    putchar(' ');
+    for (size_t i = 0; i < len; i++) printf("%02x", at[i]);
+    return len;
+}
+
 /* The records of the words that are left: how many. */
 static uint32_t take_records(void) {
     uint32_t count = 0;
     size_t at = 0;
     for (char *word; (word = next_word()) != NULL; count++) {
+        if (bytes_of_type() > 0) {
+            at = put_hex(at, word);
+            continue;
+        }
         char *colon = strchr(word, ':');
         uint64_t first = word[0] == '-' ? (uint64_t)strtoll(word, NULL, 10) : strtoull(word, NULL, 10);
         at = put(at, first, strcmp(type, "u32") ? 8 : 4);
@@ -54,6 +76,7 @@ static uint32_t take_records(void) {
 }
 
 static size_t tell_record(const unsigned char *at) {
+    if (bytes_of_type() > 0) return tell_hex(at, bytes_of_type());
     uint64_t first = take(at, 8);
     if (!strcmp(type, "u32")) return printf(" %" PRIu64, take(at, 4)), 4;
     if (!strcmp(type, "i64")) return printf(" %" PRId64, (int64_t)first), 8;
