@@ -12,6 +12,7 @@ import glob
 import hashlib
 import os
 import random
+import re
 import shlex
 import shutil
 import signal
@@ -42,13 +43,23 @@ def lines_of(words, **options):
 
 # ---- the vector, and a plain list beside it
 
+# Of each type a random record, and the form of the record of a digit.
 RECORDS = {
-    "u64": lambda pick: str(pick.choice([pick.randrange(10), pick.randrange(2**63, 2**64)])),
-    "i64": lambda pick: str(pick.choice([-2**63, 2**63 - 1, pick.randrange(-9, 9)])),
-    "u32": lambda pick: str(pick.randrange(2**32)),
-    "pair": lambda pick: f"{pick.randrange(2**64)}:{pick.randrange(-2**63, 2**63)}",
-    "flagged": lambda pick: f"{pick.randrange(2**64)}:{pick.randrange(2)}",
+    "u64": (lambda pick: str(pick.choice([pick.randrange(10), pick.randrange(2**63, 2**64)])), "{}"),
+    "i64": (lambda pick: str(pick.choice([-2**63, 2**63 - 1, pick.randrange(-9, 9)])), "{}"),
+    "u32": (lambda pick: str(pick.randrange(2**32)), "{}"),
+    "pair": (lambda pick: f"{pick.randrange(2**64)}:{pick.randrange(-2**63, 2**63)}", "{}:1"),
+    "flagged": (lambda pick: f"{pick.randrange(2**64)}:{pick.randrange(2)}", "{}:1"),
 }
+
+
+def bytes_of(width):
+    """Some look like a number with zeros in front."""
+    form = f"{{:0>{2 * width}}}"
+    return lambda pick: pick.choice([pick.randbytes(width).hex(), form.format(pick.randrange(1000))]), form
+
+
+RECORDS.update({f"bytes{width}": bytes_of(width) for width in (16, 24, 32, 64)})
 
 
 def mark_of(records):
@@ -76,7 +87,7 @@ class Writer(threading.Thread):
         self.pick.choices([self.append, self.set, self.resize, self.fold], [60, 50, 2, 20])[0]()
 
     def new(self, count):
-        return [RECORDS[KIND](self.pick) for _ in range(count)]
+        return [RECORDS[KIND][0](self.pick) for _ in range(count)]
 
     def command(self, after, *words, text=""):
         self.marks.append(mark_of(after))
@@ -377,7 +388,7 @@ def one_of_two_goes_on(way):
     assert way.copy("other") == ["7", "8"], "a step was done to what another script has gone on with"
 
 
-# Steps of lines in any order, as text with `r` behind each record, and what the vector is then.
+# Steps of lines in any order, as text with `r` behind the digit of each record, and what the vector is then.
 STEPS = [
     ("+ 5r,+ 6r,+ 7r,= 1 9r,+ 8r,< 3,+ 4r,= 3 2r,. 1:1", "5r 9r 7r 2r"),
     ("= 3 1r,= 0 3r,< 2,< 1,+ 1r,+ 6r,= 2 0r,. 1:2", "3r 1r 0r"),
@@ -389,12 +400,14 @@ STEPS = [
 
 def any_order_is_kept(way):
     """`follow` gives the lines of a step in one order. Scripts take them in any in which they make the vector."""
-    rest = ":1" if KIND in ("pair", "flagged") else ""
+    def records_in(text):
+        return re.sub("([0-9])r", lambda found: RECORDS[KIND][1].format(found[1]), text)
+
     for lines, wanted in STEPS:
-        text = "".join(f"{line}\\n" for line in lines.replace("r", rest).split(","))
+        text = "".join(f"{line}\\n" for line in records_in(lines).split(","))
         for words in way.words("steps"):
             lines_of([*words, "printf", text + "%.0s"], env={**os.environ, **way.known})
-        assert way.copy("steps") == wanted.replace("r", rest).split(), f"the copy isn't as behind {lines}"
+        assert way.copy("steps") == records_in(wanted).split(), f"the copy isn't as behind {lines}"
 
 
 def one_step_has_all(way, keepers, writer):

@@ -16,6 +16,11 @@ a_copy_in_another_file_stays_exact() (
     stays_exact apply pair
 )
 
+a_copy_of_bytes_stays_exact() (
+    has python3 'copies by follow' || exit "$is_skipped"
+    stays_exact apply bytes24
+)
+
 a_copy_in_sqlite_stays_exact() (
     has python3 'copies by follow' && has sqlite3 'a copy in SQLite' || exit "$is_skipped"
     stays_exact sqlite u64
@@ -99,7 +104,9 @@ what_is_no_line_of_a_step_is_refused() (
     has python3 'copies by follow' && has sqlite3 'a copy in SQLite' || exit "$is_skipped"
     follows '' '+ 5\\n. 1\\n'
     keeps
-    for line in '+' '+ ' '+ x' '+ 5 6' '= 1' '= 0 5;drop' '= -1 5' '< ' '< -1' '. ' '. 1 2' '. --once' '+ 5\\r' ' + 5' 5 ''; do
+    bytes=00112233445566778899aabbccddeeff
+    for line in '+' '+ ' '+ x' '+ 5 6' '= 1' '= 0 5;drop' '= -1 5' '< ' '< -1' '. ' '. 1 2' '. --once' '+ 5\\r' ' + 5' 5 '' '+ ff' \
+        "+ ${bytes#0}" "+ a$bytes" "= 0 -$bytes" "= 0 $bytes:1" "+ $(echo $bytes | tr a-f A-F)" "+ $bytes$bytes$bytes" "< $bytes" ". $bytes"; do
         follows --after=1 "+ 6\\\\n$line\\\\n. 2\\\\n"
         keeps
         [ "$status" -eq 3 ]
@@ -111,6 +118,23 @@ what_is_no_line_of_a_step_is_refused() (
     [ "$status" -eq 3 ]
     tells 'refused: replaced'
     has_kept 5 1
+)
+
+# Also where all digits of a record are decimal, and the first ones 0: it is no number.
+records_of_bytes_are_text_in_sqlite() (
+    has python3 'copies by follow' && has sqlite3 'a copy in SQLite' || exit "$is_skipped"
+    bytes16=00000000000000000000000000000012 other16=00112233445566778899aabbccddeeff
+    bytes24=000000000000000000000000000000000000000000000013 other24=${other16}a0b1c2d3e4f50617
+    bytes32=$other16$bytes16 bytes64=$bytes16$bytes16$bytes16$bytes16 other64=$bytes32$bytes32
+    follows '' "+ $bytes16\\\\n+ $bytes24\\\\n+ $bytes32\\\\n+ $bytes64\\\\n+ 12\\\\n. 1\\\\n"
+    keeps
+    [ "$status" -eq 0 ]
+    has_kept "$bytes16 $bytes24 $bytes32 $bytes64 12" 1
+    follows --after=1 "= 3 $other64\\\\n= 1 $other24\\\\n= 0 $other16\\\\n. 2\\\\n"
+    keeps
+    [ "$status" -eq 0 ]
+    has_kept "$other16 $other24 $bytes32 $other64 12" 2
+    [ "$(sqlite3 "$work/t.db" 'select typeof(record) from vector order by position' | paste -sd ' ')" = 'text text text text integer' ]
 )
 
 # PostgreSQL takes 63 bytes of a name. That of the table with PLACE must be another.
@@ -155,11 +179,11 @@ a_copy_of_a_wrong_type_is_refused() (
     has python3 'copies by follow' || exit "$is_skipped"
     export CVEC="$program" PYTHONDONTWRITEBYTECODE=1
     leaves_a_file
-    for type in u65 U64 ''; do
+    for type in u65 U64 bytes bytes8 bytes24.0 ''; do
         status=0
         timeout 10 "$shipping/again" "$shipping/apply" "$type" "$work/copy.cv" "$work/follower" >"$out" 2>"$err" || status=$?
         [ "$status" -eq 2 ]
-        tells 'a TYPE is one of u32, u64, i64, pair, flagged'
+        tells 'a TYPE is one of u32, u64, i64, pair, flagged, bytes16, bytes24, bytes32, bytes64'
         [ -z "$(find "$work" -name 'copy.cv*' -o -name begun)" ]
     done
     "$shipping/apply" u64 "$work/copy.cv" "$work/follower"
