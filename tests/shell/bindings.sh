@@ -189,11 +189,14 @@ openers_wait_for_a_reader() (
 answers_are_right_in_python() (
     answers_are_right python
     follows python python.txt
+    follows python bytes.txt
+    follows python bytes_map.txt
 )
 
 answers_are_right_in_rust() (
     answers_are_right rust
     follows rust rust.txt
+    follows rust bytes.txt
 )
 
 records_are_found_where_they_stand() (
