@@ -17,7 +17,8 @@ import os
 import struct
 import sys
 
-TYPES = {"u32": "<I", "u64": "<Q", "i64": "<q", "pair": "<Qq", "flagged": "<QB"}
+TYPES = {"u32": "<I", "u64": "<Q", "i64": "<q", "pair": "<Qq", "flagged": "<QB",
+         "bytes16": "16s", "bytes24": "24s", "bytes32": "32s", "bytes64": "64s"}
 HEADER_BYTES, HEAD_BYTES = 11, 6
 PAYLOAD_LIMITS = {1: 1 << 20, 2: 1 << 24}
 OPEN = 1
@@ -106,7 +107,11 @@ class Reader:
 
     def texts(self):
         """The records of the last look, as `cvec list` writes them."""
-        return (":".join(map(str, fields)) for fields in self.form.iter_unpack(self.records))
+        return (":".join(map(text_of, fields)) for fields in self.form.iter_unpack(self.records))
+
+
+def text_of(field):
+    return field.hex() if isinstance(field, bytes) else str(field)
 
 
 if __name__ == "__main__":

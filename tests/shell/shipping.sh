@@ -369,3 +369,30 @@ a_python_reader_sees_the_vector_at_a_moment() (
         rm "$work/t.cv"
     done
 )
+
+# The file of this type and hex, and the lines that its records are.
+is_read_as() {
+    python3 -c 'import sys; open(sys.argv[1], "wb").write(bytes.fromhex(sys.argv[2]))' "$work/t.cv" "$2"
+    PYTHONDONTWRITEBYTECODE=1 python3 "$top/examples/python/beside.py" "$1" "$work/t.cv" >"$out" 2>"$err"
+    printf '%b' "$3" | cmp - "$out"
+}
+
+a_python_reader_has_each_type() (
+    has python3 'a reader in Python' || exit "$is_skipped"
+    head=0143564543534547 one=00112233445566778899aabbccddeeff two=000000000000000000000000000000f0
+    is_read_as u32 "${head}01040001010c0000000100000001000000fffffffe00" '4278190079\n'
+    is_read_as u64 "${head}010800010110000000010000000100000000000000000000ff00" '18374686479671623680\n'
+    is_read_as i64 "${head}010800010110000000010000000100000000000000000000ff00" '-72057594037927936\n'
+    is_read_as pair "${head}0110000101180000000100000001000000ffffffffffffffff010000000000000000" '18446744073709551615:1\n'
+    is_read_as flagged "${head}01090001011a000000010000000200000005000000000000000105000000000000000000" '5:1\n5:0\n'
+    is_read_as bytes16 "${head}0110000101280000000100000002000000$one${two}00" "$one\\n$two\\n"
+    # The first record is changed.
+    change=010220000000
+    is_read_as bytes24 "${head}0118000101200000000100000001000000${one}ffffffffffffffff${change}0000000000000000${two}123456789abcdef000" \
+        "${two}123456789abcdef0\\n"
+    is_read_as bytes32 "${head}0220000101280000000100000001000000$one${two}00" "$one$two\\n"
+    is_read_as bytes64 "${head}0140000101480000000100000001000000$one$two$two${one}00" "$one$two$two$one\\n"
+    # It has records of 64 bytes still.
+    if python3 "$top/examples/python/beside.py" bytes32 "$work/t.cv" >"$out" 2>"$err"; then exit 1; fi
+    tells 'not a segment of a known version and this width'
+)
