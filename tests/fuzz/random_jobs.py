@@ -75,11 +75,14 @@ def judge_words(job):
 
 
 def random_words(rng):
-    known = ['image', 'show', 'play', 'u32', 'u64', 'i64', 'pair', 'flagged', '--help', '-', '--', '', 'x', '--record=1']
-    words = rng.choices(known, k=rng.randrange(4))
+    engines, kinds = ['image', 'show', 'play'], list(TYPES)
+    words = rng.choices(engines + kinds + ['bytes', 'bytes8', '--help', '-', '--', '', 'x', '--record=1'], k=rng.randrange(4))
     if rng.random() < .6:
-        words = [rng.choice(known[:3]), rng.choice(known[3:8])] + words[:rng.randrange(2)]
+        words = [rng.choice(engines), rng.choice(kinds)] + words[:rng.randrange(2)]
+    # Of one digit more or less than a record of bytes has, too, and in upper case.
+    digits = bytes(rng.choice(b'0123456789abcdef') for _ in range(2 * rng.choice([16, 24, 32, 64]) + rng.choice([0, 0, 0, -1, 1])))
     inputs = [b'', b'\n', b'5\n', b'5:1\n', b'1 2 | 3', b'-1\r\n', b'zz', b'0', rng.randbytes(rng.randrange(9)),
+              digits, digits + b'\n', digits + b' ' + digits + b'\n', digits.upper() + b'\n',
               random_image(rng)[0].hex().encode(), '\n'.join(random_script(rng)[:5]).encode()]
     return words, rng.choice(inputs)
 

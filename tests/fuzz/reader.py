@@ -19,6 +19,10 @@ TYPES = {
     'i64': (8, any_bytes, lambda cell: str(int.from_bytes(cell, 'little', signed=True))),
     'pair': (16, any_bytes, pair_text),
     'flagged': (9, lambda cell: cell[8] < 2, lambda cell: '%d:%d' % struct.unpack('<QB', cell)),
+    'bytes16': (16, any_bytes, bytes.hex),
+    'bytes24': (24, any_bytes, bytes.hex),
+    'bytes32': (32, any_bytes, bytes.hex),
+    'bytes64': (64, any_bytes, bytes.hex),
 }
 
 
