@@ -60,6 +60,25 @@ def judge_lines(job):
     return differs(['image', kind], run(['image', kind], given), (0, image.hex().encode() + b'\n')), given
 
 
+def random_line_of_bytes(rng):
+    """Lines of a type of bytes, of which the last has a text that is nearly a record: of another length, of upper case, or with
+    what stands beside the digits and letters."""
+    kind = rng.choice([it for it in TYPES if it.startswith('bytes')])
+    text = random_cells(rng, kind, 1)[0].hex()
+    at = rng.randrange(len(text))
+    wrong = rng.choice([text[:-1], text[:-2], text + text[0], text + text[:2], text + text, '0x' + text[2:],
+                        *(text[:at] + sign + text[at + 1:] for sign in 'AFG/:@`gx-')])
+    lines = [' '.join(cell.hex() for cell in random_cells(rng, kind, 3)) for _ in range(rng.randrange(3))]
+    return kind, lines + [rng.choice(['%s', '%s ' + text, text + ' %s', text + ' | %s']) % wrong]
+
+
+def judge_line_of_bytes(job):
+    """That line is named."""
+    kind, lines = job
+    given = ''.join(line + '\n' for line in lines).encode()
+    return differs(['image', kind], run(['image', kind], given), (1, b'refused: line %d\n' % len(lines))), given
+
+
 def judge_words(job):
     """Whatever words and input there are, the program ends by itself; usage leaves standard output alone."""
     words, given = job
@@ -141,4 +160,5 @@ def random_jobs(seed):
         kind = rng.choice(list(TYPES))
         lines = [[random_cells(rng, kind, 4) for _ in range(rng.randint(1, 3))] for _ in range(rng.randrange(4))]
         yield judge_lines, (kind, lines)
+        yield judge_line_of_bytes, random_line_of_bytes(rng)
         yield judge_words, random_words(rng)
