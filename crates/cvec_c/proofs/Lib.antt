@@ -1,4 +1,5 @@
 pub mod Append
+pub mod ByteRecords
 pub mod Creates
 pub mod FrameTold
 pub mod HomesStand

@@ -1,3 +1,4 @@
+pub mod ByteRecords
 pub mod Status
 pub mod Stat
 pub mod Reading

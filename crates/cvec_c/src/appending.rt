@@ -9,7 +9,9 @@ ghost use Rattle.segment_core.specs.Frame.{frame_text};
 ghost use Rattle.segment_core.specs.Written.{group_frame};
 ghost use Rattle.cvec_c.specs.Status.{code_of};
 ghost use Rattle.cvec_c.specs.Append.{first_status, append_lines, append_len, AppendsTo};
+ghost use Rattle.cvec_c.specs.ByteRecords.{bytes16, bytes24, bytes32, bytes64};
 
+use crate::byte_records::{CvecBytes16, CvecBytes24, CvecBytes32, CvecBytes64};
 use crate::stat::CvecStat;
 use crate::status::CallStatus;
 use record_core::{Flagged, GROWTH_HEAD_LEN, Pair, RECORD_LIMIT, Record, width_of};
@@ -194,4 +196,80 @@ pub extern "C" fn cvec_append_flagged(
     ensures refused { result ≢ 0 → (out.new ≡ out.old) × (next.new ≡ next.old) }
 {
     append::<Flagged>(alloc, stat, records, out, next)
+}
+
+/// Appends records of bytes16, as `append` says.
+#[unsafe(no_mangle)]
+pub extern "C" fn cvec_append_bytes16(
+    alloc: Global,
+    stat: &CvecStat,
+    records: &[CvecBytes16],
+    out: &mut [u8],
+    next: &mut CvecStat,
+) -> u32
+    ensures answer { MatchOption (first_status (append_lines 16 stat.now (length records.now) (length out.old)))
+        ((result ≡ 0) ⊎ (result ≡ 6))
+        (λ status. result ≡ code_of status) }
+    ensures done { result ≡ 0 → AppendsTo bytes16 stat.now records.now (take (append_len 16 (length records.now)) out.new) next.new }
+    ensures rest { drop (append_len 16 (length records.now)) out.new ≡ drop (append_len 16 (length records.now)) out.old }
+    ensures refused { result ≢ 0 → (out.new ≡ out.old) × (next.new ≡ next.old) }
+{
+    append::<CvecBytes16>(alloc, stat, records, out, next)
+}
+
+/// Appends records of bytes24, as `append` says.
+#[unsafe(no_mangle)]
+pub extern "C" fn cvec_append_bytes24(
+    alloc: Global,
+    stat: &CvecStat,
+    records: &[CvecBytes24],
+    out: &mut [u8],
+    next: &mut CvecStat,
+) -> u32
+    ensures answer { MatchOption (first_status (append_lines 24 stat.now (length records.now) (length out.old)))
+        ((result ≡ 0) ⊎ (result ≡ 6))
+        (λ status. result ≡ code_of status) }
+    ensures done { result ≡ 0 → AppendsTo bytes24 stat.now records.now (take (append_len 24 (length records.now)) out.new) next.new }
+    ensures rest { drop (append_len 24 (length records.now)) out.new ≡ drop (append_len 24 (length records.now)) out.old }
+    ensures refused { result ≢ 0 → (out.new ≡ out.old) × (next.new ≡ next.old) }
+{
+    append::<CvecBytes24>(alloc, stat, records, out, next)
+}
+
+/// Appends records of bytes32, as `append` says.
+#[unsafe(no_mangle)]
+pub extern "C" fn cvec_append_bytes32(
+    alloc: Global,
+    stat: &CvecStat,
+    records: &[CvecBytes32],
+    out: &mut [u8],
+    next: &mut CvecStat,
+) -> u32
+    ensures answer { MatchOption (first_status (append_lines 32 stat.now (length records.now) (length out.old)))
+        ((result ≡ 0) ⊎ (result ≡ 6))
+        (λ status. result ≡ code_of status) }
+    ensures done { result ≡ 0 → AppendsTo bytes32 stat.now records.now (take (append_len 32 (length records.now)) out.new) next.new }
+    ensures rest { drop (append_len 32 (length records.now)) out.new ≡ drop (append_len 32 (length records.now)) out.old }
+    ensures refused { result ≢ 0 → (out.new ≡ out.old) × (next.new ≡ next.old) }
+{
+    append::<CvecBytes32>(alloc, stat, records, out, next)
+}
+
+/// Appends records of bytes64, as `append` says.
+#[unsafe(no_mangle)]
+pub extern "C" fn cvec_append_bytes64(
+    alloc: Global,
+    stat: &CvecStat,
+    records: &[CvecBytes64],
+    out: &mut [u8],
+    next: &mut CvecStat,
+) -> u32
+    ensures answer { MatchOption (first_status (append_lines 64 stat.now (length records.now) (length out.old)))
+        ((result ≡ 0) ⊎ (result ≡ 6))
+        (λ status. result ≡ code_of status) }
+    ensures done { result ≡ 0 → AppendsTo bytes64 stat.now records.now (take (append_len 64 (length records.now)) out.new) next.new }
+    ensures rest { drop (append_len 64 (length records.now)) out.new ≡ drop (append_len 64 (length records.now)) out.old }
+    ensures refused { result ≢ 0 → (out.new ≡ out.old) × (next.new ≡ next.old) }
+{
+    append::<CvecBytes64>(alloc, stat, records, out, next)
 }

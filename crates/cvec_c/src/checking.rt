@@ -7,7 +7,13 @@ ghost use Rattle.segment_core.specs.Fault.{IsRefused};
 ghost use Rattle.cvec_c.specs.Stat.{HasStat, IsScanToldOf};
 ghost use Rattle.record_core.specs.declared.key_value.Pair.{Pair};
 ghost use Rattle.record_core.specs.declared.key_flag.Flagged.{Flagged};
+ghost use Rattle.cvec_c.specs.ByteRecords.{bytes16, bytes24, bytes32, bytes64};
+ghost use Rattle.cvec_c.specs.declared.byte_records.CvecBytes16.{CvecBytes16};
+ghost use Rattle.cvec_c.specs.declared.byte_records.CvecBytes24.{CvecBytes24};
+ghost use Rattle.cvec_c.specs.declared.byte_records.CvecBytes32.{CvecBytes32};
+ghost use Rattle.cvec_c.specs.declared.byte_records.CvecBytes64.{CvecBytes64};
 
+use crate::byte_records::{CvecBytes16, CvecBytes24, CvecBytes32, CvecBytes64};
 use crate::stat::CvecStat;
 use crate::status::{CallStatus, CvecFault};
 use record_core::{Flagged, Pair, Record};
@@ -109,4 +115,60 @@ pub extern "C" fn cvec_check_flagged(
     ensures refused { result ≢ 0 → IsScanToldOf flagged image.now result fault.new × (stat.new ≡ stat.old) }
 {
     check::<Flagged>(alloc, image, stat, fault)
+}
+
+/// Checks an image of bytes16, as `check` says.
+#[unsafe(no_mangle)]
+pub extern "C" fn cvec_check_bytes16(
+    alloc: Global,
+    image: &[u8],
+    stat: &mut CvecStat,
+    fault: &mut CvecFault,
+) -> u32
+    ensures done { result ≡ 0 → ((records : List CvecBytes16) × HasStat bytes16 image.now records stat.new) × (fault.new ≡ fault.old) }
+    ensures refused { result ≢ 0 → IsScanToldOf bytes16 image.now result fault.new × (stat.new ≡ stat.old) }
+{
+    check::<CvecBytes16>(alloc, image, stat, fault)
+}
+
+/// Checks an image of bytes24, as `check` says.
+#[unsafe(no_mangle)]
+pub extern "C" fn cvec_check_bytes24(
+    alloc: Global,
+    image: &[u8],
+    stat: &mut CvecStat,
+    fault: &mut CvecFault,
+) -> u32
+    ensures done { result ≡ 0 → ((records : List CvecBytes24) × HasStat bytes24 image.now records stat.new) × (fault.new ≡ fault.old) }
+    ensures refused { result ≢ 0 → IsScanToldOf bytes24 image.now result fault.new × (stat.new ≡ stat.old) }
+{
+    check::<CvecBytes24>(alloc, image, stat, fault)
+}
+
+/// Checks an image of bytes32, as `check` says.
+#[unsafe(no_mangle)]
+pub extern "C" fn cvec_check_bytes32(
+    alloc: Global,
+    image: &[u8],
+    stat: &mut CvecStat,
+    fault: &mut CvecFault,
+) -> u32
+    ensures done { result ≡ 0 → ((records : List CvecBytes32) × HasStat bytes32 image.now records stat.new) × (fault.new ≡ fault.old) }
+    ensures refused { result ≢ 0 → IsScanToldOf bytes32 image.now result fault.new × (stat.new ≡ stat.old) }
+{
+    check::<CvecBytes32>(alloc, image, stat, fault)
+}
+
+/// Checks an image of bytes64, as `check` says.
+#[unsafe(no_mangle)]
+pub extern "C" fn cvec_check_bytes64(
+    alloc: Global,
+    image: &[u8],
+    stat: &mut CvecStat,
+    fault: &mut CvecFault,
+) -> u32
+    ensures done { result ≡ 0 → ((records : List CvecBytes64) × HasStat bytes64 image.now records stat.new) × (fault.new ≡ fault.old) }
+    ensures refused { result ≢ 0 → IsScanToldOf bytes64 image.now result fault.new × (stat.new ≡ stat.old) }
+{
+    check::<CvecBytes64>(alloc, image, stat, fault)
 }

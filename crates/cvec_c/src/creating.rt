@@ -6,7 +6,9 @@ ghost use Rattle.record_core.specs.Bytes.{unsigned, signed, pair, flagged};
 ghost use Rattle.cvec_c.specs.Status.{code_of};
 ghost use Rattle.cvec_c.specs.Append.{first_status};
 ghost use Rattle.cvec_c.specs.Empty.{empty_lines, Creates};
+ghost use Rattle.cvec_c.specs.ByteRecords.{bytes16, bytes24, bytes32, bytes64};
 
+use crate::byte_records::{CvecBytes16, CvecBytes24, CvecBytes32, CvecBytes64};
 use crate::stat::CvecStat;
 use crate::status::CallStatus;
 use record_core::{Flagged, Pair, Record, width_of};
@@ -93,4 +95,48 @@ pub extern "C" fn cvec_empty_flagged(version: u8, out: &mut [u8], stat: &mut Cve
     ensures refused { result ≢ 0 → (out.new ≡ out.old) × (stat.new ≡ stat.old) }
 {
     empty::<Flagged>(version, out, stat)
+}
+
+/// Makes a file of bytes16, as `empty` says.
+#[unsafe(no_mangle)]
+pub extern "C" fn cvec_empty_bytes16(version: u8, out: &mut [u8], stat: &mut CvecStat) -> u32
+    ensures answer { MatchOption (first_status (empty_lines version (length out.old))) (result ≡ 0) (λ status. result ≡ code_of status) }
+    ensures done { result ≡ 0 → Creates bytes16 (take 12 out.new) stat.new }
+    ensures rest { drop 12 out.new ≡ drop 12 out.old }
+    ensures refused { result ≢ 0 → (out.new ≡ out.old) × (stat.new ≡ stat.old) }
+{
+    empty::<CvecBytes16>(version, out, stat)
+}
+
+/// Makes a file of bytes24, as `empty` says.
+#[unsafe(no_mangle)]
+pub extern "C" fn cvec_empty_bytes24(version: u8, out: &mut [u8], stat: &mut CvecStat) -> u32
+    ensures answer { MatchOption (first_status (empty_lines version (length out.old))) (result ≡ 0) (λ status. result ≡ code_of status) }
+    ensures done { result ≡ 0 → Creates bytes24 (take 12 out.new) stat.new }
+    ensures rest { drop 12 out.new ≡ drop 12 out.old }
+    ensures refused { result ≢ 0 → (out.new ≡ out.old) × (stat.new ≡ stat.old) }
+{
+    empty::<CvecBytes24>(version, out, stat)
+}
+
+/// Makes a file of bytes32, as `empty` says.
+#[unsafe(no_mangle)]
+pub extern "C" fn cvec_empty_bytes32(version: u8, out: &mut [u8], stat: &mut CvecStat) -> u32
+    ensures answer { MatchOption (first_status (empty_lines version (length out.old))) (result ≡ 0) (λ status. result ≡ code_of status) }
+    ensures done { result ≡ 0 → Creates bytes32 (take 12 out.new) stat.new }
+    ensures rest { drop 12 out.new ≡ drop 12 out.old }
+    ensures refused { result ≢ 0 → (out.new ≡ out.old) × (stat.new ≡ stat.old) }
+{
+    empty::<CvecBytes32>(version, out, stat)
+}
+
+/// Makes a file of bytes64, as `empty` says.
+#[unsafe(no_mangle)]
+pub extern "C" fn cvec_empty_bytes64(version: u8, out: &mut [u8], stat: &mut CvecStat) -> u32
+    ensures answer { MatchOption (first_status (empty_lines version (length out.old))) (result ≡ 0) (λ status. result ≡ code_of status) }
+    ensures done { result ≡ 0 → Creates bytes64 (take 12 out.new) stat.new }
+    ensures rest { drop 12 out.new ≡ drop 12 out.old }
+    ensures refused { result ≢ 0 → (out.new ≡ out.old) × (stat.new ≡ stat.old) }
+{
+    empty::<CvecBytes64>(version, out, stat)
 }

@@ -10,7 +10,13 @@ ghost use Rattle.record_core.specs.declared.key_flag.Flagged.{Flagged};
 ghost use Rattle.cvec_c.specs.declared.stat.CvecStat.{CvecStat};
 ghost use Rattle.cvec_c.specs.Stat.{IsScanToldOf};
 ghost use Rattle.cvec_c.specs.Homes.{HasHomes, as_homes};
+ghost use Rattle.cvec_c.specs.ByteRecords.{bytes16, bytes24, bytes32, bytes64};
+ghost use Rattle.cvec_c.specs.declared.byte_records.CvecBytes16.{CvecBytes16};
+ghost use Rattle.cvec_c.specs.declared.byte_records.CvecBytes24.{CvecBytes24};
+ghost use Rattle.cvec_c.specs.declared.byte_records.CvecBytes32.{CvecBytes32};
+ghost use Rattle.cvec_c.specs.declared.byte_records.CvecBytes64.{CvecBytes64};
 
+use crate::byte_records::{CvecBytes16, CvecBytes24, CvecBytes32, CvecBytes64};
 use crate::stat::CvecStat;
 use crate::status::{CallStatus, CvecFault};
 use record_core::{Flagged, Pair, Record};
@@ -177,4 +183,76 @@ pub extern "C" fn cvec_homes_flagged(
     ensures refused { result ≢ 0 → result ≢ 11 → IsScanToldOf flagged image.now result fault.new × (out.new ≡ out.old) × (count.new ≡ count.old) × (stat.new ≡ stat.old) }
 {
     homes::<Flagged>(alloc, image, out, count, stat, fault)
+}
+
+/// Tells where the records of an image of bytes16 stand, as `homes` says.
+#[unsafe(no_mangle)]
+pub extern "C" fn cvec_homes_bytes16(
+    alloc: Global,
+    image: &[u8],
+    out: &mut [CvecHome],
+    count: &mut u64,
+    stat: &mut CvecStat,
+    fault: &mut CvecFault,
+) -> u32
+    ensures done { result ≡ 0 → ((records : List CvecBytes16) × HasHomes bytes16 image.now records stat.new (as_homes (take count.new out.new))) × (fault.new ≡ fault.old) }
+    ensures no_room { result ≡ 11 → (length out.old < count.new) × ((records : List CvecBytes16) × (holds : CvecStat) × (homes : List Home) × HasHomes bytes16 image.now records holds homes × (count.new ≡ length homes)) }
+    ensures unchanged { result ≡ 11 → (out.new ≡ out.old) × (stat.new ≡ stat.old) × (fault.new ≡ fault.old) }
+    ensures refused { result ≢ 0 → result ≢ 11 → IsScanToldOf bytes16 image.now result fault.new × (out.new ≡ out.old) × (count.new ≡ count.old) × (stat.new ≡ stat.old) }
+{
+    homes::<CvecBytes16>(alloc, image, out, count, stat, fault)
+}
+
+/// Tells where the records of an image of bytes24 stand, as `homes` says.
+#[unsafe(no_mangle)]
+pub extern "C" fn cvec_homes_bytes24(
+    alloc: Global,
+    image: &[u8],
+    out: &mut [CvecHome],
+    count: &mut u64,
+    stat: &mut CvecStat,
+    fault: &mut CvecFault,
+) -> u32
+    ensures done { result ≡ 0 → ((records : List CvecBytes24) × HasHomes bytes24 image.now records stat.new (as_homes (take count.new out.new))) × (fault.new ≡ fault.old) }
+    ensures no_room { result ≡ 11 → (length out.old < count.new) × ((records : List CvecBytes24) × (holds : CvecStat) × (homes : List Home) × HasHomes bytes24 image.now records holds homes × (count.new ≡ length homes)) }
+    ensures unchanged { result ≡ 11 → (out.new ≡ out.old) × (stat.new ≡ stat.old) × (fault.new ≡ fault.old) }
+    ensures refused { result ≢ 0 → result ≢ 11 → IsScanToldOf bytes24 image.now result fault.new × (out.new ≡ out.old) × (count.new ≡ count.old) × (stat.new ≡ stat.old) }
+{
+    homes::<CvecBytes24>(alloc, image, out, count, stat, fault)
+}
+
+/// Tells where the records of an image of bytes32 stand, as `homes` says.
+#[unsafe(no_mangle)]
+pub extern "C" fn cvec_homes_bytes32(
+    alloc: Global,
+    image: &[u8],
+    out: &mut [CvecHome],
+    count: &mut u64,
+    stat: &mut CvecStat,
+    fault: &mut CvecFault,
+) -> u32
+    ensures done { result ≡ 0 → ((records : List CvecBytes32) × HasHomes bytes32 image.now records stat.new (as_homes (take count.new out.new))) × (fault.new ≡ fault.old) }
+    ensures no_room { result ≡ 11 → (length out.old < count.new) × ((records : List CvecBytes32) × (holds : CvecStat) × (homes : List Home) × HasHomes bytes32 image.now records holds homes × (count.new ≡ length homes)) }
+    ensures unchanged { result ≡ 11 → (out.new ≡ out.old) × (stat.new ≡ stat.old) × (fault.new ≡ fault.old) }
+    ensures refused { result ≢ 0 → result ≢ 11 → IsScanToldOf bytes32 image.now result fault.new × (out.new ≡ out.old) × (count.new ≡ count.old) × (stat.new ≡ stat.old) }
+{
+    homes::<CvecBytes32>(alloc, image, out, count, stat, fault)
+}
+
+/// Tells where the records of an image of bytes64 stand, as `homes` says.
+#[unsafe(no_mangle)]
+pub extern "C" fn cvec_homes_bytes64(
+    alloc: Global,
+    image: &[u8],
+    out: &mut [CvecHome],
+    count: &mut u64,
+    stat: &mut CvecStat,
+    fault: &mut CvecFault,
+) -> u32
+    ensures done { result ≡ 0 → ((records : List CvecBytes64) × HasHomes bytes64 image.now records stat.new (as_homes (take count.new out.new))) × (fault.new ≡ fault.old) }
+    ensures no_room { result ≡ 11 → (length out.old < count.new) × ((records : List CvecBytes64) × (holds : CvecStat) × (homes : List Home) × HasHomes bytes64 image.now records holds homes × (count.new ≡ length homes)) }
+    ensures unchanged { result ≡ 11 → (out.new ≡ out.old) × (stat.new ≡ stat.old) × (fault.new ≡ fault.old) }
+    ensures refused { result ≢ 0 → result ≢ 11 → IsScanToldOf bytes64 image.now result fault.new × (out.new ≡ out.old) × (count.new ≡ count.old) × (stat.new ≡ stat.old) }
+{
+    homes::<CvecBytes64>(alloc, image, out, count, stat, fault)
 }

@@ -8,6 +8,7 @@
 #![tactic(auto)]
 
 mod appending;
+mod byte_records;
 mod checking;
 mod creating;
 mod frame;

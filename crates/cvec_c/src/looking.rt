@@ -7,7 +7,13 @@ ghost use Rattle.cvec_c.specs.Look.{HasShown, IsLookToldOf};
 ghost use Rattle.cvec_c.specs.Reading.{AreCopied};
 ghost use Rattle.record_core.specs.declared.key_value.Pair.{Pair};
 ghost use Rattle.record_core.specs.declared.key_flag.Flagged.{Flagged};
+ghost use Rattle.cvec_c.specs.ByteRecords.{bytes16, bytes24, bytes32, bytes64};
+ghost use Rattle.cvec_c.specs.declared.byte_records.CvecBytes16.{CvecBytes16};
+ghost use Rattle.cvec_c.specs.declared.byte_records.CvecBytes24.{CvecBytes24};
+ghost use Rattle.cvec_c.specs.declared.byte_records.CvecBytes32.{CvecBytes32};
+ghost use Rattle.cvec_c.specs.declared.byte_records.CvecBytes64.{CvecBytes64};
 
+use crate::byte_records::{CvecBytes16, CvecBytes24, CvecBytes32, CvecBytes64};
 use crate::reading::copy_from;
 use crate::stat::CvecStat;
 use crate::status::{CallStatus, CvecFault};
@@ -127,4 +133,72 @@ pub extern "C" fn cvec_look_flagged(
     ensures refused { result ≢ 0 → IsLookToldOf flagged bytes.now result fault.new × (out.new ≡ out.old) × (count.new ≡ count.old) × (stat.new ≡ stat.old) }
 {
     look::<Flagged>(alloc, bytes, from, out, count, stat, fault)
+}
+
+/// Copies records of bytes16 out of the bytes of a file, as `look` says.
+#[unsafe(no_mangle)]
+pub extern "C" fn cvec_look_bytes16(
+    alloc: Global,
+    bytes: &[u8],
+    from: u64,
+    out: &mut [CvecBytes16],
+    count: &mut u64,
+    stat: &mut CvecStat,
+    fault: &mut CvecFault,
+) -> u32
+    ensures done { result ≡ 0 → ((records : List CvecBytes16) × HasShown bytes16 bytes.now records stat.new × AreCopied records from out.old out.new count.new) × (fault.new ≡ fault.old) }
+    ensures refused { result ≢ 0 → IsLookToldOf bytes16 bytes.now result fault.new × (out.new ≡ out.old) × (count.new ≡ count.old) × (stat.new ≡ stat.old) }
+{
+    look::<CvecBytes16>(alloc, bytes, from, out, count, stat, fault)
+}
+
+/// Copies records of bytes24 out of the bytes of a file, as `look` says.
+#[unsafe(no_mangle)]
+pub extern "C" fn cvec_look_bytes24(
+    alloc: Global,
+    bytes: &[u8],
+    from: u64,
+    out: &mut [CvecBytes24],
+    count: &mut u64,
+    stat: &mut CvecStat,
+    fault: &mut CvecFault,
+) -> u32
+    ensures done { result ≡ 0 → ((records : List CvecBytes24) × HasShown bytes24 bytes.now records stat.new × AreCopied records from out.old out.new count.new) × (fault.new ≡ fault.old) }
+    ensures refused { result ≢ 0 → IsLookToldOf bytes24 bytes.now result fault.new × (out.new ≡ out.old) × (count.new ≡ count.old) × (stat.new ≡ stat.old) }
+{
+    look::<CvecBytes24>(alloc, bytes, from, out, count, stat, fault)
+}
+
+/// Copies records of bytes32 out of the bytes of a file, as `look` says.
+#[unsafe(no_mangle)]
+pub extern "C" fn cvec_look_bytes32(
+    alloc: Global,
+    bytes: &[u8],
+    from: u64,
+    out: &mut [CvecBytes32],
+    count: &mut u64,
+    stat: &mut CvecStat,
+    fault: &mut CvecFault,
+) -> u32
+    ensures done { result ≡ 0 → ((records : List CvecBytes32) × HasShown bytes32 bytes.now records stat.new × AreCopied records from out.old out.new count.new) × (fault.new ≡ fault.old) }
+    ensures refused { result ≢ 0 → IsLookToldOf bytes32 bytes.now result fault.new × (out.new ≡ out.old) × (count.new ≡ count.old) × (stat.new ≡ stat.old) }
+{
+    look::<CvecBytes32>(alloc, bytes, from, out, count, stat, fault)
+}
+
+/// Copies records of bytes64 out of the bytes of a file, as `look` says.
+#[unsafe(no_mangle)]
+pub extern "C" fn cvec_look_bytes64(
+    alloc: Global,
+    bytes: &[u8],
+    from: u64,
+    out: &mut [CvecBytes64],
+    count: &mut u64,
+    stat: &mut CvecStat,
+    fault: &mut CvecFault,
+) -> u32
+    ensures done { result ≡ 0 → ((records : List CvecBytes64) × HasShown bytes64 bytes.now records stat.new × AreCopied records from out.old out.new count.new) × (fault.new ≡ fault.old) }
+    ensures refused { result ≢ 0 → IsLookToldOf bytes64 bytes.now result fault.new × (out.new ≡ out.old) × (count.new ≡ count.old) × (stat.new ≡ stat.old) }
+{
+    look::<CvecBytes64>(alloc, bytes, from, out, count, stat, fault)
 }

@@ -7,7 +7,13 @@ ghost use Rattle.cvec_c.specs.Stat.{HasRecords, IsScanToldOf};
 ghost use Rattle.cvec_c.specs.Reading.{AreCopied};
 ghost use Rattle.record_core.specs.declared.key_value.Pair.{Pair};
 ghost use Rattle.record_core.specs.declared.key_flag.Flagged.{Flagged};
+ghost use Rattle.cvec_c.specs.ByteRecords.{bytes16, bytes24, bytes32, bytes64};
+ghost use Rattle.cvec_c.specs.declared.byte_records.CvecBytes16.{CvecBytes16};
+ghost use Rattle.cvec_c.specs.declared.byte_records.CvecBytes24.{CvecBytes24};
+ghost use Rattle.cvec_c.specs.declared.byte_records.CvecBytes32.{CvecBytes32};
+ghost use Rattle.cvec_c.specs.declared.byte_records.CvecBytes64.{CvecBytes64};
 
+use crate::byte_records::{CvecBytes16, CvecBytes24, CvecBytes32, CvecBytes64};
 use crate::status::{CallStatus, CvecFault};
 use record_core::{Flagged, Pair, Record};
 use segment_core::scan;
@@ -129,4 +135,68 @@ pub extern "C" fn cvec_read_flagged(
     ensures refused { result ≢ 0 → IsScanToldOf flagged image.now result fault.new × (out.new ≡ out.old) × (count.new ≡ count.old) }
 {
     read::<Flagged>(alloc, image, from, out, count, fault)
+}
+
+/// Copies records of bytes16 out of an image, as `read` says.
+#[unsafe(no_mangle)]
+pub extern "C" fn cvec_read_bytes16(
+    alloc: Global,
+    image: &[u8],
+    from: u64,
+    out: &mut [CvecBytes16],
+    count: &mut u64,
+    fault: &mut CvecFault,
+) -> u32
+    ensures done { result ≡ 0 → ((records : List CvecBytes16) × HasRecords bytes16 image.now records × AreCopied records from out.old out.new count.new) × (fault.new ≡ fault.old) }
+    ensures refused { result ≢ 0 → IsScanToldOf bytes16 image.now result fault.new × (out.new ≡ out.old) × (count.new ≡ count.old) }
+{
+    read::<CvecBytes16>(alloc, image, from, out, count, fault)
+}
+
+/// Copies records of bytes24 out of an image, as `read` says.
+#[unsafe(no_mangle)]
+pub extern "C" fn cvec_read_bytes24(
+    alloc: Global,
+    image: &[u8],
+    from: u64,
+    out: &mut [CvecBytes24],
+    count: &mut u64,
+    fault: &mut CvecFault,
+) -> u32
+    ensures done { result ≡ 0 → ((records : List CvecBytes24) × HasRecords bytes24 image.now records × AreCopied records from out.old out.new count.new) × (fault.new ≡ fault.old) }
+    ensures refused { result ≢ 0 → IsScanToldOf bytes24 image.now result fault.new × (out.new ≡ out.old) × (count.new ≡ count.old) }
+{
+    read::<CvecBytes24>(alloc, image, from, out, count, fault)
+}
+
+/// Copies records of bytes32 out of an image, as `read` says.
+#[unsafe(no_mangle)]
+pub extern "C" fn cvec_read_bytes32(
+    alloc: Global,
+    image: &[u8],
+    from: u64,
+    out: &mut [CvecBytes32],
+    count: &mut u64,
+    fault: &mut CvecFault,
+) -> u32
+    ensures done { result ≡ 0 → ((records : List CvecBytes32) × HasRecords bytes32 image.now records × AreCopied records from out.old out.new count.new) × (fault.new ≡ fault.old) }
+    ensures refused { result ≢ 0 → IsScanToldOf bytes32 image.now result fault.new × (out.new ≡ out.old) × (count.new ≡ count.old) }
+{
+    read::<CvecBytes32>(alloc, image, from, out, count, fault)
+}
+
+/// Copies records of bytes64 out of an image, as `read` says.
+#[unsafe(no_mangle)]
+pub extern "C" fn cvec_read_bytes64(
+    alloc: Global,
+    image: &[u8],
+    from: u64,
+    out: &mut [CvecBytes64],
+    count: &mut u64,
+    fault: &mut CvecFault,
+) -> u32
+    ensures done { result ≡ 0 → ((records : List CvecBytes64) × HasRecords bytes64 image.now records × AreCopied records from out.old out.new count.new) × (fault.new ≡ fault.old) }
+    ensures refused { result ≢ 0 → IsScanToldOf bytes64 image.now result fault.new × (out.new ≡ out.old) × (count.new ≡ count.old) }
+{
+    read::<CvecBytes64>(alloc, image, from, out, count, fault)
 }
