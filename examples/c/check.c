@@ -15,6 +15,10 @@ static check_call *check_of(const char *type) {
     if (!strcmp(type, "i64")) return cvec_check_i64;
     if (!strcmp(type, "pair")) return cvec_check_pair;
     if (!strcmp(type, "flagged")) return cvec_check_flagged;
+    if (!strcmp(type, "bytes16")) return cvec_check_bytes16;
+    if (!strcmp(type, "bytes24")) return cvec_check_bytes24;
+    if (!strcmp(type, "bytes32")) return cvec_check_bytes32;
+    if (!strcmp(type, "bytes64")) return cvec_check_bytes64;
     return NULL;
 }
 

@@ -4,8 +4,9 @@
  * that they are passed. They call nothing of the system but malloc, realloc and free. The second part is cvec_file.c,
  * which makes the system's calls in the order that the first part asks for; it is not proved. docs/use/c.md tells both.
  *
- * A record type is u32, u64, i64, pair or flagged. Functions that need one stand here once for each. A file has the width
- * of its records and not their type: one of u64 is read as i64 too, and no function can tell (docs/file/format.md#records).
+ * A record type is u32, u64, i64, pair, flagged, bytes16, bytes24, bytes32 or bytes64. Functions that need one stand here once
+ * for each. A file has the width of its records and not their type: one of u64 is read as i64 too, one of pair as bytes16, and
+ * no function can tell (docs/file/format.md#records).
  * A function that answers another number than CVEC_DONE changes nothing but *fault (and *count, at CVEC_NO_ROOM).
  *
  * Pointers of the first part are never NULL, also where the length is 0, are aligned as their type, and memory that is
@@ -122,6 +123,27 @@ typedef struct cvec_flagged {
     bool flag; /* 0 or 1 */
 } cvec_flagged;
 
+/* Any 16, 24, 32 or 64 bytes, in memory in the order of the file. The library reads them as words, so they are aligned as such. */
+typedef union cvec_bytes16 {
+    uint8_t bytes[16];
+    uint64_t words[2];
+} cvec_bytes16;
+
+typedef union cvec_bytes24 {
+    uint8_t bytes[24];
+    uint64_t words[3];
+} cvec_bytes24;
+
+typedef union cvec_bytes32 {
+    uint8_t bytes[32];
+    uint64_t words[4];
+} cvec_bytes32;
+
+typedef union cvec_bytes64 {
+    uint8_t bytes[64];
+    uint64_t words[8];
+} cvec_bytes64;
+
 /* The place of the first gate behind the header, and the bytes of an empty file. */
 #define CVEC_FIRST_GATE 11
 #define CVEC_EMPTY_LEN 12
@@ -141,6 +163,10 @@ CVEC_CHECK(u64)
 CVEC_CHECK(i64)
 CVEC_CHECK(pair)
 CVEC_CHECK(flagged)
+CVEC_CHECK(bytes16)
+CVEC_CHECK(bytes24)
+CVEC_CHECK(bytes32)
+CVEC_CHECK(bytes64)
 
 /* cvec_read_TYPE: copies the records from position `from` on over out[0 .. room], as far as both reach; *count is how
  * many. It answers as cvec_check_TYPE does, and takes as much memory. */
@@ -152,6 +178,10 @@ CVEC_READ(u64, uint64_t)
 CVEC_READ(i64, int64_t)
 CVEC_READ(pair, cvec_pair)
 CVEC_READ(flagged, cvec_flagged)
+CVEC_READ(bytes16, cvec_bytes16)
+CVEC_READ(bytes24, cvec_bytes24)
+CVEC_READ(bytes32, cvec_bytes32)
+CVEC_READ(bytes64, cvec_bytes64)
 
 /* cvec_look_TYPE: the same of bytes that were read while another process writes the file: from the first one on, none before
  * one in front of it, up to where a read finds none; a length that was asked before may cut a frame. Then the records and
@@ -168,6 +198,10 @@ CVEC_LOOK(u64, uint64_t)
 CVEC_LOOK(i64, int64_t)
 CVEC_LOOK(pair, cvec_pair)
 CVEC_LOOK(flagged, cvec_flagged)
+CVEC_LOOK(bytes16, cvec_bytes16)
+CVEC_LOOK(bytes24, cvec_bytes24)
+CVEC_LOOK(bytes32, cvec_bytes32)
+CVEC_LOOK(bytes64, cvec_bytes64)
 
 /* cvec_homes_TYPE: checks an image as cvec_check_TYPE does, and writes the homes of the vector's positions over
  * out[0 .. *count], each position in one, in order. Where stat->changes <= stat->folded the vector's records are the ones
@@ -181,6 +215,10 @@ CVEC_HOMES(u64)
 CVEC_HOMES(i64)
 CVEC_HOMES(pair)
 CVEC_HOMES(flagged)
+CVEC_HOMES(bytes16)
+CVEC_HOMES(bytes24)
+CVEC_HOMES(bytes32)
+CVEC_HOMES(bytes64)
 
 /* cvec_empty_TYPE: writes an empty file of this version over out[0 .. CVEC_EMPTY_LEN], and *stat is what it holds. On disk
  * write all but the first byte behind a first byte that isn't 1, sync, write the first, sync: whatever a crash leaves is
@@ -191,6 +229,10 @@ CVEC_EMPTY_FILE(u64)
 CVEC_EMPTY_FILE(i64)
 CVEC_EMPTY_FILE(pair)
 CVEC_EMPTY_FILE(flagged)
+CVEC_EMPTY_FILE(bytes16)
+CVEC_EMPTY_FILE(bytes24)
+CVEC_EMPTY_FILE(bytes32)
+CVEC_EMPTY_FILE(bytes64)
 
 /* cvec_append_TYPE: writes the frame of these records and the next gate over the first CVEC_APPEND_LEN bytes of out, and
  * *next is what the file holds with them, where *stat is what it holds without. On disk they belong to place stat->gate:
@@ -206,6 +248,10 @@ CVEC_APPEND(u64, uint64_t)
 CVEC_APPEND(i64, int64_t)
 CVEC_APPEND(pair, cvec_pair)
 CVEC_APPEND(flagged, cvec_flagged)
+CVEC_APPEND(bytes16, cvec_bytes16)
+CVEC_APPEND(bytes24, cvec_bytes24)
+CVEC_APPEND(bytes32, cvec_bytes32)
+CVEC_APPEND(bytes64, cvec_bytes64)
 
 /* The frame whose gate stands at this place of the bytes of a file of this version and width: CVEC_DONE, and *frame says
  * what it has. CVEC_NO_FRAME: no whole open frame of a known kind and the right form begins there. The first gate is at
@@ -214,8 +260,18 @@ uint32_t cvec_frame_at(const uint8_t *image, size_t len, uint64_t at, uint8_t ve
 
 /* ---- cvec_file.c: the calls of the system, not proved */
 
-/* The type of a file's records. */
-typedef enum cvec_type { CVEC_U32, CVEC_U64, CVEC_I64, CVEC_PAIR, CVEC_FLAGGED } cvec_type;
+/* The type of a file's records. cvec_vector.h has those up to CVEC_FLAGGED. */
+typedef enum cvec_type {
+    CVEC_U32,
+    CVEC_U64,
+    CVEC_I64,
+    CVEC_PAIR,
+    CVEC_FLAGGED,
+    CVEC_BYTES16,
+    CVEC_BYTES24,
+    CVEC_BYTES32,
+    CVEC_BYTES64
+} cvec_type;
 
 /* A file that is open for reading and appending, by one thread at a time, in the process that opened it: one that is forked
  * can only close it, and until it does, ends or runs another program, the file is in use. */

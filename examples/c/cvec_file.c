@@ -36,7 +36,11 @@ static uint32_t check(cvec_type type, const uint8_t *image, size_t len, cvec_sta
     case CVEC_U64: return cvec_check_u64(image, len, stat, fault);
     case CVEC_I64: return cvec_check_i64(image, len, stat, fault);
     case CVEC_PAIR: return cvec_check_pair(image, len, stat, fault);
-    default: return cvec_check_flagged(image, len, stat, fault);
+    case CVEC_FLAGGED: return cvec_check_flagged(image, len, stat, fault);
+    case CVEC_BYTES16: return cvec_check_bytes16(image, len, stat, fault);
+    case CVEC_BYTES24: return cvec_check_bytes24(image, len, stat, fault);
+    case CVEC_BYTES32: return cvec_check_bytes32(image, len, stat, fault);
+    default: return cvec_check_bytes64(image, len, stat, fault);
     }
 }
 
@@ -47,7 +51,11 @@ static uint32_t read_records(cvec_type type, const uint8_t *image, size_t len, u
     case CVEC_U64: return cvec_read_u64(image, len, from, out, room, count, fault);
     case CVEC_I64: return cvec_read_i64(image, len, from, out, room, count, fault);
     case CVEC_PAIR: return cvec_read_pair(image, len, from, out, room, count, fault);
-    default: return cvec_read_flagged(image, len, from, out, room, count, fault);
+    case CVEC_FLAGGED: return cvec_read_flagged(image, len, from, out, room, count, fault);
+    case CVEC_BYTES16: return cvec_read_bytes16(image, len, from, out, room, count, fault);
+    case CVEC_BYTES24: return cvec_read_bytes24(image, len, from, out, room, count, fault);
+    case CVEC_BYTES32: return cvec_read_bytes32(image, len, from, out, room, count, fault);
+    default: return cvec_read_bytes64(image, len, from, out, room, count, fault);
     }
 }
 
@@ -58,7 +66,11 @@ static uint32_t look_at(cvec_type type, const uint8_t *bytes, size_t len, uint64
     case CVEC_U64: return cvec_look_u64(bytes, len, from, out, room, count, stat, fault);
     case CVEC_I64: return cvec_look_i64(bytes, len, from, out, room, count, stat, fault);
     case CVEC_PAIR: return cvec_look_pair(bytes, len, from, out, room, count, stat, fault);
-    default: return cvec_look_flagged(bytes, len, from, out, room, count, stat, fault);
+    case CVEC_FLAGGED: return cvec_look_flagged(bytes, len, from, out, room, count, stat, fault);
+    case CVEC_BYTES16: return cvec_look_bytes16(bytes, len, from, out, room, count, stat, fault);
+    case CVEC_BYTES24: return cvec_look_bytes24(bytes, len, from, out, room, count, stat, fault);
+    case CVEC_BYTES32: return cvec_look_bytes32(bytes, len, from, out, room, count, stat, fault);
+    default: return cvec_look_bytes64(bytes, len, from, out, room, count, stat, fault);
     }
 }
 
@@ -68,7 +80,11 @@ static uint32_t empty_file(cvec_type type, uint8_t *out, size_t room, cvec_stat 
     case CVEC_U64: return cvec_empty_u64(1, out, room, stat);
     case CVEC_I64: return cvec_empty_i64(1, out, room, stat);
     case CVEC_PAIR: return cvec_empty_pair(1, out, room, stat);
-    default: return cvec_empty_flagged(1, out, room, stat);
+    case CVEC_FLAGGED: return cvec_empty_flagged(1, out, room, stat);
+    case CVEC_BYTES16: return cvec_empty_bytes16(1, out, room, stat);
+    case CVEC_BYTES24: return cvec_empty_bytes24(1, out, room, stat);
+    case CVEC_BYTES32: return cvec_empty_bytes32(1, out, room, stat);
+    default: return cvec_empty_bytes64(1, out, room, stat);
     }
 }
 
@@ -79,7 +95,11 @@ static uint32_t frame_of(cvec_type type, const cvec_stat *stat, const void *reco
     case CVEC_U64: return cvec_append_u64(stat, records, count, out, room, next);
     case CVEC_I64: return cvec_append_i64(stat, records, count, out, room, next);
     case CVEC_PAIR: return cvec_append_pair(stat, records, count, out, room, next);
-    default: return cvec_append_flagged(stat, records, count, out, room, next);
+    case CVEC_FLAGGED: return cvec_append_flagged(stat, records, count, out, room, next);
+    case CVEC_BYTES16: return cvec_append_bytes16(stat, records, count, out, room, next);
+    case CVEC_BYTES24: return cvec_append_bytes24(stat, records, count, out, room, next);
+    case CVEC_BYTES32: return cvec_append_bytes32(stat, records, count, out, room, next);
+    default: return cvec_append_bytes64(stat, records, count, out, room, next);
     }
 }
 

@@ -11,6 +11,10 @@ union record {
     int64_t i64;
     cvec_pair pair;
     cvec_flagged flagged;
+    cvec_bytes16 bytes16;
+    cvec_bytes24 bytes24;
+    cvec_bytes32 bytes32;
+    cvec_bytes64 bytes64;
 };
 
 static const uint32_t two_u32[] = {1, UINT32_MAX};
@@ -18,15 +22,25 @@ static const uint64_t two_u64[] = {1, UINT64_MAX};
 static const int64_t two_i64[] = {-1, INT64_MIN};
 static const cvec_pair two_pair[] = {{1, -1}, {UINT64_MAX, INT64_MAX}};
 static const cvec_flagged two_flagged[] = {{1, true}, {UINT64_MAX, false}};
+static const cvec_bytes16 two_bytes16[] = {{{1, 2}}, {{[14] = 254, 255}}};
+static const cvec_bytes24 two_bytes24[] = {{{1, 2}}, {{[22] = 254, 255}}};
+static const cvec_bytes32 two_bytes32[] = {{{1, 2}}, {{[30] = 254, 255}}};
+static const cvec_bytes64 two_bytes64[] = {{{1, 2}}, {{[62] = 254, 255}}};
 
 static const struct {
     const char *name;
     cvec_type type;
     const void *two;
 } types[] = {
-    {"u32", CVEC_U32, two_u32},    {"u64", CVEC_U64, two_u64},             {"i64", CVEC_I64, two_i64},
-    {"pair", CVEC_PAIR, two_pair}, {"flagged", CVEC_FLAGGED, two_flagged},
+    {"u32", CVEC_U32, two_u32},             {"u64", CVEC_U64, two_u64},             {"i64", CVEC_I64, two_i64},
+    {"pair", CVEC_PAIR, two_pair},          {"flagged", CVEC_FLAGGED, two_flagged}, {"bytes16", CVEC_BYTES16, two_bytes16},
+    {"bytes24", CVEC_BYTES24, two_bytes24}, {"bytes32", CVEC_BYTES32, two_bytes32}, {"bytes64", CVEC_BYTES64, two_bytes64},
 };
+
+static void list_bytes(const uint8_t *bytes, size_t len) {
+    for (size_t at = 0; at < len; at++) printf("%02x", bytes[at]);
+    putchar('\n');
+}
 
 static void list(cvec_type type, const void *records, uint64_t count) {
     for (uint64_t k = 0; k < count; k++) switch (type) {
@@ -34,7 +48,11 @@ static void list(cvec_type type, const void *records, uint64_t count) {
         case CVEC_U64: printf("%" PRIu64 "\n", ((const uint64_t *)records)[k]); break;
         case CVEC_I64: printf("%" PRId64 "\n", ((const int64_t *)records)[k]); break;
         case CVEC_PAIR: printf("%" PRIu64 ":%" PRId64 "\n", ((const cvec_pair *)records)[k].key, ((const cvec_pair *)records)[k].value); break;
-        default: printf("%" PRIu64 ":%d\n", ((const cvec_flagged *)records)[k].key, ((const cvec_flagged *)records)[k].flag); break;
+        case CVEC_FLAGGED: printf("%" PRIu64 ":%d\n", ((const cvec_flagged *)records)[k].key, ((const cvec_flagged *)records)[k].flag); break;
+        case CVEC_BYTES16: list_bytes(((const cvec_bytes16 *)records)[k].bytes, 16); break;
+        case CVEC_BYTES24: list_bytes(((const cvec_bytes24 *)records)[k].bytes, 24); break;
+        case CVEC_BYTES32: list_bytes(((const cvec_bytes32 *)records)[k].bytes, 32); break;
+        default: list_bytes(((const cvec_bytes64 *)records)[k].bytes, 64); break;
     }
 }
 
