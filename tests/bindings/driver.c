@@ -20,11 +20,17 @@ union records {
     int64_t i64[MOST];
     cvec_pair pair[MOST];
     cvec_flagged flagged[MOST];
-    unsigned char bytes[16 * MOST];
+    cvec_bytes16 bytes16[MOST];
+    cvec_bytes24 bytes24[MOST];
+    cvec_bytes32 bytes32[MOST];
+    cvec_bytes64 bytes64[MOST];
+    unsigned char bytes[64 * MOST];
 };
 
-static const char *const names[] = {"u32", "u64", "i64", "pair", "flagged"};
-static const size_t in_c[] = {4, 8, 8, 16, sizeof(cvec_flagged)}, in_file[] = {4, 8, 8, 16, 9};
+static const char *const names[] = {"u32", "u64", "i64", "pair", "flagged", "bytes16", "bytes24", "bytes32", "bytes64"};
+static const size_t in_file[] = {4, 8, 8, 16, 9, 16, 24, 32, 64};
+static const size_t in_c[] = {4, 8, 8, 16, sizeof(cvec_flagged), sizeof(cvec_bytes16), sizeof(cvec_bytes24),
+                              sizeof(cvec_bytes32), sizeof(cvec_bytes64)};
 
 static cvec_file files[HANDLES];
 static union records records;
@@ -56,12 +62,33 @@ static cvec_file *handle(void) { return &files[next_word()[0] - 'a']; }
 
 static cvec_type type_of(void) {
     char *word = next_word();
-    for (int k = 0; k < 5; k++)
+    for (size_t k = 0; k < sizeof names / sizeof *names; k++)
         if (!strcmp(word, names[k])) return (cvec_type)k;
     exit(2);
 }
 
 /* ---- records */
+
+static unsigned char *bytes_of_record(cvec_type type, size_t k) {
+    switch (type) {
+    case CVEC_BYTES16: return records.bytes16[k].bytes;
+    case CVEC_BYTES24: return records.bytes24[k].bytes;
+    case CVEC_BYTES32: return records.bytes32[k].bytes;
+    default: return records.bytes64[k].bytes;
+    }
+}
+
+static void take_bytes(unsigned char *bytes, size_t len, const char *hex) {
+    if (strlen(hex) != 2 * len) exit(2);
+    for (size_t at = 0; at < len; at++) {
+        char two[] = {hex[2 * at], hex[2 * at + 1], '\0'};
+        bytes[at] = (unsigned char)strtoul(two, NULL, 16);
+    }
+}
+
+static void tell_hex(const unsigned char *bytes, size_t len) {
+    for (size_t at = 0; at < len; at++) printf("%02x", bytes[at]);
+}
 
 static void take_record(cvec_type type, size_t k, char *word) {
     char *colon = strchr(word, ':');
@@ -70,7 +97,8 @@ static void take_record(cvec_type type, size_t k, char *word) {
     case CVEC_U64: records.u64[k] = strtoull(word, NULL, 10); break;
     case CVEC_I64: records.i64[k] = strtoll(word, NULL, 10); break;
     case CVEC_PAIR: records.pair[k] = (cvec_pair){strtoull(word, NULL, 10), strtoll(colon + 1, NULL, 10)}; break;
-    default: records.flagged[k] = (cvec_flagged){strtoull(word, NULL, 10), colon[1] == '1'}; break;
+    case CVEC_FLAGGED: records.flagged[k] = (cvec_flagged){strtoull(word, NULL, 10), colon[1] == '1'}; break;
+    default: take_bytes(bytes_of_record(type, k), in_file[type], word); break;
     }
 }
 
@@ -80,7 +108,8 @@ static void tell_record(cvec_type type, size_t k) {
     case CVEC_U64: printf(" %" PRIu64, records.u64[k]); break;
     case CVEC_I64: printf(" %" PRId64, records.i64[k]); break;
     case CVEC_PAIR: printf(" %" PRIu64 ":%" PRId64, records.pair[k].key, records.pair[k].value); break;
-    default: printf(" %" PRIu64 ":%d", records.flagged[k].key, records.flagged[k].flag); break;
+    case CVEC_FLAGGED: printf(" %" PRIu64 ":%d", records.flagged[k].key, records.flagged[k].flag); break;
+    default: putchar(' '), tell_hex(bytes_of_record(type, k), in_file[type]); break;
     }
 }
 
@@ -162,7 +191,11 @@ static uint32_t homes_of(cvec_type type, const unsigned char *image, size_t len,
     case CVEC_U64: return cvec_homes_u64(image, len, homes, HOMES, count, stat, fault);
     case CVEC_I64: return cvec_homes_i64(image, len, homes, HOMES, count, stat, fault);
     case CVEC_PAIR: return cvec_homes_pair(image, len, homes, HOMES, count, stat, fault);
-    default: return cvec_homes_flagged(image, len, homes, HOMES, count, stat, fault);
+    case CVEC_FLAGGED: return cvec_homes_flagged(image, len, homes, HOMES, count, stat, fault);
+    case CVEC_BYTES16: return cvec_homes_bytes16(image, len, homes, HOMES, count, stat, fault);
+    case CVEC_BYTES24: return cvec_homes_bytes24(image, len, homes, HOMES, count, stat, fault);
+    case CVEC_BYTES32: return cvec_homes_bytes32(image, len, homes, HOMES, count, stat, fault);
+    default: return cvec_homes_bytes64(image, len, homes, HOMES, count, stat, fault);
     }
 }
 
@@ -212,7 +245,7 @@ static void put(void) {
 static void tell_bytes(void) {
     size_t len = 0;
     unsigned char *bytes = bytes_of(next_word(), &len);
-    for (size_t k = 0; k < len; k++) printf("%02x", bytes[k]);
+    tell_hex(bytes, len);
     putchar('\n');
     free(bytes);
 }

@@ -138,6 +138,8 @@ answers_are_right() {
 
 answers_are_right_in_c() (
     answers_are_right c
+    follows c bytes.txt
+    follows c bytes_map.txt
     follows c often.txt
     follows c shared.txt
 )
