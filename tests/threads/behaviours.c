@@ -1494,11 +1494,18 @@ static void typed_of(const char *path, cvec_type type, uint8_t version) {
     HOLDS(cvec_vector_close(vector) == CVEC_DONE);
 }
 
+/* No vector is made or opened by a type that files alone have, nor by a number that is none. */
+static void refuses_type(const char *path, cvec_type type) {
+    remove(path);
+    HOLDS(cvec_vector_create_as(&vector, path, type, 1, 1) == CVEC_NOT_SO && vector == NULL && access(path, F_OK) != 0);
+    HOLDS(cvec_vector_create_as(&vector, path, CVEC_PAIR, 1, 1) == CVEC_DONE && cvec_vector_close(vector) == CVEC_DONE);
+    HOLDS(cvec_vector_open_as(&vector, path, type, 1) == CVEC_NOT_SO && vector == NULL);
+}
+
 static void typed(const char *path) {
     for (cvec_type type = CVEC_U32; type <= CVEC_FLAGGED; type++)
         for (uint8_t version = 1; version <= 2; version++) typed_of(path, type, version);
-    remove(path);
-    HOLDS(cvec_vector_create_as(&vector, path, (cvec_type)5, 1, 1) == CVEC_NOT_SO && vector == NULL && access(path, F_OK) != 0);
+    for (uint32_t type = CVEC_FLAGGED + 1; type <= CVEC_BYTES64 + 1; type++) refuses_type(path, (cvec_type)type);
 }
 
 /* A flag is 0 or 1: no call takes another byte for one, and nothing is grown or changed then. */
