@@ -36,10 +36,30 @@ a_c_program_has_records_of_each_type() (
     has_c || exit $is_skipped
     make_c_library
     compile types "$work/cvec_file.o"
-    for type in u32 u64 i64 pair flagged; do
+    for type in u32 u64 i64 pair flagged bytes16 bytes24 bytes32 bytes64; do
         "$work/types" $type "$work/file.$type" >"$out"
         [ "$(wc -l <"$out")" -eq 2 ]
         is_shown_as_written $type "$work/file.$type"
+    done
+)
+
+# The bytes of a record are in C in the order of the file; `check` knows these types too.
+a_c_program_has_records_of_bytes() (
+    has_c || exit $is_skipped
+    make_c_library
+    compile types "$work/cvec_file.o"
+    compile check "$work/cvec_file.o"
+    for width in 16 24 32 64; do
+        zeros=$(printf "%0$((2 * width - 4))d" 0)
+        payload=$((8 + 2 * width))
+        head=0143564543534547$(printf '01%02x00' $width)$(printf '0101%02x000000' $payload)0100000002000000
+        "$work/types" bytes$width "$work/file.$width" >"$out"
+        printf '0102%s\n%sfeff\n' "$zeros" "$zeros" | cmp - "$out"
+        [ "$(hex_of "$work/file.$width")" = "${head}0102$zeros${zeros}feff00" ]
+        "$work/check" bytes$width "$work/file.$width" >"$out"
+        [ "$(cat "$out")" = "version 1 width $width size 2 frames 1 changes 0 folded 0 gate $((17 + payload))" ]
+        if "$work/check" flagged "$work/file.$width" >"$out"; then exit 1; fi
+        [ "$(cat "$out")" = "refused: width $width" ]
     done
 )
 
