@@ -1,0 +1,12 @@
+use Rattle.std.proofs.Common.{sym, ap, ◌∙◌}
+use Rattle.std.proofs.lemmas.List.{take_rest}
+use Rattle.cvec_c.specs.ByteRecords.{parts32, bytes16}
+use Rattle.cvec_c.proofs.ByteRecords.{both_read}
+use Rattle.cvec_c.proofs.byte_records.CvecBytes32Record.take.Goals as goal
+
+pub returns : goal.returns
+returns c =
+    let bytes = c.args.bytes.now in
+    both_read parts32 bytes16 bytes16 bytes c.in_ok-front.front c.in_ok-back.back
+    (sym c.in_ok-front.was ∙ c.take.ensures)
+    (sym c.in_ok-back.was ∙ c.take-2.ensures ∙ ap bytes16.value_of (take_rest bytes 16))
