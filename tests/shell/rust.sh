@@ -50,12 +50,13 @@ a_crate_links_the_archive_anew_that_has_changed() (
     done
 )
 
-# As in a checkout, beside which a folder `lib` may lie, and as below a prefix.
+# As in a checkout, beside which a folder `lib` may lie that is another's, and as below a prefix, where the list of an install is.
 a_crate_links_the_archive_that_is_named_or_its_own() (
     has cc 'an archive' && has cargo 'a crate of plain Rust' || exit $is_skipped
     there=$work/there
     make_asking "$there/top/bindings/rust"
     make_asking "$there/prefix/share/cvec/rust"
+    echo lib/libcvec.a >"$there/prefix/share/cvec/files"
     unset CVEC_LIB
     make_answer "$there/lib" 1
     make_answer "$there/top/out/lib" 2
@@ -69,7 +70,10 @@ a_crate_links_the_archive_that_is_named_or_its_own() (
     if (asks "$there/top/bindings/rust" 2) >"$work/told" 2>&1; then exit 1; fi
     tells "CVEC_LIB names $work/named, which has no libcvec.a"
     unset CVEC_LIB
-    rm "$there/top/out/lib/libcvec.a" "$there/lib/libcvec.a"
-    if (asks "$there/top/bindings/rust" 2) >"$work/told" 2>&1; then exit 1; fi
+    rm "$there/top/out/lib/libcvec.a"
+    if (asks "$there/top/bindings/rust" 1) >"$work/told" 2>&1; then exit 1; fi
+    tells 'there is no libcvec.a'
+    rm "$there/prefix/lib/libcvec.a"
+    if (asks "$there/prefix/share/cvec/rust" 3) >"$work/told" 2>&1; then exit 1; fi
     tells 'there is no libcvec.a'
 )
