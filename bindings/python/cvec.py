@@ -203,16 +203,19 @@ class File:
         if start < 0:
             raise ValueError("a position is below 0")
         with self._turn():
+            slack = 0
             while True:
-                room = self._left(start, count)
+                room = self._left(start, count, slack)
                 row, done = self._read(start, room)
-                # One that is only read may have grown. It is read again, as all of it is of one moment.
+                # One that is only read may have grown. It is read again, as all of it is of one moment; with room for what comes
+                # meanwhile, or it would never end beside one who appends without rest.
                 if self._left(start, count) <= room:
                     break
+                slack = 2 * slack + 1000
         return self._kind.in_c.unpack((c_uint8 * (done * self._kind.in_c.width)).from_buffer(row))
 
-    def _left(self, start, count):
-        left = max(0, self._raw.stat.size - start)
+    def _left(self, start, count, slack=0):
+        left = max(0, self._raw.stat.size - start) + slack
         return left if count is None else min(left, count)
 
     def _read(self, start, room):

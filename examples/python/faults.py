@@ -1,4 +1,4 @@
-"""A test of cvec.py: what isn't a record is refused, threads lose nothing, a forked process appends nothing, what is closed
+"""A test of cvec.py: what isn't a record is refused, a read ends, threads lose nothing, a forked process appends nothing, what is closed
 is let go, and what is no file isn't mapped: faults.py FOLDER [plain]. With 'plain' it does so without numpy."""
 import copy
 import gc
@@ -141,6 +141,26 @@ def check_arrays_of_bytes():
             assert [piece.dtype for piece in mapped.pieces()] == ["V24"] * 3
             file.append(list(mapped.pieces())[0])
     assert listed("bytes24") == [one, last, one, other, last, other, one, one, last]
+
+
+def check_reads():
+    """A writer appends in each pass of a read, and it ends all the same: with the records of one moment."""
+    for each in (1, 5000):
+        with made("u64") as writer, cvec.open_to_read(PATH, "u64") as reader:
+            read, passes = reader._read, []
+
+            def read_behind_an_append(*words):
+                passes.append(words)
+                assert len(passes) < 50, "a read never ends"
+                writer.append([len(passes)] * each)
+                return read(*words)
+
+            writer.append([0] * each)
+            reader._read = read_behind_an_append
+            for start, count in ((0, None), (1, None), (0, 3 * each), (2 * each, 10 * each), (10 ** 6, 5)):
+                rows = list(reader.read(start, count))
+                there = [number for number in range(len(passes) + 1) for _ in range(each)]
+                assert rows == there[start:][:count], (start, count, passes)
 
 
 def check_threads():
@@ -320,6 +340,7 @@ check_rows()
 if numpy is not None:
     check_arrays()
     check_arrays_of_bytes()
+check_reads()
 check_threads()
 check_fork()
 check_closing()

@@ -13,6 +13,23 @@ a_rust_program_appends_and_reads() (
     is_shown_as_written u64 "$work/file"
 )
 
+# A test of tests/bindings/file_cases.rs, over a file of its own.
+is_so_of_a_rust_file() {
+    has_c && has rustc 'the library for plain Rust' || exit $is_skipped
+    make_c_library
+    cc -std=c99 -O2 -Wall -Wextra -Werror "-I$c" -c "$top/tests/bindings/grows.c" -o "$work/grows.o"
+    rustc --edition 2024 -D warnings --crate-type rlib --crate-name cvec -o "$work/libcvec.rlib" "$top/bindings/rust/src/lib.rs"
+    rustc --edition 2024 -D warnings -o "$work/cases" "$top/tests/bindings/file_cases.rs" --extern "cvec=$work/libcvec.rlib" \
+        -C "link-arg=$work/grows.o" -C link-arg=-Wl,--wrap=cvec_read -C "link-arg=$work/cvec_file.o" -C "link-arg=$c_library" \
+        -C "link-arg=$kit_library"
+    timeout 60 "$work/cases" "$1" "$work/t.cv"
+}
+
+a_rust_read_ends_beside_a_writer_that_does_not() (
+    export GROWS="$work/t.cv"
+    is_so_of_a_rust_file grows
+)
+
 # ---- which archive the crates link, with packages and archives that only seem them
 
 # Makes libcvec.a in this folder, whose one function answers this number.

@@ -286,17 +286,20 @@ impl<R: Record> File<R> {
 
     /// A copy of the records from a position on; of a file that another process writes as they are at one moment.
     pub fn read(&self, from: u64) -> Result<Vec<R>, Error> {
+        let mut slack: usize = 0;
         loop {
-            let mut out = vec![R::default(); self.left(from)];
+            let mut out = vec![R::default(); self.left(from).saturating_add(slack)];
             let (mut count, mut fault) = (0, Fault::default());
             // SAFETY: as above; what is written are records of the type.
             let status = unsafe { cvec_read(self.raw.get(), from, out.as_mut_ptr().cast(), out.len(), &mut count, &mut fault) };
             told(status, fault)?;
-            // One that is only read may have grown. It is read again, as all of it is of one moment.
+            // One that is only read may have grown. It is read again, as all of it is of one moment; with room for what comes
+            // meanwhile, or it would never end beside one who appends without rest.
             if self.left(from) <= out.len() {
                 out.truncate(count as usize);
                 return Ok(out);
             }
+            slack = slack.saturating_mul(2).saturating_add(1000);
         }
     }
 
