@@ -30,6 +30,10 @@ a_rust_read_ends_beside_a_writer_that_does_not() (
     is_so_of_a_rust_file grows
 )
 
+a_rust_read_without_memory_is_refused() (
+    is_so_of_a_rust_file is_refused
+)
+
 # ---- which archive the crates link, with packages and archives that only seem them
 
 # Makes libcvec.a in this folder, whose one function answers this number.

@@ -89,8 +89,9 @@ pub struct Error {
     pub errno: Option<i32>,
 }
 
-/// The numbers of a file that is damaged, and of one with a record that is none of the type.
+/// The numbers of a file that is damaged, of memory that is refused, and of a file with a record that is none of the type.
 const DAMAGED: u32 = 5;
+const MEMORY: u32 = 6;
 const NO_RECORD: u32 = 13;
 
 /// The numbers of the system's calls that fail, of which the first is to open a file.
@@ -229,6 +230,14 @@ fn name_of(path: &Path) -> Result<CString, Error> {
     CString::new(path.as_os_str().as_bytes()).map_err(|_| Error { status: DISK_OPEN, fault: Fault::default(), errno: None })
 }
 
+/// So many records, to be written over.
+fn room_for<R: Record>(count: usize) -> Result<Vec<R>, Error> {
+    let mut room = Vec::new();
+    room.try_reserve_exact(count).map_err(|_| Error { status: MEMORY, fault: Fault::default(), errno: None })?;
+    room.resize(count, R::default());
+    Ok(room)
+}
+
 impl<R: Record> File<R> {
     fn over(raw: RawFile) -> File<R> {
         File { raw: UnsafeCell::new(raw), of: PhantomData }
@@ -288,7 +297,7 @@ impl<R: Record> File<R> {
     pub fn read(&self, from: u64) -> Result<Vec<R>, Error> {
         let mut slack: usize = 0;
         loop {
-            let mut out = vec![R::default(); self.left(from).saturating_add(slack)];
+            let mut out = room_for::<R>(self.left(from).saturating_add(slack))?;
             let (mut count, mut fault) = (0, Fault::default());
             // SAFETY: as above; what is written are records of the type.
             let status = unsafe { cvec_read(self.raw.get(), from, out.as_mut_ptr().cast(), out.len(), &mut count, &mut fault) };
@@ -304,7 +313,7 @@ impl<R: Record> File<R> {
     }
 
     fn left(&self, from: u64) -> usize {
-        self.len().saturating_sub(from) as usize
+        usize::try_from(self.len().saturating_sub(from)).unwrap_or(usize::MAX)
     }
 }
 
