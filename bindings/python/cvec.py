@@ -281,22 +281,48 @@ def _open_to_map(path):
 
 
 class Map:
-    """A file that is mapped, and checked when it was: its records are seen where they stand in it. What is appended later
-    isn't. The file must not be folded or cut meanwhile. A device that fails ends the process, as with any map (SIGBUS)."""
+    """A file that is mapped, and checked when it was: its records are seen where they stand in it. Another process may append to
+    it, change records and take some away, both while it is mapped and later: what is seen is the vector of one moment of the
+    mapping, whose last growth needn't be on the device yet. The file must not be folded or cut meanwhile. A device that fails
+    ends the process, as with any map (SIGBUS)."""
 
     def __init__(self, path, kind):
         self._kind, self.stat = _TYPES[kind], Stat()
         with _open_to_map(_name_of(path)) as file:
             if os.fstat(file.fileno()).st_size == 0:
                 raise Error(_UNBORN)
-            # A private map, since ctypes takes the address of what may be written alone. Nothing is.
+            # A private map, since ctypes takes the address of what may be written alone. No file gets what is written there.
             self._map = mmap.mmap(file.fileno(), 0, access=mmap.ACCESS_COPY)
-        self._bytes = (c_uint8 * len(self._map)).from_buffer(self._map)
+            self._bytes = (c_uint8 * len(self._map)).from_buffer(self._map)
+            self._end_at_last_gate(file.fileno())
         try:
             self.homes = self._find_homes(getattr(_LIB, "cvec_homes_" + kind))
         except Error:
             self.close()
             raise
+
+    def _end_at_last_gate(self, descriptor):
+        """Keeps the gate at which the frames end now: a page that is written is the map's own, and sees no writer any more. A
+        writer would open it while homes are looked for, of a frame that may end behind the map."""
+        seen, length = self._bytes, len(self._bytes)
+        found, kept = self._walk(0, FIRST_GATE), None
+        while found != kept and found[1] < length:
+            seen[found[1]] = seen[found[1]]
+            # It may have been opened before.
+            found, kept = self._walk(*found), found
+        before, gate = found
+        last = gate if gate < length else before
+        value = seen[last]
+        # A frame that ends behind the map was shut yet when it was mapped, unless the file is cut there.
+        seen[last] = 0 if os.fstat(descriptor).st_size > length else value
+
+    def _walk(self, before, gate):
+        """From this gate on, and the one before it, over whole frames: the gate at which no frame begins, and the one before it."""
+        call, frame, start, length = _LIB.cvec_frame_at, Frame(), ctypes.addressof(self._bytes), len(self._bytes)
+        version, width, told = self._bytes[8] if length > 8 else 0, self._kind.in_file.width, byref(frame)
+        while call(start, length, gate, version, width, told) == 0:
+            before, gate = gate, frame.next
+        return before, gate
 
     def _find_homes(self, call):
         """Where the records stand, each home once."""

@@ -7,6 +7,7 @@ import os
 import pathlib
 import pickle
 import signal
+import struct
 import sys
 import threading
 
@@ -295,6 +296,91 @@ def check_maps():
     signal.alarm(0)
 
 
+# A growth of 5 and 6, and one of 7.
+GROWTHS_OF_TWO = (bytes.fromhex("0143564543534547010800"), bytes.fromhex("01011800000001000000020000000500000000000000" "0600000000000000"),
+                  bytes.fromhex("01011000000001000000010000000700000000000000" "00"))
+
+
+def mapped_as_it_grows(there, whole, moment):
+    """The records of a map of a file that has these bytes first, and all of them by that call of the map: or the refusal."""
+    calls, patched = [], []
+
+    def patch(owner, name):
+        call = getattr(owner, name)
+
+        def call_beside_a_writer(*words):
+            if len(calls) == moment:
+                with open(PATH, "r+b") as file:
+                    file.write(whole)
+            calls.append(name)
+            return call(*words)
+
+        patched.append((owner, name, call))
+        setattr(owner, name, call_beside_a_writer)
+
+    with open(PATH, "wb") as file:
+        file.write(there)
+    for owner, name in ((os, "fstat"), (cvec._LIB, "cvec_frame_at"), (cvec._LIB, "cvec_homes_u64")):
+        patch(owner, name)
+    try:
+        with cvec.Map(PATH, "u64") as seen:
+            return list(seen.records()), len(calls)
+    except cvec.Error as fault:
+        return str(fault), len(calls)
+    finally:
+        for owner, name, call in patched:
+            setattr(owner, name, call)
+
+
+def check_maps_that_grow():
+    """A writer opens a gate at any moment at which a file is mapped, of which so many bytes were written by then."""
+    head, first, second = GROWTHS_OF_TWO
+    whole = head + first + second
+    starts = ((0, ("unborn",), []), (len(head), ([],), [5, 6]), (len(head + first), ([5, 6],), [5, 6, 7]))
+    for gate, before, behind in starts:
+        ends = whole if gate == len(head + first) else (whole[:gate] + (first if gate else head) + b"\0")
+        shut = ends[:gate] + b"\0" + ends[gate + 1:]
+        for length in range(gate + 1, len(ends) + 1):
+            for moment in range(1, 9):
+                told, count = mapped_as_it_grows(shut[:length], ends, moment)
+                # What isn't mapped whole isn't seen.
+                assert told in before or length == len(ends) and told == behind, (gate, length, moment, told)
+            assert count < moment, "a moment is missing"
+    # A frame that is cut, and no writer beside it, is damaged still.
+    for length in range(len(whole) - 22, len(whole)):
+        told, _ = mapped_as_it_grows(whole[:length], b"", 0)
+        assert told == ("damaged at 41: short frame" if length < 63 else "damaged at 63: no gate"), (length, told)
+    os.remove(PATH)
+
+
+def check_maps_beside_a_writer():
+    """Behind many growths of one record, each its number, growths of which some end in the page of their gate, and others far
+    behind it."""
+    with open(PATH, "wb") as file:
+        file.write(GROWTHS_OF_TWO[0] + b"".join(struct.pack("<BBIIIQ", 1, 1, 16, 1, 1, number) for number in range(5000)) + b"\0")
+    over = threading.Event()
+
+    def write():
+        while not over.is_set():
+            size = len(writer)
+            writer.append(range(size, size + (3 if size % 2 else 3000)))
+
+    with cvec.open(PATH, "u64") as writer:
+        thread = threading.Thread(target=write)
+        thread.start()
+        try:
+            for _ in range(40):
+                with cvec.Map(PATH, "u64") as seen:
+                    last = seen.homes[-1]
+                    assert last.position + last.count == len(seen) >= 5000 and len(seen.homes) == seen.stat.frames
+                    if numpy is not None:
+                        assert [int(piece[-1]) + 1 for piece in seen.pieces()][-3:] == [it.position + it.count for it in seen.homes[-3:]]
+        finally:
+            over.set()
+            thread.join()
+    os.remove(PATH)
+
+
 def check_pickling():
     """A refusal is the same in another process; a pool, which would wait for ever, has that of its own."""
     for it in (cvec.Error(5, cvec.Fault(7, 1, 2)), cvec.Error(13, cvec.Fault(at=3)), cvec.Error(35, errno=2), cvec.Error(34)):
@@ -345,6 +431,8 @@ check_threads()
 check_fork()
 check_closing()
 check_maps()
+check_maps_that_grow()
+check_maps_beside_a_writer()
 check_pickling()
 check_interrupts()
 print("with numpy" if numpy else "without numpy")
