@@ -352,12 +352,17 @@ class Map:
 
     def frames(self):
         """The file's frames, each with the place of its gate."""
-        at, frame = FIRST_GATE, Frame()
+        at = FIRST_GATE
         while at < self.stat.gate:
-            length, stat = len(self._open_map()), self.stat
-            _pass(_LIB.cvec_frame_at(ctypes.addressof(self._bytes), length, at, stat.version, stat.width, byref(frame)))
-            yield at, Frame.from_buffer_copy(frame)
+            frame = self._frame_at(at)
+            yield at, frame
             at = frame.next
+
+    def _frame_at(self, at):
+        # Another thread may close the map during the call, which has it by a name of its own.
+        held, seen, frame = self._bytes, self._open_map(), Frame()
+        _pass(_LIB.cvec_frame_at(ctypes.addressof(held), len(seen), at, self.stat.version, self.stat.width, byref(frame)))
+        return frame
 
     def is_plain(self):
         """Whether the records stand in their homes: no change is live."""
@@ -389,4 +394,5 @@ class Map:
 
     def close(self):
         """Lets go of the file. Pieces that are still held keep the map."""
-        self._bytes = self._map = None
+        # In this order: who has found the map has its bytes.
+        self._map = self._bytes = None

@@ -381,6 +381,25 @@ def check_maps_beside_a_writer():
     os.remove(PATH)
 
 
+def check_maps_that_are_closed():
+    """As another thread may, in the midst of a call."""
+    library, call = cvec._LIB, cvec._LIB.cvec_frame_at
+    with open(PATH, "wb") as file:
+        file.write(b"".join(GROWTHS_OF_TWO))
+    seen, told = cvec.Map(PATH, "u64"), []
+
+    def closed(*words):
+        seen.close()
+        gc.collect()
+        return call(*words)
+
+    library.cvec_frame_at = closed
+    assert refusal_of(lambda: told.extend(seen.frames())) == "the map is closed"
+    library.cvec_frame_at = call
+    assert [(at, frame.next, frame.records) for at, frame in told] == [(11, 41, 2)]
+    os.remove(PATH)
+
+
 def check_pickling():
     """A refusal is the same in another process; a pool, which would wait for ever, has that of its own."""
     for it in (cvec.Error(5, cvec.Fault(7, 1, 2)), cvec.Error(13, cvec.Fault(at=3)), cvec.Error(35, errno=2), cvec.Error(34)):
@@ -433,6 +452,7 @@ check_closing()
 check_maps()
 check_maps_that_grow()
 check_maps_beside_a_writer()
+check_maps_that_are_closed()
 check_pickling()
 check_interrupts()
 print("with numpy" if numpy else "without numpy")
