@@ -8,6 +8,12 @@ except ImportError:
     numpy = None
 
 
+def has_mask(kind):
+    """Whether arrays of this class, and their rows, mask entries: what stands there may be anything, and no range of it is looked
+    at."""
+    return numpy is not None and kind is not numpy.ndarray and issubclass(kind, numpy.ndarray) and issubclass(kind, numpy.ma.MaskedArray)
+
+
 class Form:
     """How the records of a type stand one behind the other: each as `struct` packs it, which is how numpy has it."""
 
@@ -22,6 +28,8 @@ class Form:
     def pack(self, records):
         """The bytes of a row of whole numbers, of tuples for a type with two fields, or of `bytes` for one of bytes; or of an array
         of numpy with one dimension. A flag is whatever is true or false. ValueError: not all of them are records of the type."""
+        if has_mask(type(records)):
+            raise ValueError("no records of the type: an array with a mask")
         if numpy is not None and isinstance(records, numpy.ndarray):
             if records.ndim != 1:
                 raise ValueError(f"no records of the type: an array with {records.ndim} dimensions")

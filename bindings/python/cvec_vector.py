@@ -25,7 +25,7 @@ import time
 from ctypes import POINTER, byref, c_size_t, c_uint8, c_uint16, c_uint32, c_uint64, c_void_p
 from typing import Any, Iterable, Iterator, NamedTuple
 
-from cvec_records import IN_C, numpy
+from cvec_records import IN_C, has_mask, numpy
 
 MOST_SEATS = 64
 GREATEST_ROW = 256
@@ -164,7 +164,7 @@ class _Records:
     def _is_lent(self, records: Any) -> bool:
         """Whether it stands in memory as C reads it. Flags may be bytes that are neither 0 nor 1, so they are copied."""
         flags = records.flags
-        return self._code is not None and records.dtype == self._form.dtype and records.ndim == 1 and flags.c_contiguous and flags.aligned
+        return not has_mask(type(records)) and self._code is not None and records.dtype == self._form.dtype and records.ndim == 1 and flags.c_contiguous and flags.aligned
 
     def lend(self, records: Any) -> tuple[Any, Any, int]:
         """What has to live while C reads the records, where they stand, and how many words they are. No copy is made of an
@@ -228,8 +228,8 @@ class _Rows:
         self._raw = f"V{width}"
 
     def lend(self, records: Any) -> tuple[Any, Any, int]:
-        if not isinstance(records, numpy.ndarray) or records.dtype != self.dtype or records.ndim != 1:
-            raise ValueError(f"no records of the type: not an array of {self.dtype} with one dimension")
+        if not isinstance(records, numpy.ndarray) or has_mask(type(records)) or records.dtype != self.dtype or records.ndim != 1:
+            raise ValueError(f"no records of the type: not an array of {self.dtype} with one dimension, and no mask")
         row = numpy.asarray(records).view(self._raw)
         if not row.flags.c_contiguous or _address_of(row) % 8 != 0:
             row = row.copy()

@@ -124,6 +124,21 @@ def check_arrays():
     assert listed("flagged") == [(0, True), (0, False), (0, True)] * 2
 
 
+def check_masked_arrays():
+    """What is masked may be anything, also what is no record; an array with a mask is refused where it masks nothing too."""
+    of = numpy.ma.array
+    pairs, seen = numpy.array([(1, 2), (3, 4)], dtype=[("key", "<u8"), ("value", "<i8")]), numpy.frombuffer(bytes(32), dtype="V16")
+    for kind, rows in (("u64", [of([1, -5, 3], mask=[0, 1, 0]), of([1, 2], dtype="u8"), of([1, 2], mask=[0, 1], dtype=object),
+                                [numpy.ma.masked]]),
+                       ("u32", [of([1, 2 ** 40], mask=[0, 1])]), ("i64", [of([1, 2 ** 63], mask=[0, 1], dtype="u8")]),
+                       ("pair", [of(pairs, mask=[(0, 0), (0, 1)]), of(pairs)]), ("bytes16", [of(seen, mask=[0, 1])]),
+                       ("flagged", [of(flags([0, 1]), mask=[(0, 0), (0, 1)])])):
+        with made(kind) as file:
+            check_refused(file, rows)
+            assert len(file) == 0
+            file.append(of([5, 7], mask=[0, 1]).compressed() if kind[0] in "ui" else numpy.asarray(rows[0]))
+
+
 def check_arrays_of_bytes():
     """An array of V is taken as it is, also one that isn't in one piece; what its elements are is a record too."""
     one, other, last = GOOD["bytes24"]
@@ -445,6 +460,7 @@ check_rows()
 if numpy is not None:
     check_arrays()
     check_arrays_of_bytes()
+    check_masked_arrays()
 check_reads()
 check_threads()
 check_fork()

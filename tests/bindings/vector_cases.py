@@ -218,6 +218,28 @@ def arrays():
     assert records() == [5, 7, 8, 9, 0, 2, 4, 1, 2, 9, GREATEST, 3, GREATEST, 4, 1, GREATEST]
 
 
+def arrays_with_a_mask():
+    """What is masked may be anything, also what is no record; an array with a mask is refused where it masks nothing too."""
+    of = numpy.ma.array
+    flags = numpy.zeros(2, dtype=[("key", "u8"), ("flag", "?")])
+    for name, rows in (("u64", [of([1, -5], mask=[0, 1]), of([1, 2], mask=[0, 1], dtype="u8"), of([1, 2], dtype="u8"), [numpy.ma.masked]]),
+                       ("i64", [of([1, 2], mask=[0, 1], dtype="i8")]), ("u32", [of([1, 2 ** 40], mask=[0, 1]), of([1], dtype="u4")]),
+                       ("flagged", [of(flags, mask=[(0, 0), (0, 1)])])):
+        with Vector.create(PATH, type=name) as vector:
+            for row in rows:
+                has_no(ValueError, vector.grow, row)
+                has_no(ValueError, vector.change, 0, row)
+            assert len(vector) == 0
+        os.remove(PATH)
+    points = numpy.array([(1, 2.5), (3, 4.5)], dtype=[("key", "u8"), ("place", "f8")])
+    with Vector.create(PATH, dtype=points.dtype) as vector, vector.appender() as out:
+        for row in (of(points, mask=[(0, 0), (0, 1)]), of(points)):
+            has_no(ValueError, vector.grow, row)
+            has_no(ValueError, out.push, row[1])
+        vector.grow(numpy.asarray(row))
+    assert records() == [1, 0x4004000000000000, 3, 0x4012000000000000]
+
+
 def rows_of_a_dtype():
     point = numpy.dtype([("key", "<u8"), ("place", "<f8", 2), ("flag", "?"), ("rest", "V7")])
     rows = numpy.zeros(50, dtype=point)

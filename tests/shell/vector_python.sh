@@ -119,6 +119,7 @@ a_python_vector_takes_no_other_values() (
 
 a_python_vector_takes_arrays_of_numpy() (
     is_so_with_numpy arrays
+    is_so_with_numpy arrays_with_a_mask
 )
 
 a_python_vector_has_rows_of_a_dtype() (
