@@ -14,6 +14,16 @@ def has_mask(kind):
     return numpy is not None and kind is not numpy.ndarray and issubclass(kind, numpy.ndarray) and issubclass(kind, numpy.ma.MaskedArray)
 
 
+def _is_no_record(kind):
+    """Whether what has this class is no record with two fields, though it may have two entries."""
+    return issubclass(kind, (bytes, bytearray, memoryview)) or has_mask(kind)
+
+
+def _are_bytes(records):
+    """Whether each entry is a byte, which is no number of its own. A view of numbers may be a piece of a map."""
+    return isinstance(records, (bytes, bytearray)) or isinstance(records, memoryview) and records.itemsize == 1
+
+
 class Form:
     """How the records of a type stand one behind the other: each as `struct` packs it, which is how numpy has it."""
 
@@ -28,6 +38,8 @@ class Form:
     def pack(self, records):
         """The bytes of a row of whole numbers, of tuples for a type with two fields, or of `bytes` for one of bytes; or of an array
         of numpy with one dimension. A flag is whatever is true or false. ValueError: not all of them are records of the type."""
+        if _are_bytes(records):
+            raise ValueError("no records of the type: bytes")
         if has_mask(type(records)):
             raise ValueError("no records of the type: an array with a mask")
         if numpy is not None and isinstance(records, numpy.ndarray):
@@ -38,11 +50,16 @@ class Form:
             records = records.tolist()
         try:
             return b"".join(self._packed(records))
-        except (struct.error, TypeError) as fault:
+        except (struct.error, TypeError, NotImplementedError) as fault:
             raise ValueError(f"no records of the type: {fault}") from fault
 
     def _packed(self, records):
-        return (map if self.is_number else itertools.starmap)(self.record.pack, records)
+        if self.is_number:
+            return map(self.record.pack, records)
+        records = list(records)
+        for kind in filter(_is_no_record, set(map(type, records))):
+            raise ValueError(f"no records of the type: one is of {kind.__name__}")
+        return itertools.starmap(self.record.pack, records)
 
     def _pack_array(self, array):
         if array.dtype.names != self.dtype.names:

@@ -1,5 +1,6 @@
 """A test of cvec.py: what isn't a record is refused, a read ends, threads lose nothing, a forked process appends nothing, what is closed
 is let go, and what is no file isn't mapped: faults.py FOLDER [plain]. With 'plain' it does so without numpy."""
+import array
 import copy
 import gc
 import multiprocessing
@@ -35,16 +36,20 @@ GOOD = {
 
 def no_bytes(width):
     """Rows of what isn't so many bytes."""
-    return [[bytes(width - 1)], [bytes(width + 1)], [bytes(width), bytes(width - 1)], [bytes(2 * width)], [b""], bytes(width),
-            ["0" * width], ["00" * width], [bytearray(width)], [(bytes(width),)], [[0] * width], [0], [None], 1, "0" * width]
+    return [[bytes(width - 1)], [bytes(width + 1)], [bytes(width), bytes(width - 1)], [bytes(2 * width)], [b""], bytes(width), b"",
+            bytearray(width), memoryview(bytes(width)), ["0" * width], ["00" * width], [bytearray(width)], [(bytes(width),)], [[0] * width], [0], [None], 1, "0" * width]
 
+
+# A byte is no number of its own, and two are no record with two fields.
+BYTES = [b"12345678", bytearray(8), memoryview(bytes(8)), memoryview(bytes(8)).cast("b"), b"", [b"1"], [bytearray(1)]]
+TWO_BYTES = [[b"12"], [(1, 2), b"12"], (b"12", (1, 2)), [bytearray(2)], [memoryview(bytes(2))], {b"12": 3}]
 
 BAD = {
-    "u32": [[-1], [2 ** 32], [1.0], ["1"], [[1, 2]], [None], 1],
-    "u64": [[-1], [2 ** 64], [1.5], [1, 2 ** 64 + 1], [(1, 2)]],
-    "i64": [[2 ** 63], [-2 ** 63 - 1], [1.0]],
-    "pair": [[(1, 2 ** 63)], [(-1, 1)], [(1.0, 1)], [(1,)], [(1, 2, 3)], [1, 2]],
-    "flagged": [[(2 ** 64, True)], [(-1, True)], [True]],
+    "u32": [[-1], [2 ** 32], [1.0], ["1"], [[1, 2]], [None], 1, *BYTES],
+    "u64": [[-1], [2 ** 64], [1.5], [1, 2 ** 64 + 1], [(1, 2)], memoryview(bytes(64)).cast("Q", (2, 4)), *BYTES],
+    "i64": [[2 ** 63], [-2 ** 63 - 1], [1.0], *BYTES],
+    "pair": [[(1, 2 ** 63)], [(-1, 1)], [(1.0, 1)], [(1,)], [(1, 2, 3)], [1, 2], *BYTES, *TWO_BYTES],
+    "flagged": [[(2 ** 64, True)], [(-1, True)], [True], *BYTES, *TWO_BYTES],
     **{f"bytes{width}": no_bytes(width) for width in (16, 24, 32, 64)},
 }
 
@@ -85,6 +90,12 @@ def check_rows():
     with made("flagged") as file:
         file.append([(1, 5), (2, 0)])
     assert listed("flagged") == [(1, True), (2, False)]
+    # A view of numbers is a row of them, as the pieces of a map are.
+    with made("u32") as file:
+        file.append(memoryview(array.array("I", [5, 7, 11])))
+        with cvec.Map(PATH, "u32") as seen:
+            file.append(list(seen.pieces())[0])
+    assert listed("u32") == [5, 7, 11] * 2
 
 
 def flags(numbers):
@@ -131,8 +142,8 @@ def check_masked_arrays():
     for kind, rows in (("u64", [of([1, -5, 3], mask=[0, 1, 0]), of([1, 2], dtype="u8"), of([1, 2], mask=[0, 1], dtype=object),
                                 [numpy.ma.masked]]),
                        ("u32", [of([1, 2 ** 40], mask=[0, 1])]), ("i64", [of([1, 2 ** 63], mask=[0, 1], dtype="u8")]),
-                       ("pair", [of(pairs, mask=[(0, 0), (0, 1)]), of(pairs)]), ("bytes16", [of(seen, mask=[0, 1])]),
-                       ("flagged", [of(flags([0, 1]), mask=[(0, 0), (0, 1)])])):
+                       ("pair", [of(pairs, mask=[(0, 0), (0, 1)]), of(pairs), list(of(pairs, mask=[(0, 0), (0, 1)]))]), ("bytes16", [of(seen, mask=[0, 1])]),
+                       ("flagged", [of(flags([0, 1]), mask=[(0, 0), (0, 1)]), list(of(flags([0, 1]), mask=[(0, 0), (0, 1)]))])):
         with made(kind) as file:
             check_refused(file, rows)
             assert len(file) == 0

@@ -362,8 +362,8 @@ def records_of_each_type():
         for name in ("pair", "flagged"):
             has_no(ValueError, Vector.open, PATH, type=name)
         return
-    has_records_of("pair", 16, [(1, -1), (2 ** 64 - 1, -2 ** 63)], [(0, 0), (7, 7), (8, 8)], [(-1, 0), (1, 2 ** 63), 5, (1, 2, 3)])
-    has_records_of("flagged", 9, [(1, True), (2 ** 64 - 1, False)], [(0, False), (7, True), (8, True)], [(-1, True), 5])
+    has_records_of("pair", 16, [(1, -1), (2 ** 64 - 1, -2 ** 63)], [(0, 0), (7, 7), (8, 8)], [(-1, 0), (1, 2 ** 63), 5, (1, 2, 3), b"12", bytearray(2)])
+    has_records_of("flagged", 9, [(1, True), (2 ** 64 - 1, False)], [(0, False), (7, True), (8, True)], [(-1, True), 5, b"12", memoryview(b"12")])
 
 
 def arrays_of_each_type():
