@@ -863,10 +863,10 @@ class Vector(_Single):
             for seat in self._seats:
                 seat._give_up()
             handle, self._handle = self._handle, None
-            self._places.wake_all()
             if handle is None:
                 return
             try:
+                self._places.wake_all()
                 _LIB.cvec_vector_stop_flusher(handle)
                 for runs in self._flushers:
                     with runs:

@@ -22,6 +22,7 @@ if sys.argv[3:] == ["plain"]:
     sys.modules["numpy"] = None
 import cvec_vector
 from cvec_vector import Error, Status, Vector, _milliseconds, numpy
+from moments import is_interrupted
 from vector_blocks import block, places_of, records_of
 
 FOLDER = sys.argv[1]
@@ -554,6 +555,35 @@ def seats_and_flushers_are_interrupted():
         has_no(KeyboardInterrupt, vector.run_flusher, math.inf)
     vector.close()
     assert records() == [5, 7, 11]
+
+
+def is_closed_behind(interrupt):
+    """What this answers of the close of a vector. Closed once more, nothing is lost, and nobody has the file."""
+    vector = Vector.create(PATH, seats=1)
+    vector.stop_flusher()
+    vector.run_flusher(math.inf)  # which has ended, and is waited for
+    vector.grow([5])
+    told = interrupt(vector.close)
+    vector.close()
+    with Vector.open(PATH) as again:
+        assert list(again) == records() == [5]
+    os.remove(PATH)
+    return told
+
+
+def a_close_is_interrupted_at_any_moment():
+    signal.alarm(100)
+
+    def interrupt_c(close):
+        interrupted(cvec_vector._LIB, "cvec_vector_" + name)
+        has_no(KeyboardInterrupt, close)
+
+    for name in ("close_seat", "stop_flusher", "close"):
+        is_closed_behind(interrupt_c)
+    moments = 0
+    while is_closed_behind(lambda close: is_interrupted(close, moments)):
+        moments += 1
+    assert moments > 10
 
 
 # ---- the whole vector
