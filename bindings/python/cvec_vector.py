@@ -506,6 +506,10 @@ class _Places:
 
     def leave(self, seat: Seat) -> None:
         self.free.append(seat)
+        self.wake()
+
+    def wake(self) -> None:
+        """One of those who wait looks for a seat."""
         if self._waiting:
             self._left.put(None)
 
@@ -647,9 +651,11 @@ class Vector(_Single):
     def _replace(self, seat: Seat) -> None:
         """With the lock and the gate of this seat: another one has its place, and is free."""
         heir, at = Seat(self), self._seats.index(seat)
+        # Who waits for it comes behind the lock.
+        self._places.wake()
         # No interrupt comes in between.
         heir._handle, heir._last, self._seats[at], seat._handle = seat._handle, seat._last, heir, None
-        self._places.leave(heir)
+        self._places.free.append(heir)
 
     def _take_handle(self, seat: Seat) -> None:
         """With the gate of this seat: it has one of C's, from when C has given it on."""

@@ -586,6 +586,34 @@ def a_close_is_interrupted_at_any_moment():
     assert moments > 10
 
 
+def a_seat_is_left_behind(interrupt):
+    """What this answers of the close of a seat. It goes on then, or has left its place to another thread, which waits for it."""
+    with Vector.create(PATH, seats=1) as vector:
+        assert vector.grow([5]) == (0, 0, 1)
+        seat, told = vector.seat(), []
+        thread = threading.Thread(target=lambda: told.append(vector.seat(timeout=50).grow([7])))
+        thread.start()
+        while not vector._places._waiting:
+            time.sleep(0.001)
+        came = interrupt(seat.close)
+        if not seat.closed:
+            assert seat.size() == 1
+            seat.close()
+        thread.join(20)
+        assert told == [(1, 1, 1)] and vector.grow([11]) == (2, 2, 1)
+    assert records() == [5, 7, 11]
+    os.remove(PATH)
+    return came
+
+
+def a_close_of_a_seat_is_interrupted_at_any_moment():
+    signal.alarm(100)
+    moments = 0
+    while a_seat_is_left_behind(lambda close: is_interrupted(close, moments)):
+        moments += 1
+    assert moments > 10
+
+
 # ---- the whole vector
 
 def the_whole_vector():

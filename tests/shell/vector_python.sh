@@ -152,6 +152,8 @@ interrupted_calls_of_a_python_vector_leave_it() (
     is_so_without_numpy seats_and_flushers_are_interrupted
     rm -rf "$work/files"
     is_so_without_numpy a_close_is_interrupted_at_any_moment
+    rm -rf "$work/files"
+    is_so_without_numpy a_close_of_a_seat_is_interrupted_at_any_moment
 )
 
 # ---- the whole vector
