@@ -166,9 +166,14 @@ class Seat:
 
     def close(self):
         """Closes the pipes, of which the server then sees the end."""
-        descriptors = [it for it in (self.requests, self.answers) if it is not None]
-        self.requests, self.answers, self.over = None, None, self.over or ("the seat has ended here",)
-        _close(descriptors)
+        self.over = self.over or ("the seat has ended here",)
+        # No interrupt comes between what takes one away and its own close: behind one, another call closes what is left.
+        requests, self.requests = self.requests, None
+        if requests is not None:
+            os.close(requests)
+        answers, self.answers = self.answers, None
+        if answers is not None:
+            os.close(answers)
 
     def end(self):
         """Asks for the end, unless the seat is over, and closes the pipes."""
@@ -238,15 +243,24 @@ class Server:
             pass
         return self.process.returncode
 
-    def __enter__(self):
-        return self
-
-    def __exit__(self, fault, *_):
+    def _end_seats(self):
         for seat in self.seats:
             try:
                 seat.end()
             except (Gone, Refused):
                 pass
+
+    def __enter__(self):
+        return self
+
+    def __exit__(self, fault, *_):
+        try:
+            self._end_seats()
+        except BaseException:
+            # As Ctrl-C: no answer is waited for any more, and the server sees the end of each.
+            for seat in self.seats:
+                seat.close()
+            raise
         status = self.wait()
         if status != 0 and fault is None:
             raise Gone(*_end_of(status))

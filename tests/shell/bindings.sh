@@ -333,6 +333,16 @@ for limit in range(4, 24):
 CLIENT
 )
 
+# Ctrl-C comes at each moment at which it ends a seat or a server: what is left of the pipes is closed by another call.
+a_python_client_that_is_interrupted_leaves_no_pipe() (
+    has python3 'clients of a server' || exit $is_skipped
+    run create u64 "$work/t.cv"
+    PYTHONPATH=$top/bindings/python PYTHONDONTWRITEBYTECODE=1 timeout 200 python3 "$bindings/client_interrupts.py" "$top/cvec" "$work/t.cv" \
+        >"$work/records"
+    run list u64 "$work/t.cv"
+    [ "$(wc -l <"$out")" -eq "$(cat "$work/records")" ]
+)
+
 # A client's words, of which the first is `c` or `python`, at a terminal of its own.
 at_a_terminal() {
     how=$1
