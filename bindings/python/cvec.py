@@ -304,13 +304,12 @@ class Map:
     def _end_at_last_gate(self, descriptor):
         """Keeps the gate at which the frames end now: a page that is written is the map's own, and sees no writer any more. A
         writer would open it while homes are looked for, of a frame that may end behind the map."""
-        seen, length = self._bytes, len(self._bytes)
-        found, kept = self._walk(0, FIRST_GATE), None
-        while found != kept and found[1] < length:
-            seen[found[1]] = seen[found[1]]
+        seen, length, kept = self._bytes, len(self._bytes), None
+        before, gate = self._walk(0, FIRST_GATE)
+        while gate < length and gate != kept:
+            seen[gate], kept = seen[gate], gate
             # It may have been opened before.
-            found, kept = self._walk(*found), found
-        before, gate = found
+            before, gate = self._walk(before, gate)
         last = gate if gate < length else before
         value = seen[last]
         # A frame that ends behind the map was shut yet when it was mapped, unless the file is cut there.

@@ -37,7 +37,8 @@ GOOD = {
 def no_bytes(width):
     """Rows of what isn't so many bytes."""
     return [[bytes(width - 1)], [bytes(width + 1)], [bytes(width), bytes(width - 1)], [bytes(2 * width)], [b""], bytes(width), b"",
-            bytearray(width), memoryview(bytes(width)), ["0" * width], ["00" * width], [bytearray(width)], [(bytes(width),)], [[0] * width], [0], [None], 1, "0" * width]
+            bytearray(width), memoryview(bytes(width)), ["0" * width], ["00" * width], [bytearray(width)], [(bytes(width),)],
+            [[0] * width], [0], [None], 1, "0" * width]
 
 
 # A byte is no number of its own, and two are no record with two fields.
@@ -142,7 +143,8 @@ def check_masked_arrays():
     for kind, rows in (("u64", [of([1, -5, 3], mask=[0, 1, 0]), of([1, 2], dtype="u8"), of([1, 2], mask=[0, 1], dtype=object),
                                 [numpy.ma.masked]]),
                        ("u32", [of([1, 2 ** 40], mask=[0, 1])]), ("i64", [of([1, 2 ** 63], mask=[0, 1], dtype="u8")]),
-                       ("pair", [of(pairs, mask=[(0, 0), (0, 1)]), of(pairs), list(of(pairs, mask=[(0, 0), (0, 1)]))]), ("bytes16", [of(seen, mask=[0, 1])]),
+                       ("pair", [of(pairs, mask=[(0, 0), (0, 1)]), of(pairs), list(of(pairs, mask=[(0, 0), (0, 1)]))]),
+                       ("bytes16", [of(seen, mask=[0, 1])]),
                        ("flagged", [of(flags([0, 1]), mask=[(0, 0), (0, 1)]), list(of(flags([0, 1]), mask=[(0, 0), (0, 1)]))])):
         with made(kind) as file:
             check_refused(file, rows)
