@@ -127,8 +127,37 @@ static int refuses(const struct cvec_seat *seat, uint32_t count) {
     return count > RECORDS_LIMIT / seat->width ? CVEC_REFUSED_TOO_MANY : 0;
 }
 
+/* Whether the next answer would be that of a growth that was sent before: it would be read as another request's. */
+static int is_owed(const struct cvec_seat *seat) {
+    if (seat->over || seat->untaken == 0)
+        return 0;
+    errno = EBUSY;
+    return 1;
+}
+
 static int ask(struct cvec_seat *seat, uint32_t kind, uint32_t count, uint64_t start, struct answer *answer) {
-    return send_head(seat, kind, count, start) ? -1 : take_head(seat, answer);
+    if (is_owed(seat) || send_head(seat, kind, count, start))
+        return -1;
+    return take_head(seat, answer);
+}
+
+/* For a seat that isn't over: the answer of the first growth that is owed. */
+static int take_owed(struct cvec_seat *seat, struct answer *answer) {
+    seat->untaken--;
+    return take_head(seat, answer);
+}
+
+/* Takes all that is owed: the first answer that isn't 0, since its growth wasn't made. Those that the end of the seat leaves are
+ * never told. */
+static int take_all_owed(struct cvec_seat *seat) {
+    struct answer answer;
+    int told = 0;
+    while (!seat->over && seat->untaken > 0) {
+        int status = take_owed(seat, &answer);
+        if (told == 0)
+            told = status;
+    }
+    return told == 0 && seat->untaken > 0 ? fail(0) : told;
 }
 
 /* Closes so many pipes. errno goes on saying why a call before has failed. */
@@ -224,6 +253,7 @@ int cvec_seat_of(struct cvec_seat *seat, const char *type, int requests, int ans
     seat->answers = answers;
     seat->width = width_of(type);
     seat->over = 0;
+    seat->untaken = 0;
     if (seat->width > 0)
         return 0;
     errno = EINVAL;
@@ -259,14 +289,21 @@ int cvec_seat_send_growth(struct cvec_seat *seat, const void *records, uint32_t 
     int refused = refuses(seat, count);
     if (refused)
         return refused;
-    if (send_head(seat, GROW, count, 0))
+    if (send_head(seat, GROW, count, 0) || send_bytes(seat, records, (size_t)count * seat->width))
         return -1;
-    return send_bytes(seat, records, (size_t)count * seat->width);
+    seat->untaken++;
+    return 0;
 }
 
 int cvec_seat_take_growth(struct cvec_seat *seat, uint64_t *number, uint64_t *start) {
     struct answer answer;
-    int status = take_head(seat, &answer);
+    if (seat->over)
+        return fail(0);
+    if (seat->untaken == 0) {
+        errno = EPROTO;
+        return -1;
+    }
+    int status = take_owed(seat, &answer);
     if (status == 0) {
         *number = answer.first;
         *start = answer.second;
@@ -275,7 +312,9 @@ int cvec_seat_take_growth(struct cvec_seat *seat, uint64_t *number, uint64_t *st
 }
 
 int cvec_seat_grow(struct cvec_seat *seat, const void *records, uint32_t count, uint64_t *number, uint64_t *start) {
-    int status = cvec_seat_send_growth(seat, records, count);
+    int status = refuses(seat, count);
+    if (status == 0)
+        status = is_owed(seat) ? -1 : cvec_seat_send_growth(seat, records, count);
     return status ? status : cvec_seat_take_growth(seat, number, start);
 }
 
@@ -321,10 +360,14 @@ static void close_end(int *end) {
 
 int cvec_seat_end(struct cvec_seat *seat) {
     struct answer answer;
-    int status = seat->over ? 0 : ask(seat, END, 0, 0, &answer);
+    int status = take_all_owed(seat);
+    int ended = seat->over ? 0 : ask(seat, END, 0, 0, &answer);
+    if (status == 0)
+        status = ended;
     close_end(&seat->requests);
     close_end(&seat->answers);
     seat->over = 1;
+    seat->untaken = 0;
     return status;
 }
 
@@ -355,7 +398,7 @@ const char *cvec_answer_text(int answer) {
         "it isn't known to be settled, since the file refused: restart the system before it is opened again",
     };
     if (answer == -1)
-        return "the server has ended, or reads no more of this seat: each growth that it hasn't told is settled stands in "
-               "the file whole, or not at all";
+        return "the server has ended, or reads no more of this seat, or answers of growths have to be taken in turn (EBUSY, "
+               "EPROTO): each growth that it hasn't told is settled stands in the file whole, or not at all";
     return answer >= 0 && answer < (int)(sizeof texts / sizeof *texts) ? texts[answer] : "an unknown answer";
 }

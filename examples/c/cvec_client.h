@@ -7,6 +7,10 @@
  * CVEC_REFUSED_TOO_MANY, which are found before anything is sent. cvec_answer_text has each answer in words. Behind -1 errno
  * is EPIPE where the server has ended or the seat was over, else the system's reason.
  *
+ * Where growths are sent by cvec_seat_send_growth, their answers are taken before anything but a growth is asked: until then
+ * all but cvec_seat_end answer -1 with the errno EBUSY. To take one where none is left is -1 with EPROTO. Nothing is sent
+ * then, nothing is waited for, and the seat goes on.
+ *
  * What is to be written by a call is written only where it answers 0; but a read that the server's end cuts may have written
  * some of its records. A program that goes on behind a server's end ignores SIGPIPE.
  *
@@ -50,6 +54,7 @@ struct cvec_seat {
     int answers;
     size_t width;
     int over; /* the server reads no more of it, or an answer wasn't read whole */
+    uint64_t untaken; /* so many growths were sent whose answers aren't taken */
 };
 
 struct cvec_server {
@@ -87,7 +92,9 @@ int cvec_seat_look(struct cvec_seat *seat, uint64_t *size, uint64_t *settled);
  * knows none there. */
 int cvec_seat_read(struct cvec_seat *seat, uint64_t start, void *records, uint32_t count, uint32_t *copied);
 
-/* Ends the seat, and closes its pipes. 0 also where it was over before. A seat that has ended may be ended again. */
+/* Takes the answers that are left, ends the seat, and closes its pipes. It answers what the first of these growths was refused for,
+ * also where the end is well; and -1 where some are never answered. Else 0 also where it was over before. A seat that has ended
+ * may be ended again. */
 int cvec_seat_end(struct cvec_seat *seat);
 
 /* Waits until the server has ended, which it does behind its last seat: its exit status, 0 where all that was grown is

@@ -92,6 +92,8 @@ static int is_refused(int fault, uint64_t one, uint64_t other) {
     if (fault == 0) return 0;
     if (one != untouched || other != untouched) puts("a number was written");
     if (fault == -1 && errno == EPIPE) puts("gone");
+    else if (fault == -1 && errno == EBUSY) puts("answers are left");
+    else if (fault == -1 && errno == EPROTO) puts("no answer is left");
     else if (fault == -1) printf("gone, and errno is %d\n", errno);
     else printf("refused %d\n", fault);
     return 1;

@@ -284,6 +284,15 @@ a_table_holds_for_clients() (
     follows client_arrays client_python.txt
 )
 
+# Also where each call is interrupted once, and does a part of what it is asked.
+growths_of_a_client_in_c_are_answered_in_turn() (
+    has_tables || exit $is_skipped
+    make_client
+    make_calls
+    follows client_c sent.txt
+    follows client_c sent.txt part
+)
+
 # No pipe has the number of a standard stream, which the server gets of its own.
 a_python_client_may_have_closed_streams() (
     has python3 'clients of a server' || exit $is_skipped
