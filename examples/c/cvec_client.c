@@ -16,8 +16,8 @@ enum { REQUEST_LEN = 16, ANSWER_LEN = 24 };
 /* The most bytes that the records of one request have. */
 enum { RECORDS_LIMIT = (1 << 20) - 8 };
 
-/* Above all descriptors that a server's pipes have. */
-enum { FREE_DESCRIPTOR = 4 + 2 * CVEC_SEAT_LIMIT };
+/* The descriptor at which a server has the first of its pipes; the others follow. */
+enum { FIRST_PIPE = 3 };
 
 struct answer {
     uint32_t status, count;
@@ -234,14 +234,15 @@ static void mute(void) {
  * terminal sends to the client, which may still want to be told what is durable. */
 static void run(const char *program, const char *type, const char *file, int pipes[][2], int count) {
     char seats[32];
+    const int behind = FIRST_PIPE + 2 * count; /* and no further: few descriptors may be allowed */
     for (int k = 0; k < 2 * count; k++)
-        pipes[k][k % 2] = fcntl(pipes[k][k % 2], F_DUPFD_CLOEXEC, FREE_DESCRIPTOR);
+        pipes[k][k % 2] = fcntl(pipes[k][k % 2], F_DUPFD_CLOEXEC, behind);
     mute();
     if (setsid() < 0)
         _exit(127);
     signal(SIGPIPE, SIG_IGN);
     for (int k = 0; k < 2 * count; k++)
-        if (dup2(pipes[k][k % 2], 3 + k) < 0)
+        if (dup2(pipes[k][k % 2], FIRST_PIPE + k) < 0)
             _exit(127);
     snprintf(seats, sizeof seats, "--seats=%d", count);
     execlp(program, program, "serve", type, file, seats, (char *)0);

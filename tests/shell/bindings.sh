@@ -293,6 +293,14 @@ growths_of_a_client_in_c_are_answered_in_turn() (
     follows client_c sent.txt part
 )
 
+clients_start_servers() (
+    has_tables || exit $is_skipped
+    make_client
+    for caller in client_c client_python; do
+        follows $caller starts.txt
+    done
+)
+
 # No pipe has the number of a standard stream, which the server gets of its own.
 a_python_client_may_have_closed_streams() (
     has python3 'clients of a server' || exit $is_skipped
