@@ -186,8 +186,10 @@ class Seat:
 
 def _prepare(descriptors):
     """In the child: gives them the places from 3 on, by way of others above all of these, so that none is overwritten. A
-    client that is gone is to end its seat, and no signal the server."""
+    client that is gone is to end its seat, and no signal the server. Those that are sent to itself reach it, also where the thread
+    that starts it has blocked them."""
     signal.signal(signal.SIGPIPE, signal.SIG_IGN)
+    signal.pthread_sigmask(signal.SIG_SETMASK, [])
     high = [fcntl.fcntl(it, fcntl.F_DUPFD_CLOEXEC, 3 + len(descriptors)) for it in descriptors]
     for at, descriptor in enumerate(high):
         os.dup2(descriptor, 3 + at)

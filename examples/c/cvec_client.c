@@ -229,23 +229,30 @@ static void mute(void) {
         close(nothing);
 }
 
-/* In the child: the server's ends get their descriptors, by way of others, so that none is overwritten, and it is run. A
- * client that is gone is to end its seat, and no signal the server: in a session of its own it gets none of those that a
- * terminal sends to the client, which may still want to be told what is durable. */
-static void run(const char *program, const char *type, const char *file, int pipes[][2], int count) {
-    char seats[32];
+/* In the child: a client that is gone is to end its seat, and no signal the server: in a session of its own it gets none of those
+ * that a terminal sends to the client, which may still want to be told what is durable. Those that are sent to itself reach it,
+ * also where the thread that starts it has blocked them. */
+static void take_own_signals(void) {
+    sigset_t none;
+    if (setsid() < 0)
+        _exit(127);
+    signal(SIGPIPE, SIG_IGN);
+    sigemptyset(&none);
+    sigprocmask(SIG_SETMASK, &none, NULL);
+}
+
+/* In the child: the server's ends get their descriptors, by way of others, so that none is overwritten, and it is run. The words
+ * were made before the fork: another thread may have had a lock then that making them would wait for. */
+static void run(char *const words[], int pipes[][2], int count) {
     const int behind = FIRST_PIPE + 2 * count; /* and no further: few descriptors may be allowed */
     for (int k = 0; k < 2 * count; k++)
         pipes[k][k % 2] = fcntl(pipes[k][k % 2], F_DUPFD_CLOEXEC, behind);
     mute();
-    if (setsid() < 0)
-        _exit(127);
-    signal(SIGPIPE, SIG_IGN);
     for (int k = 0; k < 2 * count; k++)
         if (dup2(pipes[k][k % 2], FIRST_PIPE + k) < 0)
             _exit(127);
-    snprintf(seats, sizeof seats, "--seats=%d", count);
-    execlp(program, program, "serve", type, file, seats, (char *)0);
+    take_own_signals();
+    execvp(words[0], words);
     _exit(127);
 }
 
@@ -261,12 +268,9 @@ int cvec_seat_of(struct cvec_seat *seat, const char *type, int requests, int ans
     return -1;
 }
 
-int cvec_server_start(struct cvec_server *server, const char *program, const char *type, const char *file, int count) {
+/* The server runs these words, and has the other ends of the pipes of its seats. */
+static int start_server(struct cvec_server *server, char *const words[], const char *type, int count) {
     int pipes[2 * CVEC_SEAT_LIMIT][2]; /* for each seat that of its requests, and that of its answers */
-    if (count < 1 || count > CVEC_SEAT_LIMIT || width_of(type) == 0) {
-        errno = EINVAL;
-        return -1;
-    }
     if (open_pipes(pipes, 2 * count))
         return -1;
     server->count = count;
@@ -277,13 +281,24 @@ int cvec_server_start(struct cvec_server *server, const char *program, const cha
         return -1;
     }
     if (server->pid == 0)
-        run(program, type, file, pipes, count);
+        run(words, pipes, count);
     for (int k = 0; k < count; k++) {
         close(pipes[2 * k][0]);
         close(pipes[2 * k + 1][1]);
         cvec_seat_of(&server->seats[k], type, pipes[2 * k][1], pipes[2 * k + 1][0]);
     }
     return 0;
+}
+
+int cvec_server_start(struct cvec_server *server, const char *program, const char *type, const char *file, int count) {
+    char seats[32];
+    if (count < 1 || count > CVEC_SEAT_LIMIT || width_of(type) == 0) {
+        errno = EINVAL;
+        return -1;
+    }
+    snprintf(seats, sizeof seats, "--seats=%d", count);
+    char *const words[] = {(char *)program, (char *)"serve", (char *)type, (char *)file, seats, NULL}; /* none is written */
+    return start_server(server, words, type, count);
 }
 
 int cvec_seat_send_growth(struct cvec_seat *seat, const void *records, uint32_t count) {

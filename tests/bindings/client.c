@@ -158,6 +158,14 @@ static void start(void) {
     else puts("done");
 }
 
+/* Blocks this signal in the client from now on. */
+static void block(void) {
+    sigset_t blocked;
+    sigemptyset(&blocked);
+    sigaddset(&blocked, (int)number());
+    sigprocmask(SIG_BLOCK, &blocked, NULL);
+}
+
 /* The server has ended when this returns, and is still to be waited for. */
 static void kill_server(void) {
     siginfo_t ended;
@@ -220,6 +228,7 @@ static void follow(char *line) {
     else if (!strcmp(word, "end")) end();
     else if (!strcmp(word, "kill")) kill_server();
     else if (!strcmp(word, "wait")) wait_for_server();
+    else if (!strcmp(word, "block")) block();
     else if (!strcmp(word, "texts")) texts();
     else if (!strcmp(word, "sh")) {
         fflush(stdout);

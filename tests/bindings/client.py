@@ -99,6 +99,11 @@ def wait():
     return "killed" if status == -signal.SIGKILL else f"ended by signal {-status}"
 
 
+def block(number):
+    """Blocks this signal in the client from now on."""
+    signal.pthread_sigmask(signal.SIG_BLOCK, [int(number)])
+
+
 def ignoring(*words):
     """Follows a command while nothing is kept of a child that ends."""
     signal.signal(signal.SIGCHLD, signal.SIG_IGN)
@@ -141,6 +146,7 @@ COMMANDS = {
     "serve": start, "grow": grow, "await": lambda name: f"settled {seat(name).settle()}", "read": read,
     "look": lambda name: "size %d settled %d" % seat(name).look(), "leave": leave, "end": end, "kill": kill, "wait": wait,
     "sh": shell, "all": read_all, "within": within, "texts": texts, "ignoring": ignoring, "forked": forked,
+    "block": block,
     "threads": in_threads, "why": lambda: f"{last}; status {last.status}", "leave_in": leave_in, "close": close,
     "serve_bytes": lambda program, type, path, seats: start(program, type, os.fsencode(path), seats),
     "serve_path": lambda program, type, path, seats: start(program, type, pathlib.Path(path), seats),
