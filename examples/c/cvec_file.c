@@ -204,6 +204,15 @@ static uint32_t lock_by(int fd, int operation) {
     return errno == EWOULDBLOCK ? CVEC_IN_USE : CVEC_DISK_OPEN;
 }
 
+/* For the process that has opened it: gives the lock up too. A program that another thread starts has a copy of the descriptor
+ * until it runs, which would keep the file locked behind the close. */
+static void close_unlocked(int fd) {
+    int why = errno;
+    lock_by(fd, LOCK_UN);
+    close(fd);
+    errno = why;
+}
+
 /* The whole time of a turn, whichever signals come: a timer's would else cut all turns short. */
 static void wait_a_turn(void) {
     struct timespec left = {0, LOCK_WAIT};
@@ -352,7 +361,7 @@ static uint32_t open_locked(cvec_file *file, const char *path, cvec_type type, i
         if (answer == CVEC_DONE) answer = ask_name(path, file->fd, &leads_here);
         if (answer != CVEC_DONE || leads_here) return answer;
         if (turns >= LOCK_TURNS) return CVEC_IN_USE;
-        close_quietly(file->fd);
+        close_unlocked(file->fd);
         wait_a_turn();
     }
 }
@@ -567,8 +576,16 @@ uint32_t cvec_read(cvec_file *file, uint64_t from, void *out, size_t room, uint6
     return answer;
 }
 
+/* A forked process leaves its parent the lock; who reads beside a writer has none. */
+static void let_go(const cvec_file *file) {
+    if (file->read_only || file->process != this_process())
+        close_quietly(file->fd);
+    else
+        close_unlocked(file->fd);
+}
+
 void cvec_close(cvec_file *file) {
-    if (file->fd >= 0) close_quietly(file->fd);
+    if (file->fd >= 0) let_go(file);
     free(file->bytes);
     memset(file, 0, sizeof *file);
     file->fd = -1;

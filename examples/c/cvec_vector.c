@@ -276,6 +276,15 @@ static uint32_t lock_by(int fd, int operation) {
     return errno == EWOULDBLOCK ? CVEC_IN_USE : CVEC_DISK_OPEN;
 }
 
+/* For the process that has opened it: gives the lock up too. A program that another thread starts has a copy of the descriptor
+ * until it runs, which would keep the file locked behind the close. */
+static void close_unlocked(int fd) {
+    int why = errno;
+    lock_by(fd, LOCK_UN);
+    close(fd);
+    errno = why;
+}
+
 /* The whole time of a turn, whichever signals come: a timer's would else cut all turns short. */
 static void wait_a_turn(void) {
     struct timespec left = {0, LOCK_WAIT};
@@ -718,7 +727,7 @@ static void give_up(cvec_vector *vector) {
     drop_idle(vector);
     cvec_phase_close(&vector->phase);
     cvec_phase_close(&vector->committer);
-    if (vector->fd >= 0) close_quietly(vector->fd);
+    if (vector->fd >= 0) close_unlocked(vector->fd);
     pthread_cond_destroy(&vector->settled);
     pthread_cond_destroy(&vector->returned);
     pthread_cond_destroy(&vector->flushing);
@@ -774,7 +783,7 @@ static uint32_t open_locked(const char *path, int flags, int *fd) {
         if (answer == CVEC_DONE) answer = ask_name(path, *fd, &leads_here);
         if (answer != CVEC_DONE || leads_here) return answer;
         if (turns >= LOCK_TURNS) return CVEC_IN_USE;
-        close_quietly(*fd);
+        close_unlocked(*fd);
         *fd = -1;
         wait_a_turn();
     }
@@ -886,7 +895,8 @@ static uint32_t commit_rest(cvec_vector *vector) {
 
 static uint32_t commit_all(cvec_vector *vector) { return vector->alone ? settle_listed(vector) : commit_rest(vector); }
 
-/* A forked process has copies of the handles, and of a mutex that any thread may have had: it closes the file alone. */
+/* A forked process has copies of the handles, and of a mutex that any thread may have had: it closes the file alone, and leaves its
+ * parent the lock. */
 static uint32_t leave(cvec_vector *vector) {
     close_quietly(vector->fd);
     vector->fd = -1;

@@ -1,12 +1,15 @@
 /* A test of cvec_file.c: every call of the system fails once, and what the file has then is what it had before the function
  * that was running, or what it has after; a forked process is refused, no file ever has the number of a standard stream, no write
- * past the limit of a file's size ends the process, what is opened has the name, signals cut short no wait for a lock, and no
- * record has another flag than 0 or 1. Prints the calls of a run in which none fails: ./faults FILE */
+ * past the limit of a file's size ends the process, what is opened has the name, signals cut short no wait for a lock, what is
+ * closed is locked no more, and no record has another flag than 0 or 1. Prints the calls of a run in which none fails:
+ * ./faults FILE */
 #define _DEFAULT_SOURCE 1
 #include <errno.h>
 #include <fcntl.h>
 #include <limits.h>
+#include <pthread.h>
 #include <signal.h>
+#include <spawn.h>
 #include <stdio.h>
 #include <string.h>
 #include <sys/file.h>
@@ -125,6 +128,15 @@ static int found(const char *path) {
     return status == CVEC_DONE && memcmp(seen, numbers, 8 * count) == 0 ? (int)count : -2;
 }
 
+/* A file with these first numbers. */
+static int is_made(const char *path, size_t count) {
+    cvec_file file;
+    uint32_t status = cvec_create(&file, path, CVEC_U64);
+    if (status == CVEC_DONE) status = cvec_append(&file, numbers, count);
+    cvec_close(&file);
+    return status == CVEC_DONE;
+}
+
 /* In a forked process: whether it is refused. It would append where its parent does. */
 static int is_refused(cvec_file *file) {
     uint64_t seen[4], count = 0;
@@ -134,8 +146,15 @@ static int is_refused(cvec_file *file) {
     return appended == CVEC_FORKED && read == CVEC_FORKED;
 }
 
-/* Whether a file whose process has forked has what that appended then, also where the system's number of the child is its own, as
- * in a namespace. */
+/* Whether the file is refused since it is in use, which a second opening in one process is too. */
+static int is_in_use(const char *path) {
+    cvec_fault fault;
+    cvec_file other;
+    return cvec_open(&other, path, CVEC_U64, &fault) == CVEC_IN_USE;
+}
+
+/* Whether a file whose process has forked has what that appended then, and stays its own behind a close in the child; also where
+ * the system's number of the child is its own, as in a namespace. */
 static int stays_of_one_process(const char *path) {
     cvec_file file;
     int status = 1;
@@ -145,9 +164,44 @@ static int stays_of_one_process(const char *path) {
     if (child == 0) _exit(is_refused(&file) ? 0 : 1);
     number_of_all = 0;
     if (child < 0 || waitpid(child, &status, 0) != child) return 0;
+    const int stays = is_in_use(path);
     uint32_t appended = cvec_append(&file, numbers, 3);
     cvec_close(&file);
-    return status == 0 && appended == CVEC_DONE && found(path) == 3;
+    return status == 0 && stays && appended == CVEC_DONE && found(path) == 3;
+}
+
+/* Whether a file is free once it is closed, while another process has a copy of its descriptor, as a program has that another
+ * thread has started, until it runs. */
+static int is_free_beside_a_copy(const char *path) {
+    cvec_file file;
+    if (cvec_create(&file, path, CVEC_U64) != CVEC_DONE) return 0;
+    pid_t child = fork();
+    if (child == 0)
+        for (;;) pause();
+    cvec_close(&file);
+    const int size = found(path);
+    return child > 0 && kill(child, SIGKILL) == 0 && waitpid(child, NULL, 0) == child && size == 0;
+}
+
+extern char **environ;
+static int is_over; /* no program is to be started any more */
+
+static void *start_programs(void *unused) {
+    char *const words[] = {(char *)"true", NULL};
+    pid_t child;
+    while (!__atomic_load_n(&is_over, __ATOMIC_SEQ_CST))
+        if (posix_spawnp(&child, words[0], NULL, NULL, words, environ) == 0) waitpid(child, NULL, 0);
+    return unused;
+}
+
+/* The same beside such a thread. */
+static int is_free_beside_programs(const char *path) {
+    pthread_t starter;
+    int opened = 0;
+    if (!is_made(path, 3) || pthread_create(&starter, NULL, start_programs, NULL) != 0) return 0;
+    while (opened < 500 && found(path) == 3) opened++;
+    __atomic_store_n(&is_over, 1, __ATOMIC_SEQ_CST);
+    return pthread_join(starter, NULL) == 0 && opened == 500;
 }
 
 /* No sync fails where the folder can't be read, which is to be synced. */
@@ -195,15 +249,6 @@ static int holds_in_a_child(int (*holds)(const char *), const char *path) {
 static int stays_behind_streams(const char *path) { return holds_in_a_child(is_behind_streams, path); }
 
 static int lives_past_the_limit(const char *path) { return holds_in_a_child(is_refused_past_the_limit, path); }
-
-/* A file with these first numbers. */
-static int is_made(const char *path, size_t count) {
-    cvec_file file;
-    uint32_t status = cvec_create(&file, path, CVEC_U64);
-    if (status == CVEC_DONE) status = cvec_append(&file, numbers, count);
-    cvec_close(&file);
-    return status == CVEC_DONE;
-}
 
 /* Whether a file that is put in place of one, whose lock is waited for, is the one that takes records. */
 static int opens_what_has_the_name(const char *path) {
@@ -306,6 +351,8 @@ int main(int argc, char **argv) {
                  {opens_what_has_the_name, "a file that has the name no more takes records"},
                  {tells_of_a_look_that_fails, "a look for a name that fails passes for a name that is gone"},
                  {waits_whole_turns, "signals cut short how long a lock is waited for"},
+                 {is_free_beside_a_copy, "a file that is closed is locked still, by a copy of its descriptor"},
+                 {is_free_beside_programs, "a file that is closed is locked still, by a program that is being started"},
                  {takes_no_other_flag, "a flag is neither 0 nor 1"}};
     if (argc != 2) return 2;
     const int calls = loses_nothing(argv[1]);

@@ -151,7 +151,8 @@ int open(const char *path, int flags, ...) {
 
 int flock(int fd, int operation) {
     REAL(flock);
-    if (kind_of(fd) == SEGMENT && (is_interrupted(fd) || fails("lock", ""))) return -1;
+    const char *kind = (operation & LOCK_UN) != 0 ? "unlock" : "lock";
+    if (kind_of(fd) == SEGMENT && (is_interrupted(fd) || fails(kind, ""))) return -1;
     return real(fd, operation);
 }
 

@@ -137,12 +137,12 @@ a_file_is_refused_in_c_as_by_the_program() (
     done
 )
 
-# Nor does a forked process append where its parent does.
+# Nor does a forked process append where its parent does; and what is closed is locked no more.
 a_call_that_fails_in_c_loses_nothing() (
     has_c || exit $is_skipped
     make_c_library
-    compile faults
-    "$work/faults" "$work/file" >"$out"
+    compile faults -lpthread
+    "$work/faults" "$work/file" >"$out" || { cat "$out" && exit 1; }
     cat "$out"
     [ "$(tail -n 1 "$out")" = 'each of 16 calls failed once' ]
     # A frame behind its gate, a sync, the gate, a sync.

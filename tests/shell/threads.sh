@@ -189,6 +189,12 @@ a_forked_process_has_no_vector_in_c() (
     a_behaviour_of_a_vector_in_c fork
 )
 
+a_vector_in_c_that_is_closed_is_locked_no_more() (
+    a_behaviour_of_a_vector_in_c unlocks
+    rm "$work/t.cv"
+    a_behaviour_of_a_vector_in_c unlocks_beside_programs
+)
+
 a_write_of_a_vector_in_c_that_is_cut_goes_on() (
     a_behaviour_of_a_vector_in_c parts
 )

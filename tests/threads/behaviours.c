@@ -8,6 +8,7 @@
 #include <limits.h>
 #include <pthread.h>
 #include <signal.h>
+#include <spawn.h>
 #include <stdio.h>
 #include <stdlib.h>
 #include <string.h>
@@ -541,6 +542,49 @@ static void forks(const char *path) {
     HOLDS(cvec_vector_close_seat(seat) == CVEC_DONE);
     HOLDS(cvec_vector_close(vector) == CVEC_DONE);
     HOLDS(found(path) == 2);
+}
+
+/* A forked process, as one that becomes a program, has a copy of the file's descriptor: that keeps no lock behind the close, and a
+ * close of its own takes none from its parent. */
+static void unlocks(const char *path) {
+    cvec_vector *other;
+    int status = 1;
+    HOLDS(cvec_vector_create(&vector, path, 1, 1) == CVEC_DONE);
+    if (wrong) return;
+    pid_t child = fork();
+    if (child == 0) _exit(cvec_vector_close(vector) == CVEC_FORKED ? 0 : 1);
+    HOLDS(waitpid(child, &status, 0) == child && status == 0);
+    HOLDS(cvec_vector_open(&other, path, 1) == CVEC_IN_USE && other == NULL);
+    child = fork();
+    if (child == 0)
+        for (;;) pause();
+    HOLDS(cvec_vector_close(vector) == CVEC_DONE);
+    HOLDS(cvec_vector_open(&vector, path, 1) == CVEC_DONE);
+    if (vector != NULL) HOLDS(cvec_vector_close(vector) == CVEC_DONE);
+    HOLDS(kill(child, SIGKILL) == 0 && waitpid(child, &status, 0) == child);
+}
+
+extern char **environ;
+static int is_over; /* no program is to be started any more */
+
+static void *start_programs(void *unused) {
+    char *const words[] = {(char *)"true", NULL};
+    pid_t child;
+    while (!__atomic_load_n(&is_over, __ATOMIC_SEQ_CST))
+        if (posix_spawnp(&child, words[0], NULL, NULL, words, environ) == 0) waitpid(child, NULL, 0);
+    return unused;
+}
+
+/* Another thread starts programs: until each of them runs it has such a copy. */
+static void unlocks_beside_programs(const char *path) {
+    enum { TIMES = 500 };
+    pthread_t starter;
+    HOLDS(cvec_vector_create(&vector, path, 1, 1) == CVEC_DONE && cvec_vector_close(vector) == CVEC_DONE);
+    pthread_create(&starter, NULL, start_programs, NULL);
+    for (int k = 0; k < TIMES && !wrong; k++)
+        HOLDS(cvec_vector_open(&vector, path, 1) == CVEC_DONE && cvec_vector_close(vector) == CVEC_DONE);
+    __atomic_store_n(&is_over, 1, __ATOMIC_SEQ_CST);
+    pthread_join(starter, NULL);
 }
 
 /* Each write makes 5 bytes at most, and every second call is interrupted. */
@@ -2322,6 +2366,8 @@ int main(int argc, char **argv) {
                       {"streams", streams},
                       {"busy", is_busy},
                       {"fork", forks},
+                      {"unlocks", unlocks},
+                      {"unlocks_beside_programs", unlocks_beside_programs},
                       {"parts", parts},
                       {"faults", faults},
                       {"memory", memory},
