@@ -226,6 +226,11 @@ static uint64_t this_process(void) {
     return stays ? fresh : process;
 }
 
+uint64_t cvec_vector_process(void) {
+    pthread_once(&noting, note_process);
+    return this_process();
+}
+
 /* ---- calls of the system, each made whole */
 
 static bool was_interrupted(ssize_t done) { return done < 0 && errno == EINTR; }
@@ -740,8 +745,7 @@ static cvec_vector *vector_of(void) {
     cvec_vector *vector = calloc(1, sizeof *vector);
     if (vector == NULL) return NULL;
     vector->fd = -1;
-    pthread_once(&noting, note_process);
-    vector->process = this_process();
+    vector->process = cvec_vector_process();
     vector->phases = FIRST_PHASE;
     pthread_mutex_init(&vector->mutex, NULL);
     begin_condition(&vector->settled);

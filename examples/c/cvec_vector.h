@@ -68,6 +68,10 @@ uint32_t cvec_vector_close(cvec_vector *vector);
 /* Which file it is: the number of its device, and its own there. One that is put in its place has another. */
 uint32_t cvec_vector_identity(const cvec_vector *vector, uint64_t *device, uint64_t *file);
 
+/* A number of the calling process: that of none from which it was forked, though the system may give them one and the same, in
+ * namespaces of their own. For who keeps beside a vector what a forked process has copies of, as locks. */
+uint64_t cvec_vector_process(void);
+
 /* A seat, for one thread at a time. CVEC_NOT_SO: as many are taken, or waited for, as the vector has. It waits for nothing but a
  * pause: while another call has the whole vector, or a growth settles all (below). */
 uint32_t cvec_vector_take_seat(cvec_vector *vector, cvec_vector_seat **seat);

@@ -23,8 +23,10 @@
 #include <list>
 #include <map>
 #include <numeric>
+#include <sched.h>
 #include <sys/resource.h>
 #include <sys/stat.h>
+#include <sys/syscall.h>
 #include <sys/wait.h>
 #include <unistd.h>
 
@@ -39,6 +41,11 @@ static int news_left = -1;
 
 [[gnu::noinline]] void operator delete(void *memory) noexcept { std::free(memory); }
 [[gnu::noinline]] void operator delete(void *memory, std::size_t) noexcept { std::free(memory); }
+
+// The number that each process has, or 0: each its own. It stands in place of the system's library's function.
+static pid_t number_of_all = 0;
+
+extern "C" pid_t getpid() noexcept { return number_of_all != 0 ? number_of_all : static_cast<pid_t>(::syscall(SYS_getpid)); }
 
 // How often the vector was asked for records, and what is done meanwhile.
 static std::atomic<int> reads{0};
@@ -1131,6 +1138,7 @@ static void forking(const std::string &path) {
     rows.push_back(6);
     const pid_t child = ::fork();
     if (child == 0) {
+        ::alarm(10);
         HOLDS(status_of([&] { vector.push_back(9); }) == CVEC_FORKED);
         HOLDS(status_of([&] { vector.settle(); }) == CVEC_FORKED && status_of([&] { rows.flush(); }) == CVEC_FORKED);
         HOLDS(status_of([&] { empty.settle(); }) == CVEC_FORKED);
@@ -1157,7 +1165,7 @@ static void forking_meanwhile(const std::string &path) {
     std::thread other([&] {
         while (!is_over) vector.push_back(1);
     });
-    for (int turn = 0; turn < 200; ++turn) {
+    for (int turn = 0; turn < 200 && wrong == 0; ++turn) {
         const pid_t child = ::fork();
         if (child == 0) {
             ::alarm(10);
@@ -1175,10 +1183,11 @@ static void forking_meanwhile(const std::string &path) {
     HOLDS(std::all_of(vector.begin(), vector.end(), [](std::uint64_t it) { return it == 1; }));
 }
 
-// How the child of a fork ends that does this, in 10 seconds.
+// How the child of a fork ends that does this, in 10 seconds. The first process of a namespace gets no signal that it doesn't take.
 static int ends_in_a_fork(const std::function<bool()> &call) {
     const pid_t child = ::fork();
     if (child == 0) {
+        std::signal(SIGALRM, [](int) { ::_exit(2); });
         ::alarm(10);
         ::_exit(call() ? 0 : 1);
     }
@@ -1220,6 +1229,39 @@ static void forking_in_a_turn(const std::string &path) {
     other.join();
     during_size = nullptr;
     HOLDS(rows_of(vector) == list({5, 5, 5}));
+}
+
+// Each child has its parent's number, as the first process of a namespace may.
+static void forking_with_one_number(const std::string &path) {
+    number_of_all = ::getpid();
+    forking(path + ".1");
+    forking_meanwhile(path + ".2");
+    forking_beside_a_flusher(path + ".3");
+    forking_in_a_turn(path + ".4");
+}
+
+// Of a process that is the first of its namespace, as the child is of its own. At the fork another thread has the only seat, and
+// the turn to grow to a length.
+static void forking_into_a_namespace(const std::string &path) {
+    auto vector = std::make_unique<numbers>(path, cvec::options{cvec::opening::create, 1, 1});
+    std::atomic<bool> is_inside{false}, is_over{false};
+    during_size = [&] {
+        is_inside = true;
+        while (!is_over) std::this_thread::yield();
+    };
+    std::thread other([&] { vector->grow_to_at_least(3, 5); });
+    while (!is_inside) std::this_thread::yield();
+    HOLDS(::getpid() == 1 && ::unshare(CLONE_NEWPID) == 0);
+    HOLDS(ends_in_a_fork([&] {
+              const bool is_refused = ::getpid() == 1 && status_of([&] { vector->push_back(2); }) == CVEC_FORKED &&
+                                      status_of([&] { vector->close(); }) == CVEC_FORKED;
+              vector.reset();
+              return is_refused;
+          }) == 0);
+    is_over = true;
+    other.join();
+    during_size = nullptr;
+    HOLDS(rows_of(*vector) == list({5, 5, 5}));
 }
 
 // Past the greatest size of a file.
@@ -1425,6 +1467,8 @@ int main(int argc, char **argv) {
         {"forking_meanwhile", forking_meanwhile},
         {"forking_beside_a_flusher", forking_beside_a_flusher},
         {"forking_in_a_turn", forking_in_a_turn},
+        {"forking_with_one_number", forking_with_one_number},
+        {"forking_into_a_namespace", forking_into_a_namespace},
         {"breaking", breaking},
         {"few_seats", few_seats},
         {"many_threads", many_threads},

@@ -222,9 +222,18 @@ a_vector_is_closed_in_cpp() (
 )
 
 a_refusal_has_its_reason_in_cpp() (
-    behaves refusals versions forking forking_meanwhile forking_beside_a_flusher forking_in_a_turn breaking
+    behaves refusals versions forking forking_meanwhile forking_beside_a_flusher forking_in_a_turn forking_with_one_number breaking
     : >"$work/t.cv"
     flock "$work/t.cv" "$built/behaviours" locked "$work/t.cv"
+)
+
+# As a container has, whose first process forks into a further one.
+a_process_that_is_forked_into_a_namespace_is_refused_in_cpp() (
+    has_cpp || exit $is_skipped
+    first='unshare --pid --fork --kill-child'
+    $first true 2>/dev/null || lacks 'there is no leave to make a namespace of processes' || exit $is_skipped
+    make_cpp behaviours
+    timeout 60 $first "$built/behaviours" forking_into_a_namespace "$work/t.cv"
 )
 
 threads_share_seats_in_cpp() (

@@ -175,7 +175,7 @@ class patience {
 class word_file {
   public:
     word_file(const std::string &path, cvec_type type, const options &wanted)
-        : type_(type), limit_(wanted.seats), process_(::getpid()), path_(path) {
+        : type_(type), limit_(wanted.seats), process_(cvec_vector_process()), path_(path) {
         if (limit_ == 0 || limit_ > most_seats) refuse(CVEC_NOT_SO, "a vector has 1 to 64 seats");
         begin(wanted);
         // What a constructor throws leaves no destructor to close the file.
@@ -306,7 +306,7 @@ class word_file {
     }
 
     void refuse_forked() const {
-        if (process_ != ::getpid()) refuse(CVEC_FORKED);
+        if (process_ != cvec_vector_process()) refuse(CVEC_FORKED);
     }
 
     [[noreturn]] void refuse(std::uint32_t status) const { refuse(status, cvec_vector_status_text(status)); }
@@ -609,7 +609,7 @@ class word_file {
     }
 
     std::uint32_t give_up() {
-        if (process_ != ::getpid()) return leave();
+        if (process_ != cvec_vector_process()) return leave();
         stop_flusher();
         const std::lock_guard<std::mutex> lock(seating_);
         if (closed_.exchange(true, std::memory_order_acq_rel)) return CVEC_DONE;
@@ -631,7 +631,7 @@ class word_file {
     std::atomic<std::size_t> seated_{0}; // so many slots have a seat
     cvec_type type_;
     std::uint16_t limit_;
-    pid_t process_;
+    std::uint64_t process_; // which has opened it, by the library's number
     cvec_vector *vector_ = nullptr;
     std::string path_;
     std::atomic<bool> closed_{false};
