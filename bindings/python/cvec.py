@@ -107,6 +107,7 @@ def _library():
         call = getattr(lib, name)
         call.argtypes, call.restype = words, c_uint32
     lib.cvec_close.argtypes, lib.cvec_close.restype = [POINTER(_File)], None
+    lib.cvec_process.argtypes, lib.cvec_process.restype = [], c_int
     for name in ("cvec_status_text", "cvec_cause_text"):
         call = getattr(lib, name)
         call.argtypes, call.restype = [c_uint32], ctypes.c_char_p
@@ -155,7 +156,7 @@ class File:
 
     def __init__(self, kind, raw):
         self._kind, self._raw = kind, raw
-        self._process, self._lock = os.getpid(), threading.RLock()
+        self._process, self._lock = _LIB.cvec_process(), threading.RLock()
 
     def __reduce__(self):
         """Neither `copy` nor `pickle` makes another: its end would close this one."""
@@ -172,7 +173,7 @@ class File:
 
     def _is_forked(self):
         """Whether this process isn't the one that opened it. A thread that held the lock then never lets go of it here."""
-        return self._process != os.getpid()
+        return self._process != _LIB.cvec_process()
 
     def _turn(self):
         """The lock under which a call is made: ctypes lets other threads run meanwhile."""

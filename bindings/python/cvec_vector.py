@@ -99,6 +99,7 @@ def _library() -> ctypes.CDLL:
     for name, words in answers.items():
         call = getattr(lib, "cvec_vector_" + name)
         call.argtypes, call.restype = words, c_uint32
+    lib.cvec_vector_process.argtypes, lib.cvec_vector_process.restype = [], c_uint64
     lib.cvec_vector_status_text.argtypes, lib.cvec_vector_status_text.restype = [c_uint32], ctypes.c_char_p
     return lib
 
@@ -558,7 +559,7 @@ class Vector(_Single):
 
     def __init__(self, handle: c_void_p, form: _Records | _Rows, limit: int) -> None:
         """Not to be called: `create` and `open` do."""
-        self._handle, self._form, self._limit, self._process = handle, form, limit, os.getpid()
+        self._handle, self._form, self._limit, self._process = handle, form, limit, _LIB.cvec_vector_process()
         self._lock, self._local = threading.Lock(), threading.local()
         # Each has a lock of its own, as long as it runs.
         self._flushers: list[Any] = []
@@ -617,7 +618,7 @@ class Vector(_Single):
 
     def _check_process(self) -> None:
         """A thread that had a lock when this process was forked never lets go of it here."""
-        if self._process != os.getpid():
+        if self._process != _LIB.cvec_vector_process():
             raise Error(Status.FORKED)
 
     def seat(self, timeout: float | None = None) -> Seat:
@@ -861,7 +862,7 @@ class Vector(_Single):
         has settled may be lost; the vector is closed then too. A forked process lets go of the file alone."""
         if not self._handle:
             return
-        if self._process != os.getpid():
+        if self._process != _LIB.cvec_vector_process():
             handle, self._handle = self._handle, None
             _LIB.cvec_vector_close(handle)
             return

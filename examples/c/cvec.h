@@ -274,7 +274,8 @@ typedef enum cvec_type {
 } cvec_type;
 
 /* A file that is open for reading and appending, by one thread at a time, in the process that opened it: one that is forked
- * can only close it, and until it does, ends or runs another program, the file is in use. */
+ * can only close it. Where the one that opened it ends without a close, the file is in use until each of those has closed it, has
+ * ended or runs another program. */
 typedef struct cvec_file {
     int fd;
     cvec_type type;
@@ -313,6 +314,10 @@ uint32_t cvec_read(cvec_file *file, uint64_t from, void *out, size_t room, uint6
 
 /* Closes the file. What was appended stands. A file that is closed may be closed again. */
 void cvec_close(cvec_file *file);
+
+/* A number of the calling process: that of none from which it was forked, though the system may give them one and the same, in
+ * namespaces of their own. For who keeps beside a file what a forked process has copies of, as locks. */
+int cvec_process(void);
 
 /* A status, and a cause, in words. */
 const char *cvec_status_text(uint32_t status);

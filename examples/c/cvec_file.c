@@ -153,6 +153,8 @@ static int this_process(void) {
     return stays ? fresh : process;
 }
 
+int cvec_process(void) { return this_process(); }
+
 /* ---- the calls */
 
 /* Whether a signal has interrupted the call that answered this. */

@@ -220,6 +220,7 @@ def is_forked(call):
 
 def run_forked(file, told, goes_on):
     """In a forked process: it closes the file, tells so, and lives until its parent goes on."""
+    signal.alarm(20)
     refused = is_forked(lambda: file.append([5, 6])) and is_forked(file.read)
     file.close()
     file.close()
@@ -230,18 +231,39 @@ def run_forked(file, told, goes_on):
 
 
 def check_fork():
-    """A forked process that has closed the file keeps nobody from it."""
+    """A forked process that has closed the file keeps nobody from it. At the fork another thread has the file's lock."""
     told, goes_on = os.pipe(), os.pipe()
+    has_lock, is_forked_now = threading.Event(), threading.Event()
+
+    def hold(lock):
+        with lock:
+            has_lock.set()
+            is_forked_now.wait()
+
     with made("u64") as file:
+        holder = threading.Thread(target=hold, args=(file._lock,))
+        holder.start()
+        has_lock.wait()
         child = os.fork()
         if child == 0:
             run_forked(file, told[1], goes_on)
+        is_forked_now.set()
+        holder.join()
+        os.close(told[1])
         assert os.read(told[0], 1) == b"1", "a forked process appends or reads"
         file.append([7])
     assert listed("u64") == [7]
-    for end in (*told, *goes_on):
+    for end in (told[0], *goes_on):
         os.close(end)
     assert os.waitpid(child, 0)[1] == 0
+
+
+def check_fork_with_one_number():
+    """As the first process of a namespace may have its parent's."""
+    own, number = os.getpid, os.getpid()
+    os.getpid = lambda: number
+    check_fork()
+    os.getpid = own
 
 
 def is_read_only(piece):
@@ -477,6 +499,7 @@ if numpy is not None:
 check_reads()
 check_threads()
 check_fork()
+check_fork_with_one_number()
 check_closing()
 check_maps()
 check_maps_that_grow()

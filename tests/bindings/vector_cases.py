@@ -1390,6 +1390,7 @@ def a_forked_process_is_refused():
         os.close(goes_on[1])
         os.read(goes_on[0], 1)
         os._exit(0)
+    os.close(told[1])
     vector._lock.release()
     assert os.read(told[0], 1) == b"1", "a forked process isn't refused"
     vector.grow([8])
@@ -1400,6 +1401,13 @@ def a_forked_process_is_refused():
     os.close(goes_on[1])
     assert os.waitpid(child, 0)[1] == 0
     assert records() == [5, 8, 9]
+
+
+def a_forked_process_with_its_parents_number_is_refused():
+    """As the first one of a namespace may have it."""
+    number = os.getpid()
+    os.getpid = lambda: number
+    a_forked_process_is_refused()
 
 
 def a_close_that_is_interrupted_is_made_again():

@@ -244,6 +244,8 @@ a_python_vector_is_in_use_by_another_program() (
 
 a_forked_python_process_is_refused_by_a_vector() (
     is_so_without_numpy a_forked_process_is_refused
+    rm -r "$work/files"
+    is_so_without_numpy a_forked_process_with_its_parents_number_is_refused
 )
 
 a_full_device_leaves_what_python_settled() (
