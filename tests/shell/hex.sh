@@ -36,6 +36,8 @@ show pair=$small_pair
 show u64=$small_pair
 show u64 u64=$three
 ROWS
+    "$hex" image u16 <"$in" >"$out" 2>"$err" || :
+    for type in u32 u64 i64 pair flagged bytes16 bytes24 bytes32 bytes64; do grep -qw "$type" "$err"; done
     given '5\n'
     status=0
     "$hex" image u64 <"$in" >/dev/full 2>"$err" || status=$?

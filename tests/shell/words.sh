@@ -138,6 +138,8 @@ the_program_tells_of_itself() (
         [ ! -s "$err" ]
         grep -q "^$command .*   *[a-z]" "$out"
     done
+    run help
+    for type in u32 u64 i64 pair flagged bytes16 bytes24 bytes32 bytes64; do grep -qw "$type" "$out"; done
     run help play
     grep -qxF "  \$ printf 'create\\nresize 1 5\\ncrash old\\nopen\\nlist\\n' | cvec play u64" "$out"
     for words in version --version; do
