@@ -1,5 +1,5 @@
 -- Bytes that are read as a value are that value's bytes, and values of equal parts are one.
-use Rattle.std.proofs.Common.{◌≡◌, ℕ, zero, suc, ◌+◌, ◌*◌, ◌^◌, ◌≤◌, ◌<◌, List, [], ◌∷◌, length, take, drop, Option, Some, None, Bool, true, false, ◌&&◌, refl, sym, ap, ◌∙◌, arith}
+use Rattle.std.proofs.Common.{◌≡◌, ℕ, zero, suc, ◌+◌, ◌*◌, ◌%◌, ◌^◌, ◌≤◌, ◌<◌, List, [], ◌∷◌, length, take, drop, Option, Some, None, Bool, true, false, ◌&&◌, refl, sym, ap, ◌∙◌, arith}
 use Rattle.std.specs.Prelude.{◌==◌, if◌then◌else◌, slice_index}
 use Rattle.std.specs.Int.{Width, w8, w16, w32, w64, w128, byte_len, byte_worth, sum_through, to_le_bytes, from_le_bytes, cast_signed, cast_unsigned, from_bool}
 use mir.Val.{bits}
@@ -21,6 +21,15 @@ AreSpelledOnce w = (bytes : List ℕ) (n : ℕ) → length bytes ≡ byte_len w 
 
 pub unsigned_back : (w : Width) → AreSpelledOnce w → WritesBack (unsigned w)
 unsigned_back w once bytes n fits len is = once bytes n len fits (sym (inside_Some (from_le_bytes w bytes) n is))
+
+-- std proves it of the numbers of 2, 4 and 8 bytes
+pub le_bytes_1 : AreSpelledOnce w8
+le_bytes_1 [] n len fits is = absurd (omega arith)
+le_bytes_1 (byte ∷ []) n len fits is =
+    let small = fits 0 in
+    let low : n % 256 ≡ byte = omega (arith, small, is) in
+    ap (λ b. b ∷ []) low
+le_bytes_1 (byte ∷ other ∷ rest) n len fits is = absurd (omega arith)
 
 spelled-lt : (bytes : List ℕ) (k : ℕ) → IsBytes bytes → sum_through (λ i. byte_worth i (slice_index bytes i)) k < 256 ^ suc k
 spelled-lt bytes zero fits = fits 0
