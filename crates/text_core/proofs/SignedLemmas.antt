@@ -1,12 +1,14 @@
 -- A text is a signed number's where it is a number's, or a minus and the number's that is so far below 0.
-use Rattle.std.proofs.Common.{◌≡◌, ◌≢◌, ℕ, ℤ, pos, negsuc, ◌<◌, ◌≤◌, ◌^◌, List, ◌∷◌, suc, slice_index, Option, Some, None, Result, Ok, Err, sym, ap, ◌∙◌, arith}
+use Rattle.std.proofs.Common.{◌≡◌, ◌≢◌, ℕ, ℤ, pos, negsuc, ◌<◌, ◌≤◌, ◌^◌, List, ◌∷◌, suc, slice_index, Option, Some, None, Result, Ok, Err, sym, ap, ◌∙◌, subst, arith, lit≤}
 use Rattle.std.specs.Prelude.{decimal, IfNone, FitsSigned}
-use Rattle.std.specs.Int.{w64}
+use mir.Val.{hbits}
+use Rattle.std.specs.Int.{Width, w64}
 use Rattle.std.specs.Option.{SomeIff}
 use Rattle.std.specs.Result.{OkIff, result_ok}
 use Rattle.std.specs.Fmt.{signed_decimal}
 use Rattle.std.proofs.lemmas.Fmt.{decimal_nonempty, decimal_is_IsNumeral}
 use Rattle.std.proofs.lemmas.Str.Parse.{digit_at}
+use Rattle.text_core.specs.SignedNumbers.{fits_w64, one_signed}
 use Rattle.text_core.proofs.NumberLemmas.{one_text}
 
 no_minus_in_front : (n : ℕ) → n < 2 ^ 64 → slice_index (decimal n) 0 ≡ 45 → ⊥
@@ -44,3 +46,11 @@ pub no_signed_above : {E : Type 0} (text : List ℕ) (n : ℕ) (r : Result ℤ E
 no_signed_above text n (Ok y) no_minus small is so = tt
 no_signed_above text n (Err e) no_minus small is so = λ z fits written.
     no_signed_plain text no_minus (λ m less same. let one = one_text text m n (omega (arith, less)) small same is in so (record { sfits = omega (arith, less, one) })) z fits written
+
+-- ---- a number of fewer bits
+
+pub no_narrow_signed : {E : Type 0} (w : Width) → hbits w ≤ 63 → (text : List ℕ) (n : ℤ) (r : Result ℤ E) → FitsSigned w64 n → signed_decimal n ≡ text
+    → OkIff r (FitsSigned w n) n → IfNone (result_ok r) ((z : ℤ) → FitsSigned w z → signed_decimal z ≢ text)
+no_narrow_signed w few text n (Ok y) fits is so = tt
+no_narrow_signed w few text n (Err e) fits is so = λ z narrow same.
+    let one : z ≡ n = one_signed w64 (lit≤ tt) z n (fits_w64 w few z narrow) fits (same ∙ sym is) in so (subst (FitsSigned w) one narrow)

@@ -45,12 +45,12 @@ abbrev pub pair_spelling : Spelling Pair
 pair_spelling = record { is_value = IsPair; text_of = pair_text }
 
 pub IsWord-pair : AreWords pair_spelling
-IsWord-pair pair so = IsWord-keyed pair.key (signed_decimal pair.value) so.0 (IsWord-signed pair.value so.1)
+IsWord-pair pair so = IsWord-keyed pair.key (signed_decimal pair.value) so.0 (IsWord-signed w64 (lit≤ tt) pair.value so.1)
 
 pub one_pair : HasOneValue pair_spelling
 one_pair p q so other same =
     let key = one_key p.key q.key (signed_decimal p.value) (signed_decimal q.value) so.0 other.0 same in
-    let value = one_signed p.value q.value so.1 other.1 (one_behind p.key q.key (signed_decimal p.value) (signed_decimal q.value) so.0 other.0 same) in
+    let value = one_signed w64 (lit≤ tt) p.value q.value so.1 other.1 (one_behind p.key q.key (signed_decimal p.value) (signed_decimal q.value) so.0 other.0 same) in
     same_parts pair_parts p q key value
 
 -- ---- flagged keys

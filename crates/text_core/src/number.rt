@@ -88,3 +88,35 @@ impl TextRecord for u32 {
 
     ghost one_value = { one_decimal 32 (lit≤ tt) };
 }
+
+impl TextRecord for u16 {
+    ghost spelling = { number_spelling 16 };
+
+    fn parse(text: &[u8]) -> Option<u16> {
+        u16::try_from(u64::parse(text)?).ok()
+    }
+
+    fn write_text<W: Write>(&self, writer: &mut W) -> io::Result<()> {
+        write_number(writer, *self)
+    }
+
+    ghost is_word = { IsWord-decimal 16 (lit≤ tt) };
+
+    ghost one_value = { one_decimal 16 (lit≤ tt) };
+}
+
+impl TextRecord for u8 {
+    ghost spelling = { number_spelling 8 };
+
+    fn parse(text: &[u8]) -> Option<u8> {
+        u8::try_from(u64::parse(text)?).ok()
+    }
+
+    fn write_text<W: Write>(&self, writer: &mut W) -> io::Result<()> {
+        write_number(writer, *self)
+    }
+
+    ghost is_word = { IsWord-decimal 8 (lit≤ tt) };
+
+    ghost one_value = { one_decimal 8 (lit≤ tt) };
+}

@@ -2,9 +2,9 @@
 
 ghost use Rattle.std.specs.Prelude.{◌≡◌, ◌≢◌, ◌<◌, ◌≤◌, ◌^◌, ◌∷◌, pos, slice_index, FitsSigned, MatchOption};
 ghost use Rattle.std.specs.Fmt.{signed_decimal};
-ghost use Rattle.std.specs.Int.{w64};
+ghost use Rattle.std.specs.Int.{w32, w64};
 ghost use Rattle.std.specs.Option.{SomeIff};
-ghost use Rattle.std.proofs.Common.{neg_ℤ};
+ghost use Rattle.std.proofs.Common.{neg_ℤ, lit≤};
 ghost use Rattle.text_core.specs.SignedNumbers.{signed_spelling, IsWord-signed, one_signed};
 
 use crate::number::write_number;
@@ -33,7 +33,7 @@ fn number_below_zero(distance: u64) -> Option<i64>
 }
 
 impl TextRecord for i64 {
-    ghost spelling = { signed_spelling };
+    ghost spelling = { signed_spelling w64 };
 
     fn parse(text: &[u8]) -> Option<i64> {
         match behind_minus(text) {
@@ -46,7 +46,23 @@ impl TextRecord for i64 {
         write_number(writer, *self)
     }
 
-    ghost is_word = { IsWord-signed };
+    ghost is_word = { IsWord-signed w64 (lit≤ tt) };
 
-    ghost one_value = { one_signed };
+    ghost one_value = { one_signed w64 (lit≤ tt) };
+}
+
+impl TextRecord for i32 {
+    ghost spelling = { signed_spelling w32 };
+
+    fn parse(text: &[u8]) -> Option<i32> {
+        i32::try_from(i64::parse(text)?).ok()
+    }
+
+    fn write_text<W: Write>(&self, writer: &mut W) -> io::Result<()> {
+        write_number(writer, *self)
+    }
+
+    ghost is_word = { IsWord-signed w32 (lit≤ tt) };
+
+    ghost one_value = { one_signed w32 (lit≤ tt) };
 }
