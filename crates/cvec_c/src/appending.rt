@@ -1,7 +1,7 @@
 //! A group is appended.
 
 ghost use Rattle.std.specs.Prelude.{◌≡◌, ◌≢◌, ◌<◌, ◌+◌, ◌*◌, ◌^◌, ◌++◌, ◌∷◌, [], None, Some, ◌⊎◌, length, take, drop, IfOk, OnOk, MatchOption};
-ghost use Rattle.std.specs.Int.{w32, w64};
+ghost use Rattle.std.specs.Int.{w8, w16, w32, w64};
 ghost use Rattle.record_core.specs.Bytes.{unsigned, signed, pair, flagged};
 ghost use Rattle.record_core.specs.Cells.{AreReadAgain};
 ghost use Rattle.segment_core.specs.declared.format.Format.{Format};
@@ -101,6 +101,44 @@ fn append<R: Record>(
         ..*stat
     };
     CallStatus::Done.code()
+}
+
+/// Appends records of u8, as `append` says.
+#[unsafe(no_mangle)]
+pub extern "C" fn cvec_append_u8(
+    alloc: Global,
+    stat: &CvecStat,
+    records: &[u8],
+    out: &mut [u8],
+    next: &mut CvecStat,
+) -> u32
+    ensures answer { MatchOption (first_status (append_lines 1 stat.now (length records.now) (length out.old)))
+        ((result ≡ 0) ⊎ (result ≡ 6))
+        (λ status. result ≡ code_of status) }
+    ensures done { result ≡ 0 → AppendsTo (unsigned w8) stat.now records.now (take (append_len 1 (length records.now)) out.new) next.new }
+    ensures rest { drop (append_len 1 (length records.now)) out.new ≡ drop (append_len 1 (length records.now)) out.old }
+    ensures refused { result ≢ 0 → (out.new ≡ out.old) × (next.new ≡ next.old) }
+{
+    append::<u8>(alloc, stat, records, out, next)
+}
+
+/// Appends records of u16, as `append` says.
+#[unsafe(no_mangle)]
+pub extern "C" fn cvec_append_u16(
+    alloc: Global,
+    stat: &CvecStat,
+    records: &[u16],
+    out: &mut [u8],
+    next: &mut CvecStat,
+) -> u32
+    ensures answer { MatchOption (first_status (append_lines 2 stat.now (length records.now) (length out.old)))
+        ((result ≡ 0) ⊎ (result ≡ 6))
+        (λ status. result ≡ code_of status) }
+    ensures done { result ≡ 0 → AppendsTo (unsigned w16) stat.now records.now (take (append_len 2 (length records.now)) out.new) next.new }
+    ensures rest { drop (append_len 2 (length records.now)) out.new ≡ drop (append_len 2 (length records.now)) out.old }
+    ensures refused { result ≢ 0 → (out.new ≡ out.old) × (next.new ≡ next.old) }
+{
+    append::<u16>(alloc, stat, records, out, next)
 }
 
 /// Appends records of u32, as `append` says.

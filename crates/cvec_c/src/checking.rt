@@ -1,7 +1,7 @@
 //! An image is checked.
 
 ghost use Rattle.std.specs.Prelude.{◌≡◌, ◌≢◌, List, MatchResult, ℕ, ℤ};
-ghost use Rattle.std.specs.Int.{w32, w64};
+ghost use Rattle.std.specs.Int.{w8, w16, w32, w64};
 ghost use Rattle.record_core.specs.Bytes.{unsigned, signed, pair, flagged};
 ghost use Rattle.segment_core.specs.Fault.{IsRefused};
 ghost use Rattle.cvec_c.specs.Stat.{HasStat, IsScanToldOf};
@@ -45,6 +45,34 @@ fn check<R: Record>(alloc: Global, image: &[u8], stat: &mut CvecStat, fault: &mu
             CallStatus::of(refusal).code()
         }
     }
+}
+
+/// Checks an image of u8, as `check` says.
+#[unsafe(no_mangle)]
+pub extern "C" fn cvec_check_u8(
+    alloc: Global,
+    image: &[u8],
+    stat: &mut CvecStat,
+    fault: &mut CvecFault,
+) -> u32
+    ensures done { result ≡ 0 → ((records : List ℕ) × HasStat (unsigned w8) image.now records stat.new) × (fault.new ≡ fault.old) }
+    ensures refused { result ≢ 0 → IsScanToldOf (unsigned w8) image.now result fault.new × (stat.new ≡ stat.old) }
+{
+    check::<u8>(alloc, image, stat, fault)
+}
+
+/// Checks an image of u16, as `check` says.
+#[unsafe(no_mangle)]
+pub extern "C" fn cvec_check_u16(
+    alloc: Global,
+    image: &[u8],
+    stat: &mut CvecStat,
+    fault: &mut CvecFault,
+) -> u32
+    ensures done { result ≡ 0 → ((records : List ℕ) × HasStat (unsigned w16) image.now records stat.new) × (fault.new ≡ fault.old) }
+    ensures refused { result ≢ 0 → IsScanToldOf (unsigned w16) image.now result fault.new × (stat.new ≡ stat.old) }
+{
+    check::<u16>(alloc, image, stat, fault)
 }
 
 /// Checks an image of u32, as `check` says.

@@ -1,7 +1,7 @@
 //! A file that is made.
 
 ghost use Rattle.std.specs.Prelude.{◌≡◌, ◌≢◌, length, take, drop, MatchOption};
-ghost use Rattle.std.specs.Int.{w32, w64};
+ghost use Rattle.std.specs.Int.{w8, w16, w32, w64};
 ghost use Rattle.record_core.specs.Bytes.{unsigned, signed, pair, flagged};
 ghost use Rattle.cvec_c.specs.Status.{code_of};
 ghost use Rattle.cvec_c.specs.Append.{first_status};
@@ -40,6 +40,28 @@ fn empty<R: Record>(version: u8, out: &mut [u8], stat: &mut CvecStat) -> u32
         version,
     };
     CallStatus::Done.code()
+}
+
+/// Makes a file of u8, as `empty` says.
+#[unsafe(no_mangle)]
+pub extern "C" fn cvec_empty_u8(version: u8, out: &mut [u8], stat: &mut CvecStat) -> u32
+    ensures answer { MatchOption (first_status (empty_lines version (length out.old))) (result ≡ 0) (λ status. result ≡ code_of status) }
+    ensures done { result ≡ 0 → Creates (unsigned w8) (take 12 out.new) stat.new }
+    ensures rest { drop 12 out.new ≡ drop 12 out.old }
+    ensures refused { result ≢ 0 → (out.new ≡ out.old) × (stat.new ≡ stat.old) }
+{
+    empty::<u8>(version, out, stat)
+}
+
+/// Makes a file of u16, as `empty` says.
+#[unsafe(no_mangle)]
+pub extern "C" fn cvec_empty_u16(version: u8, out: &mut [u8], stat: &mut CvecStat) -> u32
+    ensures answer { MatchOption (first_status (empty_lines version (length out.old))) (result ≡ 0) (λ status. result ≡ code_of status) }
+    ensures done { result ≡ 0 → Creates (unsigned w16) (take 12 out.new) stat.new }
+    ensures rest { drop 12 out.new ≡ drop 12 out.old }
+    ensures refused { result ≢ 0 → (out.new ≡ out.old) × (stat.new ≡ stat.old) }
+{
+    empty::<u16>(version, out, stat)
 }
 
 /// Makes a file of u32, as `empty` says.

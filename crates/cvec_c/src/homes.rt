@@ -1,7 +1,7 @@
 //! Where the records of an image stand.
 
 ghost use Rattle.std.specs.Prelude.{◌≡◌, ◌≢◌, ◌≤◌, ◌<◌, ℕ, ℤ, List, length, take, MatchResult};
-ghost use Rattle.std.specs.Int.{w32, w64};
+ghost use Rattle.std.specs.Int.{w8, w16, w32, w64};
 ghost use Rattle.record_core.specs.Bytes.{unsigned, signed, pair, flagged};
 ghost use Rattle.segment_core.specs.declared.found.Home.{Home};
 ghost use Rattle.segment_core.specs.Fault.{IsRefused};
@@ -93,6 +93,42 @@ fn homes<R: Record>(
             CallStatus::of(refusal).code()
         }
     }
+}
+
+/// Tells where the records of an image of u8 stand, as `homes` says.
+#[unsafe(no_mangle)]
+pub extern "C" fn cvec_homes_u8(
+    alloc: Global,
+    image: &[u8],
+    out: &mut [CvecHome],
+    count: &mut u64,
+    stat: &mut CvecStat,
+    fault: &mut CvecFault,
+) -> u32
+    ensures done { result ≡ 0 → ((records : List ℕ) × HasHomes (unsigned w8) image.now records stat.new (as_homes (take count.new out.new))) × (fault.new ≡ fault.old) }
+    ensures no_room { result ≡ 11 → (length out.old < count.new) × ((records : List ℕ) × (holds : CvecStat) × (homes : List Home) × HasHomes (unsigned w8) image.now records holds homes × (count.new ≡ length homes)) }
+    ensures unchanged { result ≡ 11 → (out.new ≡ out.old) × (stat.new ≡ stat.old) × (fault.new ≡ fault.old) }
+    ensures refused { result ≢ 0 → result ≢ 11 → IsScanToldOf (unsigned w8) image.now result fault.new × (out.new ≡ out.old) × (count.new ≡ count.old) × (stat.new ≡ stat.old) }
+{
+    homes::<u8>(alloc, image, out, count, stat, fault)
+}
+
+/// Tells where the records of an image of u16 stand, as `homes` says.
+#[unsafe(no_mangle)]
+pub extern "C" fn cvec_homes_u16(
+    alloc: Global,
+    image: &[u8],
+    out: &mut [CvecHome],
+    count: &mut u64,
+    stat: &mut CvecStat,
+    fault: &mut CvecFault,
+) -> u32
+    ensures done { result ≡ 0 → ((records : List ℕ) × HasHomes (unsigned w16) image.now records stat.new (as_homes (take count.new out.new))) × (fault.new ≡ fault.old) }
+    ensures no_room { result ≡ 11 → (length out.old < count.new) × ((records : List ℕ) × (holds : CvecStat) × (homes : List Home) × HasHomes (unsigned w16) image.now records holds homes × (count.new ≡ length homes)) }
+    ensures unchanged { result ≡ 11 → (out.new ≡ out.old) × (stat.new ≡ stat.old) × (fault.new ≡ fault.old) }
+    ensures refused { result ≢ 0 → result ≢ 11 → IsScanToldOf (unsigned w16) image.now result fault.new × (out.new ≡ out.old) × (count.new ≡ count.old) × (stat.new ≡ stat.old) }
+{
+    homes::<u16>(alloc, image, out, count, stat, fault)
 }
 
 /// Tells where the records of an image of u32 stand, as `homes` says.

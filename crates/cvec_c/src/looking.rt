@@ -1,7 +1,7 @@
 //! The records that the bytes of a file show which another process writes.
 
 ghost use Rattle.std.specs.Prelude.{◌≡◌, ◌≢◌, List, ℕ, ℤ};
-ghost use Rattle.std.specs.Int.{w32, w64};
+ghost use Rattle.std.specs.Int.{w8, w16, w32, w64};
 ghost use Rattle.record_core.specs.Bytes.{unsigned, signed, pair, flagged};
 ghost use Rattle.cvec_c.specs.Look.{HasShown, IsLookToldOf};
 ghost use Rattle.cvec_c.specs.Reading.{AreCopied};
@@ -48,6 +48,40 @@ fn look<R: Record>(
             CallStatus::of_look(refusal).code()
         }
     }
+}
+
+/// Copies records of u8 out of the bytes of a file, as `look` says.
+#[unsafe(no_mangle)]
+pub extern "C" fn cvec_look_u8(
+    alloc: Global,
+    bytes: &[u8],
+    from: u64,
+    out: &mut [u8],
+    count: &mut u64,
+    stat: &mut CvecStat,
+    fault: &mut CvecFault,
+) -> u32
+    ensures done { result ≡ 0 → ((records : List ℕ) × HasShown (unsigned w8) bytes.now records stat.new × AreCopied records from out.old out.new count.new) × (fault.new ≡ fault.old) }
+    ensures refused { result ≢ 0 → IsLookToldOf (unsigned w8) bytes.now result fault.new × (out.new ≡ out.old) × (count.new ≡ count.old) × (stat.new ≡ stat.old) }
+{
+    look::<u8>(alloc, bytes, from, out, count, stat, fault)
+}
+
+/// Copies records of u16 out of the bytes of a file, as `look` says.
+#[unsafe(no_mangle)]
+pub extern "C" fn cvec_look_u16(
+    alloc: Global,
+    bytes: &[u8],
+    from: u64,
+    out: &mut [u16],
+    count: &mut u64,
+    stat: &mut CvecStat,
+    fault: &mut CvecFault,
+) -> u32
+    ensures done { result ≡ 0 → ((records : List ℕ) × HasShown (unsigned w16) bytes.now records stat.new × AreCopied records from out.old out.new count.new) × (fault.new ≡ fault.old) }
+    ensures refused { result ≢ 0 → IsLookToldOf (unsigned w16) bytes.now result fault.new × (out.new ≡ out.old) × (count.new ≡ count.old) × (stat.new ≡ stat.old) }
+{
+    look::<u16>(alloc, bytes, from, out, count, stat, fault)
 }
 
 /// Copies records of u32 out of the bytes of a file, as `look` says.

@@ -1,7 +1,7 @@
 //! The records of an image are copied out.
 
 ghost use Rattle.std.specs.Prelude.{◌≡◌, ◌≢◌, ◌-◌, List, min, ℕ, ℤ};
-ghost use Rattle.std.specs.Int.{w32, w64};
+ghost use Rattle.std.specs.Int.{w8, w16, w32, w64};
 ghost use Rattle.record_core.specs.Bytes.{unsigned, signed, pair, flagged};
 ghost use Rattle.cvec_c.specs.Stat.{HasRecords, IsScanToldOf};
 ghost use Rattle.cvec_c.specs.Reading.{AreCopied};
@@ -55,6 +55,38 @@ fn read<R: Record>(
             CallStatus::of(refusal).code()
         }
     }
+}
+
+/// Copies records of u8 out of an image, as `read` says.
+#[unsafe(no_mangle)]
+pub extern "C" fn cvec_read_u8(
+    alloc: Global,
+    image: &[u8],
+    from: u64,
+    out: &mut [u8],
+    count: &mut u64,
+    fault: &mut CvecFault,
+) -> u32
+    ensures done { result ≡ 0 → ((records : List ℕ) × HasRecords (unsigned w8) image.now records × AreCopied records from out.old out.new count.new) × (fault.new ≡ fault.old) }
+    ensures refused { result ≢ 0 → IsScanToldOf (unsigned w8) image.now result fault.new × (out.new ≡ out.old) × (count.new ≡ count.old) }
+{
+    read::<u8>(alloc, image, from, out, count, fault)
+}
+
+/// Copies records of u16 out of an image, as `read` says.
+#[unsafe(no_mangle)]
+pub extern "C" fn cvec_read_u16(
+    alloc: Global,
+    image: &[u8],
+    from: u64,
+    out: &mut [u16],
+    count: &mut u64,
+    fault: &mut CvecFault,
+) -> u32
+    ensures done { result ≡ 0 → ((records : List ℕ) × HasRecords (unsigned w16) image.now records × AreCopied records from out.old out.new count.new) × (fault.new ≡ fault.old) }
+    ensures refused { result ≢ 0 → IsScanToldOf (unsigned w16) image.now result fault.new × (out.new ≡ out.old) × (count.new ≡ count.old) }
+{
+    read::<u16>(alloc, image, from, out, count, fault)
 }
 
 /// Copies records of u32 out of an image, as `read` says.
