@@ -18,7 +18,7 @@ use Rattle.words_core.specs.declared.request.FileTask.TheVariants.{Create, Load,
 use Rattle.words_core.specs.declared.request.Following.{Following}
 use Rattle.words_core.specs.declared.request.Following.TheVariants.{Records, Events}
 use Rattle.words_core.specs.declared.request.RecordType.{RecordType}
-use Rattle.words_core.specs.declared.request.RecordType.TheVariants.{U32, U64, I64, Pair, Flagged, Bytes16, Bytes24, Bytes32, Bytes64}
+use Rattle.words_core.specs.declared.request.RecordType.TheVariants.{U8, U16, U32, U64, I32, I64, Pair, Flagged, Bytes16, Bytes24, Bytes32, Bytes64}
 use Rattle.sentences.specs.declared.complaint.Complaint.{Complaint}
 use Rattle.text_core.specs.declared.status.Status.{Status}
 use Rattle.text_core.specs.declared.status.Status.TheVariants as statuses
@@ -121,8 +121,11 @@ module _ {R : Type 0} (form : Encoding R) (old new : Option (List ℕ)) (filed :
   no_usage_of_task spelling (Serve clients) input (inr (inr served)) = no_usage_served served.left served.growths served.served served.told
 
 no_usage_of_file : (record_type : RecordType) (task : FileTask) (input old new : Option (List ℕ)) (filed : Result Status Complaint) → IsTypedCommandRun record_type task input old new filed → IsNoUsage filed
+no_usage_of_file U8 task input old new filed run = no_usage_of_task _ old new filed _ task input run
+no_usage_of_file U16 task input old new filed run = no_usage_of_task _ old new filed _ task input run
 no_usage_of_file U32 task input old new filed run = no_usage_of_task _ old new filed _ task input run
 no_usage_of_file U64 task input old new filed run = no_usage_of_task _ old new filed _ task input run
+no_usage_of_file I32 task input old new filed run = no_usage_of_task _ old new filed _ task input run
 no_usage_of_file I64 task input old new filed run = no_usage_of_task _ old new filed _ task input run
 no_usage_of_file Pair task input old new filed run = no_usage_of_task _ old new filed _ task input run
 no_usage_of_file Flagged task input old new filed run = no_usage_of_task _ old new filed _ task input run

@@ -1,13 +1,13 @@
 -- The runs that the program makes: a task on records of one of its types.
 use Rattle.std.specs.Prelude.{◌≡◌, ℕ, List, Option, Some, None, IfSome, ◌++◌, codes, Result, Ok, Err}
 use Rattle.std.specs.Io.KnownBytes.{Appends, Keeps}
-use Rattle.std.specs.Int.{w32, w64}
+use Rattle.std.specs.Int.{w8, w16, w32, w64}
 use Rattle.record_core.specs.Bytes.{Encoding, unsigned, signed, pair, flagged}
 use Rattle.record_core.specs.Joined.{bytes16, bytes24, bytes32, bytes64}
 use Rattle.words_core.specs.declared.request.Task.{Task}
 use Rattle.words_core.specs.declared.request.Task.TheVariants.{Image, Show, Play}
 use Rattle.words_core.specs.declared.request.RecordType.{RecordType}
-use Rattle.words_core.specs.declared.request.RecordType.TheVariants.{U32, U64, I64, Pair, Flagged, Bytes16, Bytes24, Bytes32, Bytes64}
+use Rattle.words_core.specs.declared.request.RecordType.TheVariants.{U8, U16, U32, U64, I32, I64, Pair, Flagged, Bytes16, Bytes24, Bytes32, Bytes64}
 use Rattle.words_core.specs.declared.request.Request.{Request}
 use Rattle.words_core.specs.declared.request.Request.TheVariants.{Input, File, Stat, Tell}
 use Rattle.words_core.specs.declared.request.FileTask.{FileTask}
@@ -36,9 +36,12 @@ IsTaskRun Play form spelling input old new status = IsPlayRun form spelling inpu
 
 -- the same over records of one of the program's types
 abbrev pub IsProgramRun : Task → RecordType → List ℕ → Option (List ℕ) → Option (List ℕ) → Status → Type 0
+IsProgramRun task U8 = IsTaskRun task (unsigned w8) (number_spelling 8)
+IsProgramRun task U16 = IsTaskRun task (unsigned w16) (number_spelling 16)
 IsProgramRun task U32 = IsTaskRun task (unsigned w32) (number_spelling 32)
 IsProgramRun task U64 = IsTaskRun task (unsigned w64) (number_spelling 64)
-IsProgramRun task I64 = IsTaskRun task (signed w64) signed_spelling
+IsProgramRun task I32 = IsTaskRun task (signed w32) (signed_spelling w32)
+IsProgramRun task I64 = IsTaskRun task (signed w64) (signed_spelling w64)
 IsProgramRun task Pair = IsTaskRun task pair pair_spelling
 IsProgramRun task Flagged = IsTaskRun task flagged flagged_spelling
 IsProgramRun task Bytes16 = IsTaskRun task bytes16 (hex_spelling bytes16)
@@ -48,9 +51,12 @@ IsProgramRun task Bytes64 = IsTaskRun task bytes64 (hex_spelling bytes64)
 
 -- what a command over a file has done, on records of one of the program's types
 abbrev pub IsTypedCommandRun : RecordType → FileTask → Option (List ℕ) → Option (List ℕ) → Option (List ℕ) → Result Status Complaint → Type 0
+IsTypedCommandRun U8 = IsCommandRun (unsigned w8) (number_spelling 8)
+IsTypedCommandRun U16 = IsCommandRun (unsigned w16) (number_spelling 16)
 IsTypedCommandRun U32 = IsCommandRun (unsigned w32) (number_spelling 32)
 IsTypedCommandRun U64 = IsCommandRun (unsigned w64) (number_spelling 64)
-IsTypedCommandRun I64 = IsCommandRun (signed w64) signed_spelling
+IsTypedCommandRun I32 = IsCommandRun (signed w32) (signed_spelling w32)
+IsTypedCommandRun I64 = IsCommandRun (signed w64) (signed_spelling w64)
 IsTypedCommandRun Pair = IsCommandRun pair pair_spelling
 IsTypedCommandRun Flagged = IsCommandRun flagged flagged_spelling
 IsTypedCommandRun Bytes16 = IsCommandRun bytes16 (hex_spelling bytes16)

@@ -71,8 +71,11 @@ fn run_task<I: Read, W: Write, E: Threads + Wait + Sync>(
     ensures no_usage { result ≢ Status.Usage }
 {
     match record_type {
+        RecordType::U8 => run_of::<u8, I, W, E>(alloc, rt, task, reader, writer),
+        RecordType::U16 => run_of::<u16, I, W, E>(alloc, rt, task, reader, writer),
         RecordType::U32 => run_of::<u32, I, W, E>(alloc, rt, task, reader, writer),
         RecordType::U64 => run_of::<u64, I, W, E>(alloc, rt, task, reader, writer),
+        RecordType::I32 => run_of::<i32, I, W, E>(alloc, rt, task, reader, writer),
         RecordType::I64 => run_of::<i64, I, W, E>(alloc, rt, task, reader, writer),
         RecordType::Pair => run_of::<Pair, I, W, E>(alloc, rt, task, reader, writer),
         RecordType::Flagged => run_of::<Flagged, I, W, E>(alloc, rt, task, reader, writer),
@@ -139,8 +142,11 @@ fn run_filing<
 {
     let task = words.task;
     match words.record_type {
+        RecordType::U8 => filing.run::<u8, Dealt<u8>, I, W, E>(rt, task, reader, shown, writer),
+        RecordType::U16 => filing.run::<u16, Dealt<u16>, I, W, E>(rt, task, reader, shown, writer),
         RecordType::U32 => filing.run::<u32, Dealt<u32>, I, W, E>(rt, task, reader, shown, writer),
         RecordType::U64 => filing.run::<u64, Dealt<u64>, I, W, E>(rt, task, reader, shown, writer),
+        RecordType::I32 => filing.run::<i32, Dealt<i32>, I, W, E>(rt, task, reader, shown, writer),
         RecordType::I64 => filing.run::<i64, Dealt<i64>, I, W, E>(rt, task, reader, shown, writer),
         RecordType::Pair => filing.run::<Pair, Dealt<Pair>, I, W, E>(
             rt, task, reader, shown, writer,

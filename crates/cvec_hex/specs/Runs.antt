@@ -1,13 +1,13 @@
 -- The runs that the program makes: a task on records of one of its types.
 use Rattle.std.specs.Prelude.{ℕ, List, Option}
-use Rattle.std.specs.Int.{w32, w64}
+use Rattle.std.specs.Int.{w8, w16, w32, w64}
 use Rattle.record_core.specs.Bytes.{Encoding, unsigned, signed, pair, flagged}
 use Rattle.record_core.specs.Joined.{bytes16, bytes24, bytes32, bytes64}
 use Rattle.cvec_hex.specs.declared.request.HexRequest.{HexRequest}
 use Rattle.cvec_hex.specs.declared.request.HexTask.{HexTask}
 use Rattle.cvec_hex.specs.declared.request.HexTask.TheVariants.{Image, Show}
 use Rattle.cvec_hex.specs.declared.request.HexType.{HexType}
-use Rattle.cvec_hex.specs.declared.request.HexType.TheVariants.{U32, U64, I64, Pair, Flagged, Bytes16, Bytes24, Bytes32, Bytes64}
+use Rattle.cvec_hex.specs.declared.request.HexType.TheVariants.{U8, U16, U32, U64, I32, I64, Pair, Flagged, Bytes16, Bytes24, Bytes32, Bytes64}
 use Rattle.text_core.specs.declared.status.Status.{Status}
 use Rattle.text_core.specs.Text.{Spelling}
 use Rattle.text_core.specs.Numbers.{number_spelling}
@@ -23,9 +23,12 @@ IsHexTaskRun Show form spelling input old new status = IsShowRun form spelling i
 
 -- the same over records of one of the program's types
 abbrev pub IsRunOn : HexType → HexTask → List ℕ → Option (List ℕ) → Option (List ℕ) → Status → Type 0
+IsRunOn U8 task = IsHexTaskRun task (unsigned w8) (number_spelling 8)
+IsRunOn U16 task = IsHexTaskRun task (unsigned w16) (number_spelling 16)
 IsRunOn U32 task = IsHexTaskRun task (unsigned w32) (number_spelling 32)
 IsRunOn U64 task = IsHexTaskRun task (unsigned w64) (number_spelling 64)
-IsRunOn I64 task = IsHexTaskRun task (signed w64) signed_spelling
+IsRunOn I32 task = IsHexTaskRun task (signed w32) (signed_spelling w32)
+IsRunOn I64 task = IsHexTaskRun task (signed w64) (signed_spelling w64)
 IsRunOn Pair task = IsHexTaskRun task pair pair_spelling
 IsRunOn Flagged task = IsHexTaskRun task flagged flagged_spelling
 IsRunOn Bytes16 task = IsHexTaskRun task bytes16 (hex_spelling bytes16)

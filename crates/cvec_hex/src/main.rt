@@ -19,7 +19,7 @@ const USAGE: &[u8] = b"usage: cvec image TYPE, or cvec show TYPE
 image TYPE     makes a segment file of group lines, and writes it as hex
 show TYPE      lists the records of a segment file, which is given as hex
 
-TYPE is u32, u64, i64, pair (a u64 and an i64, as 7:-3), flagged (a u64 and 0 or 1, as 5:1),
+TYPE is u8, u16, u32, u64, i32, i64, pair (a u64 and an i64, as 7:-3), flagged (a u64 and 0 or 1, as 5:1),
 or bytes16, bytes24, bytes32, bytes64 (so many bytes, as hex digits in lower case).
 This is the small program that serves until cvec is built, which tells what is wrong with the words.
 ";

@@ -40,8 +40,11 @@ pub fn run<I: Read, W: Write>(
 {
     let task = request.task;
     match request.record_type {
+        HexType::U8 => run_of::<u8, I, W>(alloc, task, reader, writer),
+        HexType::U16 => run_of::<u16, I, W>(alloc, task, reader, writer),
         HexType::U32 => run_of::<u32, I, W>(alloc, task, reader, writer),
         HexType::U64 => run_of::<u64, I, W>(alloc, task, reader, writer),
+        HexType::I32 => run_of::<i32, I, W>(alloc, task, reader, writer),
         HexType::I64 => run_of::<i64, I, W>(alloc, task, reader, writer),
         HexType::Pair => run_of::<Pair, I, W>(alloc, task, reader, writer),
         HexType::Flagged => run_of::<Flagged, I, W>(alloc, task, reader, writer),

@@ -14,8 +14,11 @@ pub enum HexTask {
 /// The types of record that the program knows.
 #[derive(Clone, Copy)]
 pub enum HexType {
+    U8,
+    U16,
     U32,
     U64,
+    I32,
     I64,
     Pair,
     Flagged,
@@ -44,8 +47,11 @@ fn task_of(word: &str) -> Option<HexTask> {
 /// The type of this word.
 fn type_of(word: &str) -> Option<HexType> {
     match word {
+        "u8" => Some(HexType::U8),
+        "u16" => Some(HexType::U16),
         "u32" => Some(HexType::U32),
         "u64" => Some(HexType::U64),
+        "i32" => Some(HexType::I32),
         "i64" => Some(HexType::I64),
         "pair" => Some(HexType::Pair),
         "flagged" => Some(HexType::Flagged),

@@ -21,6 +21,22 @@ pub trait OpensToWrite: Record {
     ghost reads_any: { READS_ANY ≡ true → ReadsAny Self.Record.form };
 }
 
+impl OpensToWrite for u8 {
+    const READS_ANY: bool = true;
+
+    ghost READS_ANY = { true };
+
+    ghost reads_any = { λ _ bytes. refl };
+}
+
+impl OpensToWrite for u16 {
+    const READS_ANY: bool = true;
+
+    ghost READS_ANY = { true };
+
+    ghost reads_any = { λ _ bytes. refl };
+}
+
 impl OpensToWrite for u32 {
     const READS_ANY: bool = true;
 
@@ -30,6 +46,14 @@ impl OpensToWrite for u32 {
 }
 
 impl OpensToWrite for u64 {
+    const READS_ANY: bool = true;
+
+    ghost READS_ANY = { true };
+
+    ghost reads_any = { λ _ bytes. refl };
+}
+
+impl OpensToWrite for i32 {
     const READS_ANY: bool = true;
 
     ghost READS_ANY = { true };

@@ -84,6 +84,7 @@ fn answered_by_type<E: Threads + Wait + Sync>(
     input: &[u8],
 ) -> io::Result<Vec<u8>> {
     match type_in(input) {
+        b"u8" => answered::<u8, E>(alloc, rt, input),
         b"u32" => answered::<u32, E>(alloc, rt, input),
         b"i64" => answered::<i64, E>(alloc, rt, input),
         b"pair" => answered::<Pair, E>(alloc, rt, input),

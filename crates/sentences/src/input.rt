@@ -11,8 +11,11 @@ use words_core::{FileTask, FileWords, Following, RecordType};
 /// The text of a record of a type.
 fn record_form(record_type: RecordType) -> &'static str {
     match record_type {
+        RecordType::U8 => "a number from 0 to 255",
+        RecordType::U16 => "a number from 0 to 65535",
         RecordType::U32 => "a number from 0 to 4294967295",
         RecordType::U64 => "a number from 0 to 18446744073709551615",
+        RecordType::I32 => "a number from -2147483648 to 2147483647",
         RecordType::I64 => "a number from -9223372036854775808 to 9223372036854775807",
         RecordType::Pair => "a u64 and an i64 with a colon between them, as 7:-3",
         RecordType::Flagged => "a u64 and 0 or 1 with a colon between them, as 5:1",
@@ -38,8 +41,11 @@ fn name_of_word(word: Word) -> &'static str {
 /// The first of the values of `--records` that is no record.
 fn excerpt_of_records(records: &[u8], record_type: RecordType) -> Excerpt {
     match record_type {
+        RecordType::U8 => Excerpt::of_bad_word::<u8>(records, b','),
+        RecordType::U16 => Excerpt::of_bad_word::<u16>(records, b','),
         RecordType::U32 => Excerpt::of_bad_word::<u32>(records, b','),
         RecordType::U64 => Excerpt::of_bad_word::<u64>(records, b','),
+        RecordType::I32 => Excerpt::of_bad_word::<i32>(records, b','),
         RecordType::I64 => Excerpt::of_bad_word::<i64>(records, b','),
         RecordType::Pair => Excerpt::of_bad_word::<Pair>(records, b','),
         RecordType::Flagged => Excerpt::of_bad_word::<Flagged>(records, b','),

@@ -80,8 +80,10 @@ fn flaw_of_keyed(text: &[u8], record_type: RecordType) -> Flaw {
 /// What is wrong with a word that is no record of the type, by what is known of it.
 fn flaw_by_type(word: &[u8], record_type: RecordType) -> Flaw {
     match record_type {
-        RecordType::U32 | RecordType::U64 => flaw_of_number(word, false),
-        RecordType::I64 => flaw_of_number(word, true),
+        RecordType::U8 | RecordType::U16 | RecordType::U32 | RecordType::U64 => {
+            flaw_of_number(word, false)
+        }
+        RecordType::I32 | RecordType::I64 => flaw_of_number(word, true),
         RecordType::Pair | RecordType::Flagged => flaw_of_keyed(word, record_type),
         RecordType::Bytes16 | RecordType::Bytes24 | RecordType::Bytes32 | RecordType::Bytes64 => {
             Flaw::Form

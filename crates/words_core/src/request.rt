@@ -22,8 +22,11 @@ pub enum Task {
 /// The types of record that the program knows.
 #[derive(Clone, Copy)]
 pub enum RecordType {
+    U8,
+    U16,
     U32,
     U64,
+    I32,
     I64,
     Pair,
     Flagged,
@@ -39,8 +42,11 @@ impl RecordType {
         ensures { result.now ≡ type_word self }
     {
         match self {
+            RecordType::U8 => "u8",
+            RecordType::U16 => "u16",
             RecordType::U32 => "u32",
             RecordType::U64 => "u64",
+            RecordType::I32 => "i32",
             RecordType::I64 => "i64",
             RecordType::Pair => "pair",
             RecordType::Flagged => "flagged",
@@ -54,8 +60,11 @@ impl RecordType {
     /// How many bytes a record of the type has.
     pub fn width(self) -> usize {
         match self {
+            RecordType::U8 => width_of::<u8>(),
+            RecordType::U16 => width_of::<u16>(),
             RecordType::U32 => width_of::<u32>(),
             RecordType::U64 => width_of::<u64>(),
+            RecordType::I32 => width_of::<i32>(),
             RecordType::I64 => width_of::<i64>(),
             RecordType::Pair => width_of::<Pair>(),
             RecordType::Flagged => width_of::<Flagged>(),

@@ -89,8 +89,11 @@ fn record_type_of(word: &str) -> Option<RecordType>
     ensures unnamed { IfNone result ((record_type : RecordType) → word.now ≢ type_word record_type) }
 {
     match word {
+        "u8" => Some(RecordType::U8),
+        "u16" => Some(RecordType::U16),
         "u32" => Some(RecordType::U32),
         "u64" => Some(RecordType::U64),
+        "i32" => Some(RecordType::I32),
         "i64" => Some(RecordType::I64),
         "pair" => Some(RecordType::Pair),
         "flagged" => Some(RecordType::Flagged),
