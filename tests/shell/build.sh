@@ -100,6 +100,33 @@ a_newer_contract_or_proof_is_built_again() (
     answers 0 'made with word\n'
 )
 
+a_source_that_is_taken_away_is_built_again() (
+    seeming_repository
+    for folder in src specs proofs/F; do
+        mkdir -p "$there/crates/cvec/$folder"
+        touch "$there/crates/cvec/$folder/other.rt"
+        with_toolchain
+        with_toolchain
+        answers 0 'made with word\n'
+        rm "$there/crates/cvec/$folder/other.rt"
+        with_toolchain
+        tells_only 'cvec: proves and builds the program'
+    done
+)
+
+# They say on what a crate stands and what it may use.
+a_newer_list_of_crates_or_of_handles_is_built_again() (
+    seeming_repository
+    for file in crates.txt HANDLES; do
+        with_toolchain
+        with_toolchain
+        answers 0 'made with word\n'
+        touch "$there/$file"
+        with_toolchain
+        tells_only 'cvec: proves and builds the program'
+    done
+)
+
 # Two builds at once: the second waits for the first, and has nothing left to do but to run the program. As by git, another file
 # is put in the place of crates.txt meanwhile.
 one_build_works_in_a_repository_at_a_time() (

@@ -349,9 +349,15 @@ what_is_older_than_its_sources_is_built_before_it_is_tested() (
         [ "$(paste -sd ' ' "$work/asked")" = "$1" ]
     }
     touch -d '1 hour ago' "$there/crates/low/src/lib.rt"
+    all='cvec_c cvec_threads play_tests'
+    touch -d '1 hour ago' "$there/crates.txt" "$there/HANDLES" "$there/crates/low/src"
     asks_for ''
-    touch -d '1 hour' "$there/crates/low/src/lib.rt"
-    asks_for 'cvec_c cvec_threads play_tests'
+    for newer in crates/low/src/lib.rt crates/low/src crates.txt HANDLES; do
+        touch -d '1 hour' "$there/$newer"
+        asks_for "$all"
+        touch -d '1 hour ago' "$there/$newer"
+        asks_for ''
+    done
 )
 
 # The gate tries those of one crate at a time. That each can be applied, so that the prover refuses what it makes, is seen here.
