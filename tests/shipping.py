@@ -47,7 +47,10 @@ def lines_of(words, **options):
 RECORDS = {
     "u64": (lambda pick: str(pick.choice([pick.randrange(10), pick.randrange(2**63, 2**64)])), "{}"),
     "i64": (lambda pick: str(pick.choice([-2**63, 2**63 - 1, pick.randrange(-9, 9)])), "{}"),
+    "u8": (lambda pick: str(pick.randrange(2**8)), "{}"),
+    "u16": (lambda pick: str(pick.choice([pick.randrange(2**8), pick.randrange(2**16)])), "{}"),
     "u32": (lambda pick: str(pick.randrange(2**32)), "{}"),
+    "i32": (lambda pick: str(pick.choice([-2**31, 2**31 - 1, pick.randrange(-9, 9)])), "{}"),
     "pair": (lambda pick: f"{pick.randrange(2**64)}:{pick.randrange(-2**63, 2**63)}", "{}:1"),
     "flagged": (lambda pick: f"{pick.randrange(2**64)}:{pick.randrange(2)}", "{}:1"),
 }

@@ -17,7 +17,7 @@ import os
 import struct
 import sys
 
-TYPES = {"u32": "<I", "u64": "<Q", "i64": "<q", "pair": "<Qq", "flagged": "<QB",
+TYPES = {"u8": "<B", "u16": "<H", "u32": "<I", "u64": "<Q", "i32": "<i", "i64": "<q", "pair": "<Qq", "flagged": "<QB",
          "bytes16": "16s", "bytes24": "24s", "bytes32": "32s", "bytes64": "64s"}
 HEADER_BYTES, HEAD_BYTES = 11, 6
 PAYLOAD_LIMITS = {1: 1 << 20, 2: 1 << 24}

@@ -72,8 +72,21 @@ def random_line_of_bytes(rng):
     return kind, lines + [rng.choice(['%s', '%s ' + text, text + ' %s', text + ' | %s']) % wrong]
 
 
-def judge_line_of_bytes(job):
-    """That line is named."""
+def random_line_of_numbers(rng):
+    """Lines of a type of numbers, of which the last has a text that is nearly a record: a number out of range by one, by bytes or
+    by a digit, one with a sign or a zero in front, or with what stands behind it."""
+    kind = rng.choice(['u8', 'u16', 'u32', 'u64', 'i32', 'i64'])
+    width, _, text = TYPES[kind]
+    least, end = (-1 << 8 * width - 1, 1 << 8 * width - 1) if kind[0] == 'i' else (0, 1 << 8 * width)
+    some = rng.choice([1, 5, end - 1])
+    wrong = rng.choice([*map(str, (end, end + rng.randrange(end), end * 10, end << 64, least - 1, least * 2 - 1)), '-0', '-', '00',
+                        '0x1', *(form % some for form in ('+%d', '0%d', '-0%d', '--%d', '%d-', '%d.0', '%d:1'))])
+    lines = [' '.join(map(text, random_cells(rng, kind, 3))) for _ in range(rng.randrange(3))]
+    return kind, lines + [rng.choice(['%s', '%s 1', '1 %s', '1 | %s']) % wrong]
+
+
+def judge_wrong_line(job):
+    """The last line, which is none of its type, is named."""
     kind, lines = job
     given = ''.join(line + '\n' for line in lines).encode()
     return differs(['image', kind], run(['image', kind], given), (1, b'refused: line %d\n' % len(lines))), given
@@ -100,8 +113,8 @@ def random_words(rng):
         words = [rng.choice(engines), rng.choice(kinds)] + words[:rng.randrange(2)]
     # Of one digit more or less than a record of bytes has, too, and in upper case.
     digits = bytes(rng.choice(b'0123456789abcdef') for _ in range(2 * rng.choice([16, 24, 32, 64]) + rng.choice([0, 0, 0, -1, 1])))
-    inputs = [b'', b'\n', b'5\n', b'5:1\n', b'1 2 | 3', b'-1\r\n', b'zz', b'0', rng.randbytes(rng.randrange(9)),
-              digits, digits + b'\n', digits + b' ' + digits + b'\n', digits.upper() + b'\n',
+    inputs = [b'', b'\n', b'5\n', b'256\n', b'-2147483649\n', b'5:1\n', b'1 2 | 3', b'-1\r\n', b'zz', b'0',
+              rng.randbytes(rng.randrange(9)), digits, digits + b'\n', digits + b' ' + digits + b'\n', digits.upper() + b'\n',
               random_image(rng)[0].hex().encode(), '\n'.join(random_script(rng)[:5]).encode()]
     return words, rng.choice(inputs)
 
@@ -160,5 +173,6 @@ def random_jobs(seed):
         kind = rng.choice(list(TYPES))
         lines = [[random_cells(rng, kind, 4) for _ in range(rng.randint(1, 3))] for _ in range(rng.randrange(4))]
         yield judge_lines, (kind, lines)
-        yield judge_line_of_bytes, random_line_of_bytes(rng)
+        yield judge_wrong_line, random_line_of_bytes(rng)
+        yield judge_wrong_line, random_line_of_numbers(rng)
         yield judge_words, random_words(rng)

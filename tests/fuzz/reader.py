@@ -9,14 +9,25 @@ def any_bytes(_cell):
     return True
 
 
+def number_text(cell):
+    return str(int.from_bytes(cell, 'little'))
+
+
+def signed_text(cell):
+    return str(int.from_bytes(cell, 'little', signed=True))
+
+
 def pair_text(cell):
     return '%d:%d' % struct.unpack('<Qq', cell)
 
 
 TYPES = {
-    'u32': (4, any_bytes, lambda cell: str(int.from_bytes(cell, 'little'))),
-    'u64': (8, any_bytes, lambda cell: str(int.from_bytes(cell, 'little'))),
-    'i64': (8, any_bytes, lambda cell: str(int.from_bytes(cell, 'little', signed=True))),
+    'u8': (1, any_bytes, number_text),
+    'u16': (2, any_bytes, number_text),
+    'u32': (4, any_bytes, number_text),
+    'u64': (8, any_bytes, number_text),
+    'i32': (4, any_bytes, signed_text),
+    'i64': (8, any_bytes, signed_text),
     'pair': (16, any_bytes, pair_text),
     'flagged': (9, lambda cell: cell[8] < 2, lambda cell: '%d:%d' % struct.unpack('<QB', cell)),
     'bytes16': (16, any_bytes, bytes.hex),

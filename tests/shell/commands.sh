@@ -304,7 +304,7 @@ every_type_has_files() (
     # Half of the widest record, in hex.
     half=00112233445566778899aabbccddeeff0102030405060708090a0b0c0d0e0fff
     most=ffffffffffffffffffffffffffffffff
-    for of in u32:7:8 u64:18446744073709551615:8 i64:-3:4 pair:7:-3,8:0 flagged:5:1,6:0 bytes16:$most:${half%"${half#????????????????????????????????}"} \
+    for of in u8:0:255 u16:256:65535 i32:-2147483648:-1 u32:7:8 u64:18446744073709551615:8 i64:-3:4 pair:7:-3,8:0 flagged:5:1,6:0 bytes16:$most:${half%"${half#????????????????????????????????}"} \
         bytes24:${half%????????????????}:${most}0000000000000000 bytes32:$half:$most$most bytes64:$half$half:$most$most$half; do
         t=$work/t.cv
         rm -f "$t"
@@ -334,6 +334,106 @@ every_type_has_files() (
         did "$two\n$two\n"
         [ "$(stat -c %s "$work/n.cv")" -lt "$(stat -c %s "$t")" ]
     done
+)
+
+# The file, of version 1, has these bytes behind the version, by docs/file/format.md. Blanks count for nothing.
+has_bytes() { [ "$(hex_of "$work/t.cv")" = "014356454353454701$(printf %s "$1" | tr -d ' ')" ]; }
+
+# A row has: a type and its width; the lengths of the payloads of a growth, a change and another growth; three records, two that
+# replace the last of them, and one that is added; and the bytes of these six.
+records_of_few_bytes_stand_as_they_are_defined() (
+    t=$work/t.cv
+    while read -r type width grown changed added records replacing last a b c d e f; do
+        echo "$type"
+        rm -f "$t"
+        run create "$type" "$t"
+        did 'created\n'
+        has_bytes "$width 00"
+        given "$(echo "$records" | tr , ' ')\n"
+        run append "$type" "$t"
+        did 'appended 1 growths, size 3\n'
+        group="0101 $grown 01000000 03000000"
+        has_bytes "$width $group $a$b$c 00"
+        run count "$type" "$t" "--record=${records##*,}"
+        did '1\n'
+        run set "$type" "$t" 1 "--records=$replacing"
+        did 'ok\n'
+        change="0102 $changed 0100000000000000 $d$e"
+        has_bytes "$width $group $a$b$c $change 00"
+        run find "$type" "$t" "--record=${replacing##*,}"
+        did '2\n'
+        run fold "$type" "$t"
+        did 'folded 1\n'
+        behind="$width $group $a$d$e $change 0104 08000000 0100000000000000"
+        has_bytes "$behind 00"
+        run resize "$type" "$t" 2 "--record=$last"
+        did 'ok\n'
+        behind="$behind 0103 08000000 0200000000000000"
+        has_bytes "$behind 00"
+        run resize "$type" "$t" 4 "--record=$last"
+        did 'ok\n'
+        has_bytes "$behind 0101 $added 01000000 02000000 $f$f 00"
+        run list "$type" "$t"
+        did "${records%%,*}\n${replacing%,*}\n$last\n$last\n"
+        run check "$type" "$t"
+        did "ok version 1 width $((${#a} / 2)) size 4 frames 5 live 0\n"
+    done <<'ROWS'
+u8 0100 0b000000 0a000000 0a000000 5,255,7 0,128 254 05 ff 07 00 80 fe
+u16 0200 0e000000 0c000000 0c000000 5,65535,7 256,32768 65534 0500 ffff 0700 0001 0080 feff
+i32 0400 14000000 10000000 10000000 5,-1,7 2147483647,-2147483648 -2 05000000 ffffffff 07000000 ffffff7f 00000080 feffffff
+ROWS
+)
+
+# Of the 1,048,576 bytes of a frame a growth takes 8 beside its records.
+a_frame_takes_the_more_records_of_fewer_bytes() (
+    t=$work/t.cv
+    for of in u8:1048568:1 u16:524284:2 i32:262142:4; do
+        type=${of%%:*} width=${of##*:} most=${of#*:}
+        most=${most%:*}
+        rm -f "$t"
+        run create "$type" "$t"
+        run resize "$type" "$t" $((most + 1)) --record=5
+        was_refused 'too large' '--parts takes any number'
+        run resize "$type" "$t" "$most" --record=5
+        did 'ok\n'
+        [ "$(stat -c %s "$t")" -eq $((12 + 14 + most * width)) ]
+        yes 7 | head -n "$most" | paste -sd ' ' >"$in"
+        run load "$type" "$t"
+        did "loaded 1 growths, size $((2 * most))\n"
+        yes 7 | head -n $((most + 1)) | paste -sd ' ' >"$in"
+        run load "$type" "$t"
+        was_refused 'too large at line 1' 'longer than the 1048576 bytes of a frame'
+        run check "$type" "$t"
+        did "ok version 1 width $width size $((2 * most)) frames 2 live 0\n"
+    done
+)
+
+# Its records have another width; or the same one, and are read as numbers of that type.
+a_file_of_few_bytes_a_record_is_of_its_width() (
+    given '255 7\n'
+    for of in u8:1:u16 u16:2:u8 i32:4:u16; do
+        type=${of%%:*} width=${of#*:} other=${of##*:}
+        width=${width%:*}
+        run create "$type" "$work/$type.cv"
+        run load "$type" "$work/$type.cv"
+        before=$(cksum <"$work/$type.cv")
+        for command in check list 'append --block=2' clear fold; do
+            # shellcheck disable=SC2086 # each word is one
+            set -- $command
+            name=$1
+            shift
+            run "$name" "$other" "$work/$type.cv" "$@"
+            was_refused "width $width" "its records have $width bytes, and those of $other have $((${other#u} / 8))"
+        done
+        [ "$before" = "$(cksum <"$work/$type.cv")" ]
+    done
+    run set i32 "$work/i32.cv" 0 --records=-1
+    run list u32 "$work/i32.cv"
+    did '4294967295\n7\n'
+    run copy u32 "$work/i32.cv" "$work/n.cv"
+    did 'copied size 2\n'
+    run find i32 "$work/n.cv" --record=-1
+    did '0\n'
 )
 
 words_that_are_not_of_their_form_are_refused() (
@@ -399,8 +499,8 @@ values_are_words_of_their_own_too() (
 words_that_are_missing_end_with_usage() (
     t=$work/t.cv
     for words in 'count u64 t' 'find u64 t' 'set u64 t 0' 'set u64 t' 'set u64 t --input' 'set u64 t 0 --lenient' 'resize u64 t 1' 'resize u64 t 1 --parts' 'upgrade u64 t' 'copy u64 t' 'list u64' \
-        'create u64' 'create u64 t --format=3' 'create u64 t --format' 'count u64 t --record' 'check u16 t' \
-        'list u64 t u' 'fold u64 t --record=5' 'load u16 t' 'count u16 t --record=x'; do
+        'create u64' 'create u64 t --format=3' 'create u64 t --format' 'count u64 t --record' 'check u24 t' \
+        'list u64 t u' 'fold u64 t --record=5' 'load u24 t' 'count u24 t --record=x'; do
         # shellcheck disable=SC2086 # each word is one
         run $words
         [ "$status" -eq 2 ]

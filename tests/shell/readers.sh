@@ -80,7 +80,7 @@ commands_that_read_answer_beside_a_server() (
 # A file of each type and version; and one of another type, or none, is refused as without a writer.
 files_of_all_types_are_read_beside_a_writer() (
     has_locks_listed || exit $is_skipped
-    while read -r type format record; do
+    while read -r type format record other; do
         rm -f "$work/t.cv"
         run create "$type" "$work/t.cv" --format="$format"
         given "$record\n"
@@ -94,17 +94,20 @@ files_of_all_types_are_read_beside_a_writer() (
         did "$record\n"
         second count "$type" "$work/t.cv" --record="$record"
         did '1\n'
-        second list u32 "$work/t.cv"
-        [ "$type" = u32 ] || [ "$(head -c 15 "$out")" = 'refused: width ' ]
+        second list "$other" "$work/t.cv"
+        [ "$(head -c 15 "$out")" = 'refused: width ' ]
         exec 8>&-
         wait "$first"
     done <<'ROWS'
-u32 1 4294967295
-u64 2 18446744073709551615
-i64 1 -9223372036854775808
-pair 2 7:-3
-flagged 1 5:1
-bytes24 2 00112233445566778899aabbccddeeff0102030405060708
+u8 1 255 u16
+u16 2 65535 u8
+u32 1 4294967295 u64
+u64 2 18446744073709551615 u32
+i32 2 -2147483648 i64
+i64 1 -9223372036854775808 u32
+pair 2 7:-3 u32
+flagged 1 5:1 u32
+bytes24 2 00112233445566778899aabbccddeeff0102030405060708 u32
 ROWS
 )
 

@@ -137,6 +137,18 @@ records_of_bytes_are_text_in_sqlite() (
     [ "$(sqlite3 "$work/t.db" 'select typeof(record) from vector order by position' | paste -sd ' ')" = 'text text text text integer' ]
 )
 
+# Also the least of i32 and of i64. Of u64 those from 2^63 on are none that SQLite has.
+numbers_are_integers_in_sqlite() (
+    has python3 'copies by follow' && has sqlite3 'a copy in SQLite' || exit "$is_skipped"
+    numbers='255 65535 -2147483648 2147483647 -9223372036854775808 9223372036854775807 9223372036854775808'
+    # shellcheck disable=SC2086 # each word is one
+    follows '' "$(printf '+ %s\\\\n' $numbers). 1\\\\n"
+    keeps
+    [ "$status" -eq 0 ]
+    has_kept "$numbers" 1
+    [ "$(sqlite3 "$work/t.db" 'select typeof(record) from vector order by position' | uniq -c | tr -s ' \n' ' ')" = ' 6 integer 1 text ' ]
+)
+
 # PostgreSQL takes 63 bytes of a name. That of the table with PLACE must be another.
 a_long_name_of_a_table_is_refused() (
     has python3 'copies by follow' && has psql 'a copy in PostgreSQL' || exit "$is_skipped"
@@ -179,15 +191,43 @@ a_copy_of_a_wrong_type_is_refused() (
     has python3 'copies by follow' || exit "$is_skipped"
     export CVEC="$program" PYTHONDONTWRITEBYTECODE=1
     leaves_a_file
-    for type in u65 U64 bytes bytes8 bytes24.0 ''; do
+    for type in u65 u24 i8 f32 f64 U64 bytes bytes8 bytes24.0 ''; do
         status=0
         timeout 10 "$shipping/again" "$shipping/apply" "$type" "$work/copy.cv" "$work/follower" >"$out" 2>"$err" || status=$?
         [ "$status" -eq 2 ]
-        tells 'a TYPE is one of u32, u64, i64, pair, flagged, bytes16, bytes24, bytes32, bytes64'
+        tells 'a TYPE is one of u8, u16, u32, u64, i32, i64, pair, flagged, bytes16, bytes24, bytes32, bytes64'
         [ -z "$(find "$work" -name 'copy.cv*' -o -name begun)" ]
     done
     "$shipping/apply" u64 "$work/copy.cv" "$work/follower"
     [ -e "$work/begun" ]
+)
+
+# Its step cuts the copy, for which `apply` takes a record of its own, and appends.
+a_copy_may_be_of_each_type() (
+    has python3 'copies by follow' || exit "$is_skipped"
+    export CVEC="$program" PYTHONDONTWRITEBYTECODE=1
+    while read -r type one two; do
+        echo "$type"
+        follows '' "+ $one\\\\n+ $one\\\\n. 1\\\\n"
+        "$shipping/apply" "$type" "$work/$type.cv" "$work/follower"
+        follows --after=1 "= 0 $two\\\\n. 2\\\\n< 1\\\\n+ $one\\\\n. 3\\\\n"
+        "$shipping/apply" "$type" "$work/$type.cv" "$work/follower"
+        run list "$type" "$work/$type.cv"
+        did "$two\n$one\n"
+    done <<ROWS
+u8 0 255
+u16 256 65535
+u32 0 4294967295
+u64 0 18446744073709551615
+i32 -2147483648 2147483647
+i64 -9223372036854775808 9223372036854775807
+pair 7:-3 8:0
+flagged 5:1 6:0
+bytes16 $(printf '%032d %032d' 5 6)
+bytes24 $(printf '%048d %048d' 5 6)
+bytes32 $(printf '%064d %064d' 5 6)
+bytes64 $(printf '%0128d %0128d' 5 6)
+ROWS
 )
 
 # The command that a killed script has begun ends before another script goes on, which does that step once more.
@@ -380,6 +420,9 @@ is_read_as() {
 a_python_reader_has_each_type() (
     has python3 'a reader in Python' || exit "$is_skipped"
     head=0143564543534547 one=00112233445566778899aabbccddeeff two=000000000000000000000000000000f0
+    is_read_as u8 "${head}01010001010a0000000100000002000000ff8000" '255\n128\n'
+    is_read_as u16 "${head}01020001010c0000000100000002000000fffe000100" '65279\n256\n'
+    is_read_as i32 "${head}0104000101100000000100000002000000fffffffe0000008000" '-16777217\n-2147483648\n'
     is_read_as u32 "${head}01040001010c0000000100000001000000fffffffe00" '4278190079\n'
     is_read_as u64 "${head}010800010110000000010000000100000000000000000000ff00" '18374686479671623680\n'
     is_read_as i64 "${head}010800010110000000010000000100000000000000000000ff00" '-72057594037927936\n'

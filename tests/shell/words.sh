@@ -3,7 +3,8 @@
 # ---- the program's words
 
 other_words_for_a_type_are_usage() (
-    for word in i32 U64 Pair flag u; do
+    # Of floating numbers the library alone has types.
+    for word in u128 i8 i16 f32 f64 U8 u08 8 U64 Pair flag u; do
         becomes "image $word" '5\n' 2 ''
         becomes "show $word" '5\n' 2 ''
     done
@@ -15,7 +16,7 @@ words_choose_the_engine() (
     becomes '' '\n' 1 'refused: line 1\n'
     becomes 'show u64' '\n' 1 'refused: unborn\n'
     becomes 'play u64' 'list\n' 0 'refused wrong phase\n'
-    for words in 'play u16' play 'play u64 u64' show 'show u64 u64' 'list u64'; do
+    for words in 'play u24' play 'play u64 u64' show 'show u64 u64' 'list u64'; do
         becomes "$words" 'list\n' 2 ''
     done
 )
@@ -27,7 +28,8 @@ what_is_wrong_with_words_is_told_in_a_sentence() (
     done <<'ROWS'
 lists u64=error: unrecognized subcommand 'lists'
 show=error: the following required arguments were not provided:
-image u16=error: invalid value 'u16' for '<TYPE>'
+image u24=error: invalid value 'u24' for '<TYPE>'
+show u24=[possible values: u8, u16, u32, u64, i32, i64, pair, flagged, bytes16, bytes24, bytes32, bytes64]
 show u64 u64=error: unexpected argument 'u64' found
 --kind=error: unexpected argument '--kind' found
 show -- u64 --help=error: unexpected argument '--help' found
@@ -39,8 +41,8 @@ words_that_clap_refuses_end_with_usage() (
     ends_with_usage "error: unrecognized subcommand 'lists'"
     run load u64 t.cv --seats=65
     ends_with_usage 'error: the value of --seats is a number from 1 to 64'
-    run show u16
-    ends_with_usage "error: invalid value 'u16' for '<TYPE>'"
+    run show u24
+    ends_with_usage "error: invalid value 'u24' for '<TYPE>'"
     run show
     ends_with_usage 'error: the following required arguments were not provided:'
     run show u64 u64
@@ -67,7 +69,7 @@ help delete='cvec help' lists the commands
 remove u64='cvec help' lists the commands
 listlistlist='cvec help' lists the commands
 --kind='cvec help' lists the commands
-image u16='cvec help image' tells of it
+image u24='cvec help image' tells of it
 count u64 t --recrod 5='--record' may be meant: 'cvec help count' tells of it
 follow u64 t --form 5='--from' may be meant: 'cvec help follow' tells of it
 append u64 t --quit='--quiet' may be meant: 'cvec help append' tells of it
@@ -139,7 +141,7 @@ the_program_tells_of_itself() (
         grep -q "^$command .*   *[a-z]" "$out"
     done
     run help
-    for type in u32 u64 i64 pair flagged bytes16 bytes24 bytes32 bytes64; do grep -qw "$type" "$out"; done
+    for type in u8 u16 u32 u64 i32 i64 pair flagged bytes16 bytes24 bytes32 bytes64; do grep -qw "$type" "$out"; done
     run help play
     grep -qxF "  \$ printf 'create\\nresize 1 5\\ncrash old\\nopen\\nlist\\n' | cvec play u64" "$out"
     for words in version --version; do
