@@ -12,14 +12,16 @@
 
 The library is found by the environment's CVEC_LIBRARY, and else beside this module. With numpy, records are arrays; without
 it they are lists and memoryviews, of tuples and bytes for the two types with two fields. One of bytes16, bytes24, bytes32 or
-bytes64 is a `bytes` of that length, and in an array a V, as numpy has it. Threads may share a file: its calls take turns. A file
-says how wide its records are and not of which type: one of u64 is opened as i64 too."""
+bytes64 is a `bytes` of that length, and in an array a V, as numpy has it. A number that f32 or f64 would round is none of its
+records. The bits of a NaN are kept, but a number of Python has 64: as one, a NaN of f32 that signals may become quiet. Threads may
+share a file: its calls take turns. A file says how wide its records are and not of which type: one of u64 is opened as i64 too."""
 import builtins
 import ctypes
 import mmap
 import os
 import threading
-from ctypes import POINTER, byref, c_int, c_int64, c_size_t, c_uint8, c_uint16, c_uint32, c_uint64, c_void_p
+from ctypes import (POINTER, byref, c_double, c_float, c_int, c_int32, c_int64, c_size_t, c_uint8, c_uint16, c_uint32, c_uint64,
+                    c_void_p)
 from stat import S_ISREG
 
 from cvec_records import IN_C, IN_FILE, numpy
@@ -68,10 +70,11 @@ class _File(ctypes.Structure):
 
 
 class _Type:
-    """A record type: its number, a record as C has it, and its forms in C and in a file."""
+    """A record type: its number, a record as C has it, its forms in C and in a file, and the type whose functions it has in the
+    library: its own, or one with the same bytes."""
 
-    def __init__(self, number, name, record):
-        self.number, self.name, self.record = number, name, record
+    def __init__(self, number, name, record, library=None):
+        self.number, self.name, self.record, self.library = number, name, record, library or name
         self.in_c, self.in_file = IN_C[name], IN_FILE[name]
 
 
@@ -86,6 +89,11 @@ _TYPES = {it.name: it for it in [
     _Type(6, "bytes24", c_uint64 * 3),
     _Type(7, "bytes32", c_uint64 * 4),
     _Type(8, "bytes64", c_uint64 * 8),
+    _Type(9, "u8", c_uint8),
+    _Type(10, "u16", c_uint16),
+    _Type(11, "i32", c_int32, "u32"),
+    _Type(12, "f32", c_float, "u32"),
+    _Type(13, "f64", c_double, "u64"),
 ]}
 
 
@@ -100,9 +108,9 @@ def _library():
         "cvec_read": [POINTER(_File), c_uint64, c_void_p, c_size_t, POINTER(c_uint64), POINTER(Fault)],
         "cvec_frame_at": [c_void_p, c_size_t, c_uint64, c_uint8, c_uint16, POINTER(Frame)],
     }
-    for name in _TYPES:
-        answers["cvec_homes_" + name] = [c_void_p, c_size_t, POINTER(Home), c_size_t, POINTER(c_uint64), POINTER(Stat),
-                                         POINTER(Fault)]
+    for it in _TYPES.values():
+        answers["cvec_homes_" + it.library] = [c_void_p, c_size_t, POINTER(Home), c_size_t, POINTER(c_uint64), POINTER(Stat),
+                                               POINTER(Fault)]
     for name, words in answers.items():
         call = getattr(lib, name)
         call.argtypes, call.restype = words, c_uint32
@@ -255,8 +263,8 @@ def _begin(call, path, kind, *fault):
 
 
 def create(path, kind):
-    """Makes a file of version 1 and this record type: u32, u64, i64, pair, flagged, bytes16, bytes24, bytes32 or bytes64. One that
-    is there stays, and is refused."""
+    """Makes a file of version 1 and this record type: u8, u16, u32, u64, i32, i64, f32, f64, pair, flagged, bytes16, bytes24,
+    bytes32 or bytes64. One that is there stays, and is refused."""
     return _begin(_LIB.cvec_create, path, kind)
 
 
@@ -297,7 +305,7 @@ class Map:
             self._bytes = (c_uint8 * len(self._map)).from_buffer(self._map)
             self._end_at_last_gate(file.fileno())
         try:
-            self.homes = self._find_homes(getattr(_LIB, "cvec_homes_" + kind))
+            self.homes = self._find_homes(getattr(_LIB, "cvec_homes_" + self._kind.library))
         except Error:
             self.close()
             raise

@@ -8,7 +8,8 @@ docs/use/serve.md has the bytes. It isn't proved.
 
 A seat belongs to one thread or process at a time. With numpy, records are arrays; without it they are lists, of tuples for
 the two types with two fields. One of bytes16, bytes24, bytes32 or bytes64 is a `bytes` of that length, and in an array a V, as
-numpy has it. A file says how wide its records are and not of which type: one of u64 is served as i64 too."""
+numpy has it. A file says how wide its records are and not of which type: one of u64 is served as i64 too. A server is started
+for f32 as for u32, and for f64 as for u64: it keeps their bytes."""
 import errno
 import fcntl
 import os
@@ -25,6 +26,8 @@ REFUSALS = {
     1: "unknown kind", 2: "stray number", 3: "no record", 4: "too many records", 5: "bad record", 6: "no memory",
     7: "memory", 8: "closed", 9: "full", 10: "too long", 11: "strayed", 12: "ended", 13: "broken",
 }
+# The server's words for types that have others there.
+_WORDS = {"f32": "u32", "f64": "u64"}
 LIMIT = 2 ** 20 - 8
 SEAT_LIMIT = 64
 
@@ -203,7 +206,7 @@ class Server:
         IN_FILE[type]  # before a pipe is made
         if not 1 <= seats <= SEAT_LIMIT:
             raise ValueError(f"a server has 1 to {SEAT_LIMIT} seats, not {seats}")
-        words = [program, "serve", type, os.fspath(file), f"--seats={seats}"]
+        words = [program, "serve", _WORDS.get(type, type), os.fspath(file), f"--seats={seats}"]
         self._starter, self._waiting = os.getpid(), threading.RLock()
         ours, theirs = [], []
         try:

@@ -20,7 +20,7 @@ def _is_no_record(kind):
 
 
 def _are_bytes(records):
-    """Whether each entry is a byte, which is no number of its own. A view of numbers may be a piece of a map."""
+    """Whether each entry is a byte, which is no number but of u8. A view of numbers may be a piece of a map."""
     return isinstance(records, (bytes, bytearray)) or isinstance(records, memoryview) and records.itemsize == 1
 
 
@@ -36,9 +36,9 @@ class Form:
         self.dtype = numpy and numpy.dtype(dtype, align=align)
 
     def pack(self, records):
-        """The bytes of a row of whole numbers, of tuples for a type with two fields, or of `bytes` for one of bytes; or of an array
-        of numpy with one dimension. A flag is whatever is true or false. ValueError: not all of them are records of the type."""
-        if _are_bytes(records):
+        """The bytes of a row of numbers, of tuples for a type with two fields, or of `bytes` for one of bytes; or of an array of
+        numpy with one dimension. A flag is whatever is true or false. ValueError: not all of them are records of the type."""
+        if self.width > 1 and _are_bytes(records):
             raise ValueError("no records of the type: bytes")
         if has_mask(type(records)):
             raise ValueError("no records of the type: an array with a mask")
@@ -50,7 +50,7 @@ class Form:
             records = records.tolist()
         try:
             return b"".join(self._packed(records))
-        except (struct.error, TypeError, NotImplementedError) as fault:
+        except (struct.error, TypeError, NotImplementedError, OverflowError) as fault:
             raise ValueError(f"no records of the type: {fault}") from fault
 
     def _packed(self, records):
@@ -77,6 +77,31 @@ class Form:
         """The records of these bytes, one by one, and none of numpy's."""
         records = self.record.iter_unpack(data)
         return (it for it, in records) if self.is_number or self.is_bytes else records
+
+
+class FloatForm(Form):
+    """That of numbers with a fraction. What the type would round is no record of it, nor a NaN whose bits it would change."""
+
+    def _packed(self, records):
+        return map(self._exact, records)
+
+    def _exact(self, record):
+        """The bytes of the number. What is masked equals nothing, nor differs from anything."""
+        data = self.record.pack(record)
+        there, = self.record.unpack(data)
+        if there == record or record != record and _DOUBLE.pack(there) == _DOUBLE.pack(record):
+            return data
+        raise ValueError(f"no records of the type: {record!r} would be another number")
+
+    def _pack_array(self, array):
+        if array.dtype.kind in "biu":
+            # Python compares whole numbers with these as they are: numpy would round them first.
+            return b"".join(self._packed(array.tolist()))
+        with numpy.errstate(all="ignore"):
+            row = array.astype(self.dtype) if array.dtype.char in "efd" else None
+            if row is None or row.astype(array.dtype).tobytes() != array.tobytes():
+                raise ValueError(f"no records of the type: an array of {array.dtype}, or numbers that would be others")
+        return row.tobytes()
 
 
 class BytesForm(Form):
@@ -120,11 +145,19 @@ def _column(values, dtype):
     return values
 
 
+# The bits of a number of Python with a fraction.
+_DOUBLE = struct.Struct("<d")
+
 # The forms that the types have in a file.
 IN_FILE = {
+    "u8": Form("<B", "u1"),
+    "u16": Form("<H", "<u2"),
     "u32": Form("<I", "<u4"),
     "u64": Form("<Q", "<u8"),
+    "i32": Form("<i", "<i4"),
     "i64": Form("<q", "<i8"),
+    "f32": FloatForm("<f", "<f4"),
+    "f64": FloatForm("<d", "<f8"),
     "pair": Form("<Qq", [("key", "<u8"), ("value", "<i8")]),
     "flagged": Form("<Q?", [("key", "<u8"), ("flag", "?")]),
     **{f"bytes{width}": BytesForm(width) for width in (16, 24, 32, 64)},

@@ -10,9 +10,14 @@
 typedef uint32_t check_call(const uint8_t *image, size_t len, cvec_stat *stat, cvec_fault *fault);
 
 static check_call *check_of(const char *type) {
+    if (!strcmp(type, "u8")) return cvec_check_u8;
+    if (!strcmp(type, "u16")) return cvec_check_u16;
     if (!strcmp(type, "u32")) return cvec_check_u32;
     if (!strcmp(type, "u64")) return cvec_check_u64;
+    if (!strcmp(type, "i32")) return cvec_check_i32;
     if (!strcmp(type, "i64")) return cvec_check_i64;
+    if (!strcmp(type, "f32")) return cvec_check_f32;
+    if (!strcmp(type, "f64")) return cvec_check_f64;
     if (!strcmp(type, "pair")) return cvec_check_pair;
     if (!strcmp(type, "flagged")) return cvec_check_flagged;
     if (!strcmp(type, "bytes16")) return cvec_check_bytes16;

@@ -4,9 +4,9 @@
  * that they are passed. They call nothing of the system but malloc, realloc and free. The second part is cvec_file.c,
  * which makes the system's calls in the order that the first part asks for; it is not proved. docs/use/c.md tells both.
  *
- * A record type is u32, u64, i64, pair, flagged, bytes16, bytes24, bytes32 or bytes64. Functions that need one stand here once
- * for each. A file has the width of its records and not their type: one of u64 is read as i64 too, one of pair as bytes16, and
- * no function can tell (docs/file/format.md#records).
+ * A record type is u8, u16, u32, u64, i32, i64, f32, f64, pair, flagged, bytes16, bytes24, bytes32 or bytes64. Functions that
+ * need one stand here once for each. A file has the width of its records and not their type: one of u64 is read as i64 too, one
+ * of pair as bytes16, and no function can tell (docs/file/format.md#records).
  * A function that answers another number than CVEC_DONE changes nothing but *fault (and *count, at CVEC_NO_ROOM).
  *
  * Pointers of the first part are never NULL, also where the length is 0, are aligned as their type, and memory that is
@@ -158,6 +158,8 @@ typedef union cvec_bytes64 {
  * memory for all records, and gives it back. */
 #define CVEC_CHECK(TYPE) \
     uint32_t cvec_check_##TYPE(const uint8_t *image, size_t len, cvec_stat *stat, cvec_fault *fault);
+CVEC_CHECK(u8)
+CVEC_CHECK(u16)
 CVEC_CHECK(u32)
 CVEC_CHECK(u64)
 CVEC_CHECK(i64)
@@ -173,6 +175,8 @@ CVEC_CHECK(bytes64)
 #define CVEC_READ(TYPE, RECORD) \
     uint32_t cvec_read_##TYPE(const uint8_t *image, size_t len, uint64_t from, RECORD *out, size_t room, uint64_t *count, \
                               cvec_fault *fault);
+CVEC_READ(u8, uint8_t)
+CVEC_READ(u16, uint16_t)
 CVEC_READ(u32, uint32_t)
 CVEC_READ(u64, uint64_t)
 CVEC_READ(i64, int64_t)
@@ -193,6 +197,8 @@ CVEC_READ(bytes64, cvec_bytes64)
 #define CVEC_LOOK(TYPE, RECORD) \
     uint32_t cvec_look_##TYPE(const uint8_t *bytes, size_t len, uint64_t from, RECORD *out, size_t room, uint64_t *count, \
                               cvec_stat *stat, cvec_fault *fault);
+CVEC_LOOK(u8, uint8_t)
+CVEC_LOOK(u16, uint16_t)
 CVEC_LOOK(u32, uint32_t)
 CVEC_LOOK(u64, uint64_t)
 CVEC_LOOK(i64, int64_t)
@@ -210,6 +216,8 @@ CVEC_LOOK(bytes64, cvec_bytes64)
 #define CVEC_HOMES(TYPE) \
     uint32_t cvec_homes_##TYPE(const uint8_t *image, size_t len, cvec_home *out, size_t room, uint64_t *count, \
                                cvec_stat *stat, cvec_fault *fault);
+CVEC_HOMES(u8)
+CVEC_HOMES(u16)
 CVEC_HOMES(u32)
 CVEC_HOMES(u64)
 CVEC_HOMES(i64)
@@ -224,6 +232,8 @@ CVEC_HOMES(bytes64)
  * write all but the first byte behind a first byte that isn't 1, sync, write the first, sync: whatever a crash leaves is
  * then CVEC_UNBORN or the empty file. Refused: CVEC_VERSION, CVEC_NO_ROOM. */
 #define CVEC_EMPTY_FILE(TYPE) uint32_t cvec_empty_##TYPE(uint8_t version, uint8_t *out, size_t room, cvec_stat *stat);
+CVEC_EMPTY_FILE(u8)
+CVEC_EMPTY_FILE(u16)
 CVEC_EMPTY_FILE(u32)
 CVEC_EMPTY_FILE(u64)
 CVEC_EMPTY_FILE(i64)
@@ -243,6 +253,8 @@ CVEC_EMPTY_FILE(bytes64)
 #define CVEC_APPEND(TYPE, RECORD) \
     uint32_t cvec_append_##TYPE(const cvec_stat *stat, const RECORD *records, size_t count, uint8_t *out, size_t room, \
                                 cvec_stat *next);
+CVEC_APPEND(u8, uint8_t)
+CVEC_APPEND(u16, uint16_t)
 CVEC_APPEND(u32, uint32_t)
 CVEC_APPEND(u64, uint64_t)
 CVEC_APPEND(i64, int64_t)
@@ -258,6 +270,37 @@ CVEC_APPEND(bytes64, cvec_bytes64)
  * CVEC_FIRST_GATE. */
 uint32_t cvec_frame_at(const uint8_t *image, size_t len, uint64_t at, uint8_t version, uint16_t width, cvec_frame *frame);
 
+/* i32, f32 and f64 by the functions above for numbers with the same bytes: an int32_t has those of a uint32_t (two's
+ * complement), a float and a double have 4 and 8 (IEEE 754: binary32, binary64), in the order of a uint32_t and a uint64_t. No
+ * function looks at what they stand for: any bits are kept, also those of each NaN. The commands have no type for floats: they
+ * show a file of f32 as u32, and one of f64 as u64. */
+#define CVEC_SAME_BYTES(TYPE, RECORD, NUMBER, WORD) \
+    static inline uint32_t cvec_check_##TYPE(const uint8_t *image, size_t len, cvec_stat *stat, cvec_fault *fault) { \
+        return cvec_check_##NUMBER(image, len, stat, fault); \
+    } \
+    static inline uint32_t cvec_read_##TYPE(const uint8_t *image, size_t len, uint64_t from, RECORD *out, size_t room, \
+                                            uint64_t *count, cvec_fault *fault) { \
+        return cvec_read_##NUMBER(image, len, from, (WORD *)out, room, count, fault); \
+    } \
+    static inline uint32_t cvec_look_##TYPE(const uint8_t *bytes, size_t len, uint64_t from, RECORD *out, size_t room, \
+                                            uint64_t *count, cvec_stat *stat, cvec_fault *fault) { \
+        return cvec_look_##NUMBER(bytes, len, from, (WORD *)out, room, count, stat, fault); \
+    } \
+    static inline uint32_t cvec_homes_##TYPE(const uint8_t *image, size_t len, cvec_home *out, size_t room, uint64_t *count, \
+                                             cvec_stat *stat, cvec_fault *fault) { \
+        return cvec_homes_##NUMBER(image, len, out, room, count, stat, fault); \
+    } \
+    static inline uint32_t cvec_empty_##TYPE(uint8_t version, uint8_t *out, size_t room, cvec_stat *stat) { \
+        return cvec_empty_##NUMBER(version, out, room, stat); \
+    } \
+    static inline uint32_t cvec_append_##TYPE(const cvec_stat *stat, const RECORD *records, size_t count, uint8_t *out, \
+                                              size_t room, cvec_stat *next) { \
+        return cvec_append_##NUMBER(stat, (const WORD *)records, count, out, room, next); \
+    }
+CVEC_SAME_BYTES(i32, int32_t, u32, uint32_t)
+CVEC_SAME_BYTES(f32, float, u32, uint32_t)
+CVEC_SAME_BYTES(f64, double, u64, uint64_t)
+
 /* ---- cvec_file.c: the calls of the system, not proved */
 
 /* The type of a file's records. cvec_vector.h has those up to CVEC_FLAGGED. */
@@ -270,7 +313,12 @@ typedef enum cvec_type {
     CVEC_BYTES16,
     CVEC_BYTES24,
     CVEC_BYTES32,
-    CVEC_BYTES64
+    CVEC_BYTES64,
+    CVEC_U8,
+    CVEC_U16,
+    CVEC_I32,
+    CVEC_F32,
+    CVEC_F64
 } cvec_type;
 
 /* A file that is open for reading and appending, by one thread at a time, in the process that opened it: one that is forked

@@ -29,12 +29,20 @@ static size_t width_of(const char *type) {
     static const struct {
         const char *name;
         size_t width;
-    } types[] = {{"u32", 4},      {"u64", 8},      {"i64", 8},      {"pair", 16},    {"flagged", 9},
+    } types[] = {{"u8", 1},       {"u16", 2},      {"u32", 4},      {"u64", 8},      {"i32", 4},
+                 {"i64", 8},      {"f32", 4},      {"f64", 8},      {"pair", 16},    {"flagged", 9},
                  {"bytes16", 16}, {"bytes24", 24}, {"bytes32", 32}, {"bytes64", 64}};
     for (size_t k = 0; k < sizeof types / sizeof *types; k++)
         if (strcmp(types[k].name, type) == 0)
             return types[k].width;
     return 0;
+}
+
+/* The server's word for a type. It has none for floats, whose bytes are to it those of numbers. */
+static const char *word_of(const char *type) {
+    if (strcmp(type, "f32") == 0)
+        return "u32";
+    return strcmp(type, "f64") == 0 ? "u64" : type;
 }
 
 static void put(unsigned char *bytes, uint64_t number, int len) {
@@ -297,7 +305,8 @@ int cvec_server_start(struct cvec_server *server, const char *program, const cha
         return -1;
     }
     snprintf(seats, sizeof seats, "--seats=%d", count);
-    char *const words[] = {(char *)program, (char *)"serve", (char *)type, (char *)file, seats, NULL}; /* none is written */
+    /* None is written. */
+    char *const words[] = {(char *)program, (char *)"serve", (char *)word_of(type), (char *)file, seats, NULL};
     return start_server(server, words, type, count);
 }
 

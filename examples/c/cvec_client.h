@@ -16,7 +16,7 @@
  *
  * Records stand one behind the other with no gaps, each as in the file: little-endian, a pair in 16 bytes, its key first,
  * and a flagged in 9, its key and 0 or 1. So a cvec_flagged of cvec.h is no record here. One of bytes16, bytes24, bytes32 or
- * bytes64 is its bytes, of any alignment. */
+ * bytes64 is its bytes, of any alignment. A server is started for f32 as for u32, and for f64 as for u64: it keeps their bytes. */
 #ifndef CVEC_CLIENT_H
 #define CVEC_CLIENT_H
 

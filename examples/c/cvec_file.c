@@ -32,9 +32,14 @@ enum { LOCK_TURNS = 500, LOCK_WAIT = 20000000 };
 
 static uint32_t check(cvec_type type, const uint8_t *image, size_t len, cvec_stat *stat, cvec_fault *fault) {
     switch (type) {
+    case CVEC_U8: return cvec_check_u8(image, len, stat, fault);
+    case CVEC_U16: return cvec_check_u16(image, len, stat, fault);
     case CVEC_U32: return cvec_check_u32(image, len, stat, fault);
     case CVEC_U64: return cvec_check_u64(image, len, stat, fault);
+    case CVEC_I32: return cvec_check_i32(image, len, stat, fault);
     case CVEC_I64: return cvec_check_i64(image, len, stat, fault);
+    case CVEC_F32: return cvec_check_f32(image, len, stat, fault);
+    case CVEC_F64: return cvec_check_f64(image, len, stat, fault);
     case CVEC_PAIR: return cvec_check_pair(image, len, stat, fault);
     case CVEC_FLAGGED: return cvec_check_flagged(image, len, stat, fault);
     case CVEC_BYTES16: return cvec_check_bytes16(image, len, stat, fault);
@@ -47,9 +52,14 @@ static uint32_t check(cvec_type type, const uint8_t *image, size_t len, cvec_sta
 static uint32_t read_records(cvec_type type, const uint8_t *image, size_t len, uint64_t from, void *out, size_t room,
                              uint64_t *count, cvec_fault *fault) {
     switch (type) {
+    case CVEC_U8: return cvec_read_u8(image, len, from, out, room, count, fault);
+    case CVEC_U16: return cvec_read_u16(image, len, from, out, room, count, fault);
     case CVEC_U32: return cvec_read_u32(image, len, from, out, room, count, fault);
     case CVEC_U64: return cvec_read_u64(image, len, from, out, room, count, fault);
+    case CVEC_I32: return cvec_read_i32(image, len, from, out, room, count, fault);
     case CVEC_I64: return cvec_read_i64(image, len, from, out, room, count, fault);
+    case CVEC_F32: return cvec_read_f32(image, len, from, out, room, count, fault);
+    case CVEC_F64: return cvec_read_f64(image, len, from, out, room, count, fault);
     case CVEC_PAIR: return cvec_read_pair(image, len, from, out, room, count, fault);
     case CVEC_FLAGGED: return cvec_read_flagged(image, len, from, out, room, count, fault);
     case CVEC_BYTES16: return cvec_read_bytes16(image, len, from, out, room, count, fault);
@@ -62,9 +72,14 @@ static uint32_t read_records(cvec_type type, const uint8_t *image, size_t len, u
 static uint32_t look_at(cvec_type type, const uint8_t *bytes, size_t len, uint64_t from, void *out, size_t room,
                         uint64_t *count, cvec_stat *stat, cvec_fault *fault) {
     switch (type) {
+    case CVEC_U8: return cvec_look_u8(bytes, len, from, out, room, count, stat, fault);
+    case CVEC_U16: return cvec_look_u16(bytes, len, from, out, room, count, stat, fault);
     case CVEC_U32: return cvec_look_u32(bytes, len, from, out, room, count, stat, fault);
     case CVEC_U64: return cvec_look_u64(bytes, len, from, out, room, count, stat, fault);
+    case CVEC_I32: return cvec_look_i32(bytes, len, from, out, room, count, stat, fault);
     case CVEC_I64: return cvec_look_i64(bytes, len, from, out, room, count, stat, fault);
+    case CVEC_F32: return cvec_look_f32(bytes, len, from, out, room, count, stat, fault);
+    case CVEC_F64: return cvec_look_f64(bytes, len, from, out, room, count, stat, fault);
     case CVEC_PAIR: return cvec_look_pair(bytes, len, from, out, room, count, stat, fault);
     case CVEC_FLAGGED: return cvec_look_flagged(bytes, len, from, out, room, count, stat, fault);
     case CVEC_BYTES16: return cvec_look_bytes16(bytes, len, from, out, room, count, stat, fault);
@@ -76,9 +91,14 @@ static uint32_t look_at(cvec_type type, const uint8_t *bytes, size_t len, uint64
 
 static uint32_t empty_file(cvec_type type, uint8_t *out, size_t room, cvec_stat *stat) {
     switch (type) {
+    case CVEC_U8: return cvec_empty_u8(1, out, room, stat);
+    case CVEC_U16: return cvec_empty_u16(1, out, room, stat);
     case CVEC_U32: return cvec_empty_u32(1, out, room, stat);
     case CVEC_U64: return cvec_empty_u64(1, out, room, stat);
+    case CVEC_I32: return cvec_empty_i32(1, out, room, stat);
     case CVEC_I64: return cvec_empty_i64(1, out, room, stat);
+    case CVEC_F32: return cvec_empty_f32(1, out, room, stat);
+    case CVEC_F64: return cvec_empty_f64(1, out, room, stat);
     case CVEC_PAIR: return cvec_empty_pair(1, out, room, stat);
     case CVEC_FLAGGED: return cvec_empty_flagged(1, out, room, stat);
     case CVEC_BYTES16: return cvec_empty_bytes16(1, out, room, stat);
@@ -91,9 +111,14 @@ static uint32_t empty_file(cvec_type type, uint8_t *out, size_t room, cvec_stat 
 static uint32_t frame_of(cvec_type type, const cvec_stat *stat, const void *records, size_t count, uint8_t *out,
                          size_t room, cvec_stat *next) {
     switch (type) {
+    case CVEC_U8: return cvec_append_u8(stat, records, count, out, room, next);
+    case CVEC_U16: return cvec_append_u16(stat, records, count, out, room, next);
     case CVEC_U32: return cvec_append_u32(stat, records, count, out, room, next);
     case CVEC_U64: return cvec_append_u64(stat, records, count, out, room, next);
+    case CVEC_I32: return cvec_append_i32(stat, records, count, out, room, next);
     case CVEC_I64: return cvec_append_i64(stat, records, count, out, room, next);
+    case CVEC_F32: return cvec_append_f32(stat, records, count, out, room, next);
+    case CVEC_F64: return cvec_append_f64(stat, records, count, out, room, next);
     case CVEC_PAIR: return cvec_append_pair(stat, records, count, out, room, next);
     case CVEC_FLAGGED: return cvec_append_flagged(stat, records, count, out, room, next);
     case CVEC_BYTES16: return cvec_append_bytes16(stat, records, count, out, room, next);

@@ -6,9 +6,14 @@
 #include <string.h>
 
 union record {
+    uint8_t u8;
+    uint16_t u16;
     uint32_t u32;
     uint64_t u64;
+    int32_t i32;
     int64_t i64;
+    float f32;
+    double f64;
     cvec_pair pair;
     cvec_flagged flagged;
     cvec_bytes16 bytes16;
@@ -17,9 +22,14 @@ union record {
     cvec_bytes64 bytes64;
 };
 
+static const uint8_t two_u8[] = {1, UINT8_MAX};
+static const uint16_t two_u16[] = {258, UINT16_MAX};
 static const uint32_t two_u32[] = {1, UINT32_MAX};
 static const uint64_t two_u64[] = {1, UINT64_MAX};
+static const int32_t two_i32[] = {-2, INT32_MIN};
 static const int64_t two_i64[] = {-1, INT64_MIN};
+static const float two_f32[] = {1.5F, -0.0F};
+static const double two_f64[] = {-2.5, 0x1p-1074}; /* the least above 0 */
 static const cvec_pair two_pair[] = {{1, -1}, {UINT64_MAX, INT64_MAX}};
 static const cvec_flagged two_flagged[] = {{1, true}, {UINT64_MAX, false}};
 static const cvec_bytes16 two_bytes16[] = {{{1, 2}}, {{[14] = 254, 255}}};
@@ -32,9 +42,11 @@ static const struct {
     cvec_type type;
     const void *two;
 } types[] = {
-    {"u32", CVEC_U32, two_u32},             {"u64", CVEC_U64, two_u64},             {"i64", CVEC_I64, two_i64},
-    {"pair", CVEC_PAIR, two_pair},          {"flagged", CVEC_FLAGGED, two_flagged}, {"bytes16", CVEC_BYTES16, two_bytes16},
-    {"bytes24", CVEC_BYTES24, two_bytes24}, {"bytes32", CVEC_BYTES32, two_bytes32}, {"bytes64", CVEC_BYTES64, two_bytes64},
+    {"u8", CVEC_U8, two_u8},                {"u16", CVEC_U16, two_u16},             {"u32", CVEC_U32, two_u32},
+    {"u64", CVEC_U64, two_u64},             {"i32", CVEC_I32, two_i32},             {"i64", CVEC_I64, two_i64},
+    {"f32", CVEC_F32, two_f32},             {"f64", CVEC_F64, two_f64},             {"pair", CVEC_PAIR, two_pair},
+    {"flagged", CVEC_FLAGGED, two_flagged}, {"bytes16", CVEC_BYTES16, two_bytes16}, {"bytes24", CVEC_BYTES24, two_bytes24},
+    {"bytes32", CVEC_BYTES32, two_bytes32}, {"bytes64", CVEC_BYTES64, two_bytes64},
 };
 
 static void list_bytes(const uint8_t *bytes, size_t len) {
@@ -44,9 +56,14 @@ static void list_bytes(const uint8_t *bytes, size_t len) {
 
 static void list(cvec_type type, const void *records, uint64_t count) {
     for (uint64_t k = 0; k < count; k++) switch (type) {
+        case CVEC_U8: printf("%" PRIu8 "\n", ((const uint8_t *)records)[k]); break;
+        case CVEC_U16: printf("%" PRIu16 "\n", ((const uint16_t *)records)[k]); break;
         case CVEC_U32: printf("%" PRIu32 "\n", ((const uint32_t *)records)[k]); break;
         case CVEC_U64: printf("%" PRIu64 "\n", ((const uint64_t *)records)[k]); break;
+        case CVEC_I32: printf("%" PRId32 "\n", ((const int32_t *)records)[k]); break;
         case CVEC_I64: printf("%" PRId64 "\n", ((const int64_t *)records)[k]); break;
+        case CVEC_F32: printf("%.9g\n", (double)((const float *)records)[k]); break;
+        case CVEC_F64: printf("%.17g\n", ((const double *)records)[k]); break;
         case CVEC_PAIR: printf("%" PRIu64 ":%" PRId64 "\n", ((const cvec_pair *)records)[k].key, ((const cvec_pair *)records)[k].value); break;
         case CVEC_FLAGGED: printf("%" PRIu64 ":%d\n", ((const cvec_flagged *)records)[k].key, ((const cvec_flagged *)records)[k].flag); break;
         case CVEC_BYTES16: list_bytes(((const cvec_bytes16 *)records)[k].bytes, 16); break;

@@ -2,6 +2,7 @@
 is let go, and what is no file isn't mapped: faults.py FOLDER [plain]. With 'plain' it does so without numpy."""
 import array
 import copy
+import fractions
 import gc
 import multiprocessing
 import os
@@ -21,9 +22,15 @@ PATH = os.path.join(sys.argv[1], "faults.cv")
 THREADS, GROWTHS = 4, 25
 
 GOOD = {
+    "u8": [0, 255],
+    "u16": [0, 2 ** 16 - 1],
     "u32": [0, 2 ** 32 - 1],
     "u64": [0, 2 ** 63, 2 ** 64 - 1],
+    "i32": [-2 ** 31, 2 ** 31 - 1],
     "i64": [-2 ** 63, 2 ** 63 - 1],
+    # The least and the greatest of each.
+    "f32": [1.5, 2.0 ** -149, float("-inf"), (2 - 2.0 ** -23) * 2.0 ** 127],
+    "f64": [0.1, 2.0 ** -1074, float("inf"), sys.float_info.max],
     "pair": [(2 ** 64 - 1, -2 ** 63), (0, 2 ** 63 - 1)],
     "flagged": [(2 ** 64 - 1, True), (0, False)],
     # With zeros at the end, which a text would lose.
@@ -41,14 +48,26 @@ def no_bytes(width):
             [[0] * width], [0], [None], 1, "0" * width]
 
 
+def nan_of(payload):
+    """A number of 64 bits that is none, and quiet."""
+    return struct.unpack("<d", struct.pack("<Q", 0x7FF8 << 48 | payload))[0]
+
+
 # A byte is no number of its own, and two are no record with two fields.
 BYTES = [b"12345678", bytearray(8), memoryview(bytes(8)), memoryview(bytes(8)).cast("b"), b"", [b"1"], [bytearray(1)]]
 TWO_BYTES = [[b"12"], [(1, 2), b"12"], (b"12", (1, 2)), [bytearray(2)], [memoryview(bytes(2))], {b"12": 3}]
 
 BAD = {
+    # A row of bytes is one of u8.
+    "u8": [[-1], [256], [1.0], ["1"], [None], 1, [b"1"], [bytearray(1)], memoryview(b"\xff").cast("b"), memoryview(b"1").cast("c")],
+    "u16": [[-1], [2 ** 16], [1.0], *BYTES],
     "u32": [[-1], [2 ** 32], [1.0], ["1"], [[1, 2]], [None], 1, *BYTES],
     "u64": [[-1], [2 ** 64], [1.5], [1, 2 ** 64 + 1], [(1, 2)], memoryview(bytes(64)).cast("Q", (2, 4)), *BYTES],
+    "i32": [[2 ** 31], [-2 ** 31 - 1], [1.0], *BYTES],
     "i64": [[2 ** 63], [-2 ** 63 - 1], [1.0], *BYTES],
+    # Also what would be rounded: a number, and the bits of a NaN.
+    "f32": [[0.1], [2.0 ** -150], [2.0 ** 128], [2 ** 24 + 1], [1.5, 0.1], ["1"], [None], 1, [(1.0,)], [nan_of(2 ** 29 - 1)], *BYTES],
+    "f64": [[2 ** 53 + 1], [10 ** 400], [fractions.Fraction(1, 3)], ["1"], [None], 1.5, *BYTES],
     "pair": [[(1, 2 ** 63)], [(-1, 1)], [(1.0, 1)], [(1,)], [(1, 2, 3)], [1, 2], *BYTES, *TWO_BYTES],
     "flagged": [[(2 ** 64, True)], [(-1, True)], [True], *BYTES, *TWO_BYTES],
     **{f"bytes{width}": no_bytes(width) for width in (16, 24, 32, 64)},
@@ -97,6 +116,16 @@ def check_rows():
         with cvec.Map(PATH, "u32") as seen:
             file.append(list(seen.pieces())[0])
     assert listed("u32") == [5, 7, 11] * 2
+    for row in (b"\5\xff", bytearray(b"\5\xff"), memoryview(b"\5\xff")):
+        with made("u8") as file:
+            file.append(row)
+            with cvec.Map(PATH, "u8") as seen:
+                file.append(list(seen.pieces())[0])
+        assert listed("u8") == [5, 255] * 2
+    # Whole numbers too, where they aren't rounded.
+    with made("f64") as file:
+        file.append([2 ** 53, -3, True, fractions.Fraction(1, 4)])
+    assert listed("f64") == [2.0 ** 53, -3.0, 1.0, 0.25]
 
 
 def flags(numbers):
@@ -123,6 +152,13 @@ def check_arrays():
         assert listed(kind) == row * (1 if isinstance(row[0], tuple) else 2), kind
     with made("i64") as file:
         check_refused(file, [array([2 ** 63], dtype="u8"), array([1, 2 ** 63])])
+    for kind, rows in (("u8", [array([256]), array([-1]), array([1.0]), array([-1], dtype="i1")]),
+                       ("u16", [array([2 ** 16]), array([-1])]),
+                       ("i32", [array([2 ** 31]), array([-2 ** 31 - 1]), array([2 ** 31], dtype="u4")])):
+        with made(kind) as file:
+            check_refused(file, rows)
+            file.append(array(GOOD[kind]))
+        assert listed(kind) == GOOD[kind]
     with made("pair") as file:
         check_refused(file, [array([(1, 2)], dtype=[("value", "<i8"), ("key", "<u8")]), array([1, 2]), flags([1]),
                              array([(1, 2 ** 63)], dtype=[("key", "<u8"), ("value", "<u8")]), array([[1, 2], [3, 4]])])
@@ -136,6 +172,34 @@ def check_arrays():
     assert listed("flagged") == [(0, True), (0, False), (0, True)] * 2
 
 
+def check_arrays_of_floats():
+    """What would be rounded is refused; else numbers of any width and order are taken, and all bits are kept."""
+    array = numpy.array
+    nans = array([0x7FC12345, 0x7F800001, 0xFFFFFFFF], dtype="<u4").view("<f4")
+    with made("f32") as file:
+        check_refused(file, [array([0.1]), array([1.5, 2.0 ** 128]), array([2 ** 24 + 1]), array([1.5], dtype="g"), array([1j]),
+                             array(["1"]), array([[1.5]]), array([1], dtype="m8[s]"), array([nan_of(1)]),
+                             array([(1.5,)], dtype=[("key", "<f4")])])
+        assert len(file) == 0
+        file.append(nans)
+        file.append(nans.astype(">f4")[::2])
+        assert file.read().dtype == "<f4" and file.read().tobytes() == nans.tobytes() + nans[::2].tobytes()
+        with cvec.Map(PATH, "f32") as seen:
+            assert b"".join(piece.tobytes() for piece in seen.pieces()) == file.read().tobytes()
+    with made("f32") as file:
+        file.append(array([0.5, -0.0, nan_of(2 ** 29)], dtype=">f8"))
+        file.append(array([0.5], dtype="f2"))
+        file.append(array([2 ** 24, -1]))
+        file.append(array([True, False]))
+        bits = [0x3F000000, 0x80000000, 0x7FC00001, 0x3F000000, 0x4B800000, 0xBF800000, 0x3F800000, 0]
+        assert file.read().tobytes() == array(bits, dtype="<u4").tobytes()
+    with made("f64") as file:
+        check_refused(file, [array([2 ** 53 + 1]), array([2 ** 64 - 1], dtype="u8"), array([2 ** 63 - 1])])
+        file.append(array([0.1, 2.5]))
+        file.append(array([0.1], dtype="f4"))
+    assert listed("f64") == [0.1, 2.5, float(numpy.float32(0.1))]
+
+
 def check_masked_arrays():
     """What is masked may be anything, also what is no record; an array with a mask is refused where it masks nothing too."""
     of = numpy.ma.array
@@ -143,6 +207,7 @@ def check_masked_arrays():
     for kind, rows in (("u64", [of([1, -5, 3], mask=[0, 1, 0]), of([1, 2], dtype="u8"), of([1, 2], mask=[0, 1], dtype=object),
                                 [numpy.ma.masked]]),
                        ("u32", [of([1, 2 ** 40], mask=[0, 1])]), ("i64", [of([1, 2 ** 63], mask=[0, 1], dtype="u8")]),
+                       ("f64", [of([1.5, 0.1], mask=[0, 1]), of([1.5]), [1.5, numpy.ma.masked]]),
                        ("pair", [of(pairs, mask=[(0, 0), (0, 1)]), of(pairs), list(of(pairs, mask=[(0, 0), (0, 1)]))]),
                        ("bytes16", [of(seen, mask=[0, 1])]),
                        ("flagged", [of(flags([0, 1]), mask=[(0, 0), (0, 1)]), list(of(flags([0, 1]), mask=[(0, 0), (0, 1)]))])):
@@ -337,7 +402,7 @@ def check_maps():
     os.remove(PATH)
     for call in (cvec.create, cvec.open, cvec.Map):
         try:
-            call(PATH, "u16")
+            call(PATH, "i16")
         except KeyError:
             continue
         raise AssertionError("a type that there isn't")
@@ -494,6 +559,7 @@ def check_interrupts():
 check_rows()
 if numpy is not None:
     check_arrays()
+    check_arrays_of_floats()
     check_arrays_of_bytes()
     check_masked_arrays()
 check_reads()

@@ -13,10 +13,12 @@ def records_of(path, kind):
 
 
 def text_of(form, record):
-    """As the program lists it."""
+    """As the program lists it, and floats, which it has not, as Python does."""
     if form.is_bytes:
         return bytes(record).hex()
-    return str(int(record)) if form.is_number else ":".join(str(int(it)) for it in record)
+    if form.is_number:
+        return str(record if isinstance(record, (int, float)) else record.item())
+    return ":".join(str(int(it)) for it in record)
 
 
 def main(kind, path):

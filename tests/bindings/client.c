@@ -43,6 +43,15 @@ static uint64_t take(const unsigned char *bytes, size_t len) {
 /* Of a type of bytes how many these are, else 0. */
 static size_t bytes_of_type(void) { return strncmp(type, "bytes", 5) ? 0 : strtoul(type + 5, NULL, 10); }
 
+/* Of a type of numbers, as `u16`, the bytes of one; of another that of its key. */
+static size_t bytes_of_number(void) {
+    unsigned long bits = strtoul(type + 1, NULL, 10);
+    return bits > 0 ? bits / 8 : 8;
+}
+
+/* Numbers with a fraction stand in a table by their bits. */
+static int is_float(void) { return !strcmp(type, "f32") || !strcmp(type, "f64"); }
+
 /* The bytes of a word in hexadecimal, all of them: it is whole bytes. */
 static size_t put_hex(size_t at, const char *word) {
     for (; *word != '\0'; word += 2) {
@@ -68,8 +77,8 @@ static uint32_t take_records(void) {
             continue;
         }
         char *colon = strchr(word, ':');
-        uint64_t first = word[0] == '-' ? (uint64_t)strtoll(word, NULL, 10) : strtoull(word, NULL, 10);
-        at = put(at, first, strcmp(type, "u32") ? 8 : 4);
+        uint64_t first = word[0] == '-' ? (uint64_t)strtoll(word, NULL, 10) : strtoull(word, NULL, is_float() ? 16 : 10);
+        at = put(at, first, bytes_of_number());
         if (colon) at = put(at, (uint64_t)strtoll(colon + 1, NULL, 10), strcmp(type, "pair") ? 1 : 8);
     }
     return count;
@@ -77,12 +86,14 @@ static uint32_t take_records(void) {
 
 static size_t tell_record(const unsigned char *at) {
     if (bytes_of_type() > 0) return tell_hex(at, bytes_of_type());
-    uint64_t first = take(at, 8);
-    if (!strcmp(type, "u32")) return printf(" %" PRIu64, take(at, 4)), 4;
-    if (!strcmp(type, "i64")) return printf(" %" PRId64, (int64_t)first), 8;
+    size_t len = bytes_of_number();
+    uint64_t first = take(at, len);
+    if (!strcmp(type, "i32")) return printf(" %" PRId32, (int32_t)first), len;
+    if (!strcmp(type, "i64")) return printf(" %" PRId64, (int64_t)first), len;
+    if (is_float()) return printf(" %0*" PRIx64, (int)(2 * len), first), len;
     if (!strcmp(type, "pair")) return printf(" %" PRIu64 ":%" PRId64, first, (int64_t)take(at + 8, 8)), 16;
     if (!strcmp(type, "flagged")) return printf(" %" PRIu64 ":%u", first, at[8]), 9;
-    return printf(" %" PRIu64, first), 8;
+    return printf(" %" PRIu64, first), len;
 }
 
 /* ---- requests */

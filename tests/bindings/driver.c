@@ -15,9 +15,14 @@ enum { LONGEST = 1 << 20, MOST = (1 << 17) + 64, HANDLES = 26, HOMES = 4096 };
 static const unsigned char guard = 0xA5;
 
 union records {
+    uint8_t u8[MOST];
+    uint16_t u16[MOST];
     uint32_t u32[MOST];
     uint64_t u64[MOST];
+    int32_t i32[MOST];
     int64_t i64[MOST];
+    float f32[MOST];
+    double f64[MOST];
     cvec_pair pair[MOST];
     cvec_flagged flagged[MOST];
     cvec_bytes16 bytes16[MOST];
@@ -27,10 +32,12 @@ union records {
     unsigned char bytes[64 * MOST];
 };
 
-static const char *const names[] = {"u32", "u64", "i64", "pair", "flagged", "bytes16", "bytes24", "bytes32", "bytes64"};
-static const size_t in_file[] = {4, 8, 8, 16, 9, 16, 24, 32, 64};
+/* By the numbers of their types. */
+static const char *const names[] = {"u32",     "u64",     "i64", "pair", "flagged", "bytes16", "bytes24",
+                                    "bytes32", "bytes64", "u8",  "u16",  "i32",     "f32",     "f64"};
+static const size_t in_file[] = {4, 8, 8, 16, 9, 16, 24, 32, 64, 1, 2, 4, 4, 8};
 static const size_t in_c[] = {4, 8, 8, 16, sizeof(cvec_flagged), sizeof(cvec_bytes16), sizeof(cvec_bytes24),
-                              sizeof(cvec_bytes32), sizeof(cvec_bytes64)};
+                              sizeof(cvec_bytes32), sizeof(cvec_bytes64), 1, 2, 4, sizeof(float), sizeof(double)};
 
 static cvec_file files[HANDLES];
 static union records records;
@@ -90,12 +97,30 @@ static void tell_hex(const unsigned char *bytes, size_t len) {
     for (size_t at = 0; at < len; at++) printf("%02x", bytes[at]);
 }
 
+/* A float and a double stand in a table by their bits. */
+static float float_of(uint32_t bits) {
+    float number;
+    memcpy(&number, &bits, sizeof number);
+    return number;
+}
+
+static double double_of(uint64_t bits) {
+    double number;
+    memcpy(&number, &bits, sizeof number);
+    return number;
+}
+
 static void take_record(cvec_type type, size_t k, char *word) {
     char *colon = strchr(word, ':');
     switch (type) {
+    case CVEC_U8: records.u8[k] = (uint8_t)strtoull(word, NULL, 10); break;
+    case CVEC_U16: records.u16[k] = (uint16_t)strtoull(word, NULL, 10); break;
     case CVEC_U32: records.u32[k] = (uint32_t)strtoull(word, NULL, 10); break;
     case CVEC_U64: records.u64[k] = strtoull(word, NULL, 10); break;
+    case CVEC_I32: records.i32[k] = (int32_t)strtoll(word, NULL, 10); break;
     case CVEC_I64: records.i64[k] = strtoll(word, NULL, 10); break;
+    case CVEC_F32: records.f32[k] = float_of((uint32_t)strtoull(word, NULL, 16)); break;
+    case CVEC_F64: records.f64[k] = double_of(strtoull(word, NULL, 16)); break;
     case CVEC_PAIR: records.pair[k] = (cvec_pair){strtoull(word, NULL, 10), strtoll(colon + 1, NULL, 10)}; break;
     case CVEC_FLAGGED: records.flagged[k] = (cvec_flagged){strtoull(word, NULL, 10), colon[1] == '1'}; break;
     default: take_bytes(bytes_of_record(type, k), in_file[type], word); break;
@@ -104,9 +129,14 @@ static void take_record(cvec_type type, size_t k, char *word) {
 
 static void tell_record(cvec_type type, size_t k) {
     switch (type) {
+    case CVEC_U8: printf(" %" PRIu8, records.u8[k]); break;
+    case CVEC_U16: printf(" %" PRIu16, records.u16[k]); break;
     case CVEC_U32: printf(" %" PRIu32, records.u32[k]); break;
     case CVEC_U64: printf(" %" PRIu64, records.u64[k]); break;
+    case CVEC_I32: printf(" %" PRId32, records.i32[k]); break;
     case CVEC_I64: printf(" %" PRId64, records.i64[k]); break;
+    case CVEC_F32: printf(" %08" PRIx32, records.u32[k]); break;
+    case CVEC_F64: printf(" %016" PRIx64, records.u64[k]); break;
     case CVEC_PAIR: printf(" %" PRIu64 ":%" PRId64, records.pair[k].key, records.pair[k].value); break;
     case CVEC_FLAGGED: printf(" %" PRIu64 ":%d", records.flagged[k].key, records.flagged[k].flag); break;
     default: putchar(' '), tell_hex(bytes_of_record(type, k), in_file[type]); break;
@@ -187,9 +217,14 @@ static unsigned char *bytes_of(const char *path, size_t *len) {
 static uint32_t homes_of(cvec_type type, const unsigned char *image, size_t len, uint64_t *count, cvec_stat *stat,
                          cvec_fault *fault) {
     switch (type) {
+    case CVEC_U8: return cvec_homes_u8(image, len, homes, HOMES, count, stat, fault);
+    case CVEC_U16: return cvec_homes_u16(image, len, homes, HOMES, count, stat, fault);
     case CVEC_U32: return cvec_homes_u32(image, len, homes, HOMES, count, stat, fault);
     case CVEC_U64: return cvec_homes_u64(image, len, homes, HOMES, count, stat, fault);
+    case CVEC_I32: return cvec_homes_i32(image, len, homes, HOMES, count, stat, fault);
     case CVEC_I64: return cvec_homes_i64(image, len, homes, HOMES, count, stat, fault);
+    case CVEC_F32: return cvec_homes_f32(image, len, homes, HOMES, count, stat, fault);
+    case CVEC_F64: return cvec_homes_f64(image, len, homes, HOMES, count, stat, fault);
     case CVEC_PAIR: return cvec_homes_pair(image, len, homes, HOMES, count, stat, fault);
     case CVEC_FLAGGED: return cvec_homes_flagged(image, len, homes, HOMES, count, stat, fault);
     case CVEC_BYTES16: return cvec_homes_bytes16(image, len, homes, HOMES, count, stat, fault);

@@ -22,7 +22,18 @@ macro_rules! numbers {
         })*
     };
 }
-numbers! { u32 u64 i64 }
+numbers! { u8 u16 u32 u64 i32 i64 }
+
+/// A float stands in a table by its bits.
+macro_rules! floats {
+    ($($of:ty, $bits:ty;)*) => {
+        $(impl Word for $of {
+            fn of(word: &str) -> Self { <$of>::from_bits(<$bits>::from_str_radix(word, 16).unwrap()) }
+            fn text(&self) -> String { format!("{:0digits$x}", self.to_bits(), digits = 2 * size_of::<$of>()) }
+        })*
+    };
+}
+floats! { f32, u32; f64, u64; }
 
 impl Word for Pair {
     fn of(word: &str) -> Self {
@@ -120,9 +131,14 @@ fn calls_of<R: Word + 'static>() -> Calls {
 
 fn calls(kind: &str) -> Calls {
     match kind {
+        "u8" => calls_of::<u8>(),
+        "u16" => calls_of::<u16>(),
         "u32" => calls_of::<u32>(),
         "u64" => calls_of::<u64>(),
+        "i32" => calls_of::<i32>(),
         "i64" => calls_of::<i64>(),
+        "f32" => calls_of::<f32>(),
+        "f64" => calls_of::<f64>(),
         "pair" => calls_of::<Pair>(),
         "flagged" => calls_of::<Flagged>(),
         "bytes16" => calls_of::<Bytes<16>>(),

@@ -356,7 +356,7 @@ def records_of_each_type():
     has_records_of("i64", 8, [-2 ** 63, 2 ** 63 - 1], [-1, 7, 8], [2 ** 63, -2 ** 63 - 1])
     with Vector.open(PATH, type="u64") as vector:
         assert vector[0] == 2 ** 63
-    for name in ("u8", "bytes16", "bytes24", "bytes32", "bytes64", "", None):
+    for name in ("bytes16", "bytes24", "bytes32", "bytes64", "u8", "u16", "i32", "f32", "f64", "", None):
         has_no(ValueError, Vector.open, PATH, type=name)
     has_no(ValueError, Vector.open, PATH, dtype="i8", type="i64")
     if numpy is None:

@@ -1,7 +1,13 @@
 """Records as the tables have them."""
+import struct
+
+# A number with a fraction stands there by its bits.
+FLOATS = {"f32": struct.Struct(">f"), "f64": struct.Struct(">d")}
 
 
 def record_of(kind, word):
+    if kind in FLOATS:
+        return FLOATS[kind].unpack(bytes.fromhex(word))[0]
     if kind == "pair":
         return tuple(map(int, word.split(":")))
     if kind == "flagged":
@@ -11,6 +17,8 @@ def record_of(kind, word):
 
 
 def text_of(kind, record):
+    if kind in FLOATS:
+        return FLOATS[kind].pack(record).hex()
     if kind in ("pair", "flagged"):
         return f"{int(record[0])}:{int(record[1])}"
     return bytes(record).hex() if kind.startswith("bytes") else str(int(record))

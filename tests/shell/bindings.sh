@@ -140,6 +140,8 @@ answers_are_right_in_c() (
     answers_are_right c
     follows c bytes.txt
     follows c bytes_map.txt
+    follows c numbers.txt
+    follows c numbers_map.txt
     follows c often.txt
     follows c shared.txt
 )
@@ -193,12 +195,15 @@ answers_are_right_in_python() (
     follows python python.txt
     follows python bytes.txt
     follows python bytes_map.txt
+    follows python numbers.txt
+    follows python numbers_map.txt
 )
 
 answers_are_right_in_rust() (
     answers_are_right rust
     follows rust rust.txt
     follows rust bytes.txt
+    follows rust numbers.txt
 )
 
 records_are_found_where_they_stand() (

@@ -36,14 +36,27 @@ a_c_program_has_records_of_each_type() (
     has_c || exit $is_skipped
     make_c_library
     compile types "$work/cvec_file.o"
-    for type in u32 u64 i64 pair flagged bytes16 bytes24 bytes32 bytes64; do
+    for type in u8 u16 u32 u64 i32 i64 pair flagged bytes16 bytes24 bytes32 bytes64; do
         "$work/types" $type "$work/file.$type" >"$out"
         [ "$(wc -l <"$out")" -eq 2 ]
         is_shown_as_written $type "$work/file.$type"
     done
 )
 
-# The bytes of a record are in C in the order of the file; `check` knows these types too.
+# A type, the bytes of a record, what `types` lists of it, and the bytes of its two records; `check` knows the type too.
+has_two() {
+    payload=$((8 + 2 * $2))
+    head=0143564543534547$(printf '01%02x00' "$2")$(printf '0101%02x000000' $payload)0100000002000000
+    "$work/types" "$1" "$work/file.$1" >"$out"
+    printf '%b' "$3" | cmp - "$out"
+    [ "$(hex_of "$work/file.$1")" = "$head${4}00" ]
+    "$work/check" "$1" "$work/file.$1" >"$out"
+    [ "$(cat "$out")" = "version 1 width $2 size 2 frames 1 changes 0 folded 0 gate $((17 + payload))" ]
+    if "$work/check" flagged "$work/file.$1" >"$out"; then exit 1; fi
+    [ "$(cat "$out")" = "refused: width $2" ]
+}
+
+# The bytes of a record are in C in the order of the file.
 a_c_program_has_records_of_bytes() (
     has_c || exit $is_skipped
     make_c_library
@@ -51,16 +64,25 @@ a_c_program_has_records_of_bytes() (
     compile check "$work/cvec_file.o"
     for width in 16 24 32 64; do
         zeros=$(printf "%0$((2 * width - 4))d" 0)
-        payload=$((8 + 2 * width))
-        head=0143564543534547$(printf '01%02x00' $width)$(printf '0101%02x000000' $payload)0100000002000000
-        "$work/types" bytes$width "$work/file.$width" >"$out"
-        printf '0102%s\n%sfeff\n' "$zeros" "$zeros" | cmp - "$out"
-        [ "$(hex_of "$work/file.$width")" = "${head}0102$zeros${zeros}feff00" ]
-        "$work/check" bytes$width "$work/file.$width" >"$out"
-        [ "$(cat "$out")" = "version 1 width $width size 2 frames 1 changes 0 folded 0 gate $((17 + payload))" ]
-        if "$work/check" flagged "$work/file.$width" >"$out"; then exit 1; fi
-        [ "$(cat "$out")" = "refused: width $width" ]
+        has_two bytes$width $width "0102$zeros\n${zeros}feff\n" "0102$zeros${zeros}feff"
     done
+)
+
+# Of one byte, of two, and of 4 and 8, with a sign and with a fraction. The program has floats as the numbers of their bits.
+a_c_program_has_numbers_of_each_width() (
+    has_c || exit $is_skipped
+    make_c_library
+    compile types "$work/cvec_file.o"
+    compile check "$work/cvec_file.o"
+    has_two u8 1 '1\n255\n' 01ff
+    has_two u16 2 '258\n65535\n' 0201ffff
+    has_two i32 4 '-2\n-2147483648\n' feffffff00000080
+    has_two f32 4 '1.5\n-0\n' 0000c03f00000080
+    has_two f64 8 '-2.5\n4.9406564584124654e-324\n' 00000000000004c00100000000000000
+    run list u32 "$work/file.f32"
+    did '1069547520\n2147483648\n'
+    run list u64 "$work/file.f64"
+    did '13836183955189006336\n1\n'
 )
 
 # Each request for memory is refused in turn, until none is met: also that of the system for the path's real name.
@@ -219,5 +241,20 @@ a_c_program_reads_a_file_system_that_is_read_only() (
 the_header_is_cpp_too() (
     has c++ 'the header in C++' || exit $is_skipped
     printf '#include "cvec.h"\nint main() { return cvec_frame_at(nullptr, 0, 0, 1, 8, nullptr) ? 0 : 1; }\n' >"$work/use.cc"
+    c++ -Wall -Wextra -Werror "-I$c" -fsyntax-only "$work/use.cc"
+)
+
+# By what the header says. C++ takes no pointer to a record of another type.
+the_header_has_numbers_of_each_type() (
+    has c++ 'the header in C++' || exit $is_skipped
+    {
+        echo '#include "cvec.h"'
+        for of in 'u8 uint8_t' 'u16 uint16_t' 'i32 int32_t' 'f32 float' 'f64 double'; do
+            type=${of% *} record=${of#* }
+            echo "uint32_t (*read_$type)(const uint8_t *, size_t, uint64_t, $record *, size_t, uint64_t *, cvec_fault *) = cvec_read_$type;"
+            echo "uint32_t (*look_$type)(const uint8_t *, size_t, uint64_t, $record *, size_t, uint64_t *, cvec_stat *, cvec_fault *) = cvec_look_$type;"
+            echo "uint32_t (*append_$type)(const cvec_stat *, const $record *, size_t, uint8_t *, size_t, cvec_stat *) = cvec_append_$type;"
+        done
+    } >"$work/use.cc"
     c++ -Wall -Wextra -Werror "-I$c" -fsyntax-only "$work/use.cc"
 )

@@ -97,6 +97,25 @@ records_of_bytes_are_listed_in_hexadecimal() (
     printf '%s\n' $eight | cmp - "$out"
 )
 
+# A growth of two records.
+numbers_are_listed_in_decimal() (
+    has_c && has python3 'the library for Python' || exit $is_skipped
+    make_python_library
+    lists map u8 014356454353454701010001010a000000010000000200000000ff00
+    printf '0\n255\n' | cmp - "$out"
+    lists map u16 014356454353454701020001010c0000000100000002000000ffff020100
+    printf '65535\n258\n' | cmp - "$out"
+    lists map i32 0143564543534547010400010110000000010000000200000000000080feffffff00
+    printf '%d\n' -2147483648 -2 | cmp - "$out"
+    lists map f32 014356454353454701040001011000000001000000020000000000c03f0000008000
+    printf '1.5\n-0.0\n' | cmp - "$out"
+    tenth=014356454353454701080001011000000001000000010000009a9999999999b93f
+    lists map f64 "${tenth}00"
+    printf '0.1\n' | cmp - "$out"
+    lists copy f64 "${tenth}0102100000000000000000000000000000000000e03f00"
+    printf '0.5\n' | cmp - "$out"
+)
+
 # pip makes a wheel by this module, here with libraries that only seem such: the one of the folder that CVEC_LIB names, or the
 # repository's own.
 a_wheel_has_the_library_that_is_named_or_its_own() (

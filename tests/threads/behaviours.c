@@ -1549,7 +1549,7 @@ static void refuses_type(const char *path, cvec_type type) {
 static void typed(const char *path) {
     for (cvec_type type = CVEC_U32; type <= CVEC_FLAGGED; type++)
         for (uint8_t version = 1; version <= 2; version++) typed_of(path, type, version);
-    for (uint32_t type = CVEC_FLAGGED + 1; type <= CVEC_BYTES64 + 1; type++) refuses_type(path, (cvec_type)type);
+    for (uint32_t type = CVEC_FLAGGED + 1; type <= CVEC_F64 + 1; type++) refuses_type(path, (cvec_type)type);
 }
 
 /* A flag is 0 or 1: no call takes another byte for one, and nothing is grown or changed then. */

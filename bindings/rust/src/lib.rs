@@ -139,6 +139,8 @@ struct RawFile {
 type Check = unsafe extern "C" fn(*const u8, usize, *mut Stat, *mut Fault) -> u32;
 
 unsafe extern "C" {
+    fn cvec_check_u8(image: *const u8, len: usize, stat: *mut Stat, fault: *mut Fault) -> u32;
+    fn cvec_check_u16(image: *const u8, len: usize, stat: *mut Stat, fault: *mut Fault) -> u32;
     fn cvec_check_u32(image: *const u8, len: usize, stat: *mut Stat, fault: *mut Fault) -> u32;
     fn cvec_check_u64(image: *const u8, len: usize, stat: *mut Stat, fault: *mut Fault) -> u32;
     fn cvec_check_i64(image: *const u8, len: usize, stat: *mut Stat, fault: *mut Fault) -> u32;
@@ -167,7 +169,8 @@ mod sealed {
     }
 }
 
-/// A type of records that a file may have: u32, u64, i64, `Pair`, `Flagged`, and `Bytes` of 16, 24, 32 and 64.
+/// A type of records that a file may have: u8, u16, u32, u64, i32, i64, f32, f64, `Pair`, `Flagged`, and `Bytes` of 16, 24, 32
+/// and 64. The bits of a float are kept, also those of a NaN.
 pub trait Record: sealed::Kind + Copy + Default {}
 
 macro_rules! records {
@@ -192,6 +195,12 @@ records! {
     Bytes<24>, 6, cvec_check_bytes24;
     Bytes<32>, 7, cvec_check_bytes32;
     Bytes<64>, 8, cvec_check_bytes64;
+    u8, 9, cvec_check_u8;
+    u16, 10, cvec_check_u16;
+    // By those of numbers with the same bytes.
+    i32, 11, cvec_check_u32;
+    f32, 12, cvec_check_u32;
+    f64, 13, cvec_check_u64;
 }
 
 /// What the image holds, or its first fault.
