@@ -131,6 +131,21 @@ build_calls() {
     cc -std=gnu99 -Wall -Wextra -Werror -O1 -shared -fPIC "$top/tests/calls.c" -o "$work/calls.so" -ldl
 }
 
+# Ten seconds it is that this program waits for a reader that has a file, where each turn of its wait takes a tenth of a second
+# more, as on a busy machine. Of these there are 500.
+waits_for_readers_by_the_clock() {
+    build_calls
+    exec 9>>"$work/held.cv"
+    flock --shared 9
+    begun=$(date +%s%N)
+    status=0
+    CALLS_NAP=100000 LD_PRELOAD=$work/calls.so timeout 40 "$@" >"$out" 2>"$err" 9>&- || status=$?
+    waited=$((($(date +%s%N) - begun) / 1000000))
+    [ "$status" -eq 1 ]
+    [ "$waited" -ge 9500 ]
+    [ "$waited" -lt 30000 ]
+}
+
 # Runs the program with these words, behind what the library does (CALLS_LOG=FILE, CALLS_PART=N, CALLS_FAIL=CALL:N).
 run_with() {
     does=$1

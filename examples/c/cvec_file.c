@@ -25,8 +25,8 @@ static cvec_pair no_room[1];
 /* The bytes that a file takes for its frames at first, and for what is read of one whose length isn't known. */
 enum { FIRST_ROOM = 4096, FIRST_PIECE = 65536 };
 
-/* How often a lock is tried while readers share it: for 10 seconds, each 20 milliseconds. */
-enum { LOCK_TURNS = 500, LOCK_WAIT = 20000000 };
+/* How long a lock is tried while readers share it: for 10 seconds by the clock, and as many turns of 20 milliseconds at most. */
+enum { LOCK_SECONDS = 10, LOCK_TURNS = 500, LOCK_WAIT = 20000000 };
 
 /* ---- the record types */
 
@@ -240,21 +240,41 @@ static void close_unlocked(int fd) {
     errno = why;
 }
 
+/* A wait for readers: when it began, and how many turns it has had. Where processors are busy a turn takes longer. */
+typedef struct lock_wait {
+    struct timespec begun;
+    int turns;
+} lock_wait;
+
+static lock_wait begin_wait(void) {
+    lock_wait wait = {{0, 0}, 0};
+    clock_gettime(CLOCK_MONOTONIC, &wait.begun);
+    return wait;
+}
+
+static bool is_over(const lock_wait *wait) {
+    struct timespec now;
+    clock_gettime(CLOCK_MONOTONIC, &now);
+    time_t seconds = now.tv_sec - wait->begun.tv_sec - (now.tv_nsec < wait->begun.tv_nsec);
+    return wait->turns >= LOCK_TURNS || seconds >= LOCK_SECONDS;
+}
+
 /* The whole time of a turn, whichever signals come: a timer's would else cut all turns short. */
-static void wait_a_turn(void) {
+static void wait_a_turn(lock_wait *wait) {
     struct timespec left = {0, LOCK_WAIT};
     while (nanosleep(&left, &left) != 0 && errno == EINTR) {}
+    wait->turns++;
 }
 
 /* Commands that only read share the lock, and have it for moments: where it can be shared, it is tried again. */
-static uint32_t lock(int fd, int *turns) {
-    for (;; ++*turns) {
+static uint32_t lock(int fd, lock_wait *wait) {
+    for (;;) {
         uint32_t answer = lock_by(fd, LOCK_EX);
-        if (answer != CVEC_IN_USE || *turns >= LOCK_TURNS) return answer;
+        if (answer != CVEC_IN_USE || is_over(wait)) return answer;
         answer = lock_by(fd, LOCK_SH);
         if (answer == CVEC_DONE) answer = lock_by(fd, LOCK_UN);
         if (answer != CVEC_DONE) return answer;
-        wait_a_turn();
+        wait_a_turn(wait);
     }
 }
 
@@ -381,15 +401,16 @@ static uint32_t ask_name(const char *path, int fd, bool *leads_here) {
 /* Opens and locks the file to which the path leads then. While a lock is waited for another may be put in its place: what is
  * written to the one from before would be lost. Each such time takes a turn, as each try of a lock does. */
 static uint32_t open_locked(cvec_file *file, const char *path, cvec_type type, int flags) {
-    for (int turns = 0;; turns++) {
+    lock_wait wait = begin_wait();
+    for (;;) {
         bool leads_here = false;
         uint32_t answer = open_by(file, path, type, O_RDWR | flags);
-        if (answer == CVEC_DONE) answer = lock(file->fd, &turns);
+        if (answer == CVEC_DONE) answer = lock(file->fd, &wait);
         if (answer == CVEC_DONE) answer = ask_name(path, file->fd, &leads_here);
         if (answer != CVEC_DONE || leads_here) return answer;
-        if (turns >= LOCK_TURNS) return CVEC_IN_USE;
+        if (is_over(&wait)) return CVEC_IN_USE;
         close_unlocked(file->fd);
-        wait_a_turn();
+        wait_a_turn(&wait);
     }
 }
 

@@ -101,8 +101,8 @@ enum { LONGEST_GATHERING = 100000, LARGE_GROUP = 256 * 1024 };
  * bytes. */
 enum { PUSHED_AT_ONCE = 1024, LARGEST_GROWTH = (1 << 20) - 8 };
 
-/* How often a lock is tried while readers share it: for 10 seconds, each 20 milliseconds. */
-enum { LOCK_TURNS = 500, LOCK_WAIT = 20000000 };
+/* How long a lock is tried while readers share it: for 10 seconds by the clock, and as many turns of 20 milliseconds at most. */
+enum { LOCK_SECONDS = 10, LOCK_TURNS = 500, LOCK_WAIT = 20000000 };
 
 /* No deadline is further away, in milliseconds: 31 years. */
 static const uint64_t LONGEST_WAIT = 1000000000000;
@@ -290,21 +290,41 @@ static void close_unlocked(int fd) {
     errno = why;
 }
 
+/* A wait for readers: when it began, and how many turns it has had. Where processors are busy a turn takes longer. */
+typedef struct lock_wait {
+    struct timespec begun;
+    int turns;
+} lock_wait;
+
+static lock_wait begin_wait(void) {
+    lock_wait wait = {{0, 0}, 0};
+    clock_gettime(CLOCK_MONOTONIC, &wait.begun);
+    return wait;
+}
+
+static bool is_over(const lock_wait *wait) {
+    struct timespec now;
+    clock_gettime(CLOCK_MONOTONIC, &now);
+    time_t seconds = now.tv_sec - wait->begun.tv_sec - (now.tv_nsec < wait->begun.tv_nsec);
+    return wait->turns >= LOCK_TURNS || seconds >= LOCK_SECONDS;
+}
+
 /* The whole time of a turn, whichever signals come: a timer's would else cut all turns short. */
-static void wait_a_turn(void) {
+static void wait_a_turn(lock_wait *wait) {
     struct timespec left = {0, LOCK_WAIT};
     while (nanosleep(&left, &left) != 0 && errno == EINTR) {}
+    wait->turns++;
 }
 
 /* Commands that only read share the lock, and have it for moments: where it can be shared, it is tried again. */
-static uint32_t lock(int fd, int *turns) {
-    for (;; ++*turns) {
+static uint32_t lock(int fd, lock_wait *wait) {
+    for (;;) {
         uint32_t answer = lock_by(fd, LOCK_EX);
-        if (answer != CVEC_IN_USE || *turns >= LOCK_TURNS) return answer;
+        if (answer != CVEC_IN_USE || is_over(wait)) return answer;
         answer = lock_by(fd, LOCK_SH);
         if (answer == CVEC_DONE) answer = lock_by(fd, LOCK_UN);
         if (answer != CVEC_DONE) return answer;
-        wait_a_turn();
+        wait_a_turn(wait);
     }
 }
 
@@ -778,18 +798,19 @@ static uint32_t ask_name(const char *path, int fd, bool *leads_here) {
 /* Opens and locks the file to which the path leads then. While a lock is waited for another may be put in its place: what is
  * written to the one from before would be lost. Each such time takes a turn, as each try of a lock does. */
 static uint32_t open_locked(const char *path, int flags, int *fd) {
-    for (int turns = 0;; turns++) {
+    lock_wait wait = begin_wait();
+    for (;;) {
         bool leads_here = false;
         if (is_no_file(path)) return CVEC_NOT_FILE;
         *fd = open_path(path, O_RDWR | flags);
         if (*fd < 0) return CVEC_DISK_OPEN;
-        uint32_t answer = lock(*fd, &turns);
+        uint32_t answer = lock(*fd, &wait);
         if (answer == CVEC_DONE) answer = ask_name(path, *fd, &leads_here);
         if (answer != CVEC_DONE || leads_here) return answer;
-        if (turns >= LOCK_TURNS) return CVEC_IN_USE;
+        if (is_over(&wait)) return CVEC_IN_USE;
         close_unlocked(*fd);
         *fd = -1;
-        wait_a_turn();
+        wait_a_turn(&wait);
     }
 }
 

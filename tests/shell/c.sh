@@ -181,6 +181,14 @@ a_file_is_open_in_one_process() (
     tells 'create: in use'
 )
 
+a_wait_of_the_library_for_c_is_as_long_as_it_says() (
+    has_c && has_calls && has flock 'a file that a reader has' || exit $is_skipped
+    make_c_library
+    compile use "$work/cvec_file.o"
+    waits_for_readers_by_the_clock "$work/use" "$work/held.cv"
+    tells 'create: in use'
+)
+
 make_looks() {
     make_c_library
     cc -std=c99 -O2 -Wall -Wextra -Werror "-I$c" -o "$work/looks" "$top/tests/bindings/looks.c" "$work/cvec_file.o" \

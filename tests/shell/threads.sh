@@ -27,6 +27,14 @@ the_c_program_of_the_page_grows_and_reads() (
     did '5\n7\n11\n'
 )
 
+a_wait_of_the_library_for_threads_is_as_long_as_it_says() (
+    has_c && has_calls && has flock 'a file that a reader has' || exit $is_skipped
+    make_threads
+    waits_for_readers_by_the_clock "$built/use" "$work/held.cv" 1 1
+    # CVEC_IN_USE.
+    [ "$(cat "$out")" = 33 ]
+)
+
 # Eight threads, 3 records a growth, each awaited and read back; then opened again and grown further.
 threads_of_c_grow_one_vector() (
     make_threads
