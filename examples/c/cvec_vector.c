@@ -296,13 +296,13 @@ typedef struct lock_wait {
     int turns;
 } lock_wait;
 
-static lock_wait begin_wait(void) {
+static lock_wait begin_lock_wait(void) {
     lock_wait wait = {{0, 0}, 0};
     clock_gettime(CLOCK_MONOTONIC, &wait.begun);
     return wait;
 }
 
-static bool is_over(const lock_wait *wait) {
+static bool has_waited(const lock_wait *wait) {
     struct timespec now;
     clock_gettime(CLOCK_MONOTONIC, &now);
     time_t seconds = now.tv_sec - wait->begun.tv_sec - (now.tv_nsec < wait->begun.tv_nsec);
@@ -320,7 +320,7 @@ static void wait_a_turn(lock_wait *wait) {
 static uint32_t lock(int fd, lock_wait *wait) {
     for (;;) {
         uint32_t answer = lock_by(fd, LOCK_EX);
-        if (answer != CVEC_IN_USE || is_over(wait)) return answer;
+        if (answer != CVEC_IN_USE || has_waited(wait)) return answer;
         answer = lock_by(fd, LOCK_SH);
         if (answer == CVEC_DONE) answer = lock_by(fd, LOCK_UN);
         if (answer != CVEC_DONE) return answer;
@@ -798,7 +798,7 @@ static uint32_t ask_name(const char *path, int fd, bool *leads_here) {
 /* Opens and locks the file to which the path leads then. While a lock is waited for another may be put in its place: what is
  * written to the one from before would be lost. Each such time takes a turn, as each try of a lock does. */
 static uint32_t open_locked(const char *path, int flags, int *fd) {
-    lock_wait wait = begin_wait();
+    lock_wait wait = begin_lock_wait();
     for (;;) {
         bool leads_here = false;
         if (is_no_file(path)) return CVEC_NOT_FILE;
@@ -807,7 +807,7 @@ static uint32_t open_locked(const char *path, int flags, int *fd) {
         uint32_t answer = lock(*fd, &wait);
         if (answer == CVEC_DONE) answer = ask_name(path, *fd, &leads_here);
         if (answer != CVEC_DONE || leads_here) return answer;
-        if (is_over(&wait)) return CVEC_IN_USE;
+        if (has_waited(&wait)) return CVEC_IN_USE;
         close_unlocked(*fd);
         *fd = -1;
         wait_a_turn(&wait);
