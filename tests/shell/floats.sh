@@ -104,7 +104,7 @@ the_commands_work_on_floats() (
     has python3 'floats' || exit $is_skipped
     file=$work/f.cv
     run create u64 "$file"
-    given '0.1 -2 | 1e300\n0.5\n'
+    given '0.1 -2 1e300\n0.5\n'
     floats encode f64
     cp "$out" "$in"
     run load u64 "$file"
