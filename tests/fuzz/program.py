@@ -9,6 +9,8 @@ import time
 
 TOP = os.path.dirname(os.path.dirname(os.path.dirname(os.path.abspath(__file__))))
 PROGRAM = os.path.join(TOP, 'crates/cvec/out/cvec')
+# What runs scripts, as tests/scripts/run does.
+RUNNER = os.environ.get('PLAY_TESTS') or os.path.join(TOP, 'crates/play_tests/out/play_tests')
 
 
 def run(words, given=b'', program=PROGRAM, limit=60, **options):
@@ -19,6 +21,12 @@ def run(words, given=b'', program=PROGRAM, limit=60, **options):
     except subprocess.TimeoutExpired:
         return 'still running', b'', b''
     return done.returncode, done.stdout, done.stderr
+
+
+def build_runner():
+    """Builds what runs scripts, where it is older than its sources."""
+    if not os.environ.get('PLAY_TESTS') and subprocess.run([os.path.join(TOP, 'tools/current'), 'play_tests']).returncode:
+        subprocess.run([os.path.join(TOP, 'build'), 'play_tests'], stdin=subprocess.DEVNULL, stdout=2, check=True)
 
 
 # What usage has to name.

@@ -1,11 +1,12 @@
 """Tables of files: each byte, each cut, random frames, and numbers that ask for much memory."""
 
+import itertools
 import os
 import random
 import tempfile
 
 from outlines import stat_differs
-from program import PROGRAM, differs, run
+from program import PROGRAM, RUNNER, differs, run
 from random_files import random_frames
 from reader import TYPES, answers_of
 from writer import all_kinds, change, group, header, numbers
@@ -31,14 +32,49 @@ def judge_image(job):
     return told, ('%s\n%s\n' % (kind, image.hex())).encode()
 
 
-def each_byte():
-    """Files of both versions with all kinds of frame, each byte set to each value; on a file for some of them."""
+def list_of(image, kind):
+    """The records of an image, or why it has none, as scripts say it (docs/proof/scripts.md)."""
+    status, written = answers_of(image, kind)[0]
+    words = written.decode().split()
+    return ' '.join(words[1:] if status else words) or 'empty'
+
+
+def judge_opened(job):
+    """What is wrong with the lists to which images open. One process opens all of them by a script, since a run of the program
+    takes a hundred times as long."""
+    images, kind = job
+    lines = ['type %s -> ok' % kind]
+    for image in images:
+        lines += ['begin %s -> ok' % image.hex(), 'images -> ' + list_of(image, kind)]
+    script = ('\n'.join(lines) + '\n').encode()
+    status, written, _ = run([], script, program=RUNNER)
+    found = written.decode().splitlines()
+    wrong = next(((line, answer) for line, answer in itertools.zip_longest(lines, found) if line != answer), None)
+    if status == 0 and wrong is None:
+        return None, script
+    return 'a script: status %s, wanted and found %r' % (status, wrong), script
+
+
+def bytes_of(values):
+    """Files of both versions with all kinds of frame, of which a byte is set to these values: those of each place together, each
+    with whether its value is the first or the last one, or another by the lowest bit."""
     for version in (1, 2):
         image = all_kinds(version)
-        for place in range(len(image)):
-            for value in range(256):
-                altered = image[:place] + bytes([value]) + image[place + 1:]
-                yield altered, 'u64', value in (0, 1, 255, image[place] ^ 1)
+        for place, byte in enumerate(image):
+            yield [(image[:place] + bytes([it]) + image[place + 1:], it in (0, 1, 255, byte ^ 1)) for it in values(byte)]
+
+
+def each_byte():
+    """Each byte set to each value: to be opened."""
+    for altered in bytes_of(lambda byte: range(256)):
+        yield [image for image, _ in altered], 'u64'
+
+
+def each_bit():
+    """Each byte with another bit, or set to 0, 1 or 255: for the program, on a file too for some of them."""
+    for altered in bytes_of(lambda byte: sorted({0, 1, 255} | {byte ^ 1 << bit for bit in range(8)})):
+        for image, on_files in altered:
+            yield image, 'u64', on_files
 
 
 def each_cut():

@@ -89,11 +89,12 @@ nothing_that_nobody_wrote_is_answered_wrongly() (
 seeming_program() {
     there=$work/there
     rm -rf "$there"
-    mkdir -p "$there/tests" "$there/crates/cvec/out"
+    mkdir -p "$there/tests" "$there/crates/cvec/out" "$there/crates/play_tests/out"
     cp -r "$top/tests/fuzz" "$there/tests"
     printf '#!/bin/sh\n%s\nexec "%s" "$@"\n' "$1" "$program" >"$there/crates/cvec/out/cvec"
     chmod +x "$there/crates/cvec/out/cvec"
     cp "$there/crates/cvec/out/cvec" "$there/cvec"
+    ln -s "${PLAY_TESTS:-$top/crates/play_tests/out/play_tests}" "$there/crates/play_tests/out"
 }
 
 # What is wrong with its answers to one job of each kind.
@@ -103,13 +104,14 @@ from commands import judge_commands
 from follower import judge_script
 from random_jobs import judge_lines
 from serving import GROW, head, judge_served
-from tables import judge_image
+from tables import judge_image, judge_opened
 from writer import all_kinds, numbers
 
 commands = [("check", [], []), ("stat", [], []), ("list", [], []), ("count", ["--record=9"], []), ("find", ["--record=9"], []),
             ("upgrade", [], []), ("copy", ["--block=2"], []), ("set", ["1", "--records=4,5"], []),
             ("append", [], ["1 2", "3"]), ("fold", [], [])]
 jobs = [(judge_commands, ("u64", all_kinds(1), [it])) for it in commands]
+jobs += [(judge_opened, ([all_kinds(1), all_kinds(2)[:-1], b""], "u64"))]
 jobs += [(judge_image, (all_kinds(2)[:-1], "u64", False)), (judge_lines, ("u64", [[numbers(10)]])),
          (judge_script, ["create", "resize 2 5", "crash old", "open", "list"]),
          (judge_served, ("u64", all_kinds(1), [[(head(GROW, 1) + bytes(8), GROW, [bytes(8)])]]))]
@@ -147,6 +149,18 @@ copy~"$p" copy "$2" "$3" "$4" --block=3; exit~the new file of copy
 serve~"$p" "$@" | sed 's/served 1/served 0/'; exit~serve
 play~"$p" "$@" | sed 's/^size 2/size 1/'; exit~line
 ROWS
+    for does in "sed 's/^images -> .*/images -> 9/'" "sed 's/damaged at/damaged  at/'" "sed '\$d'" "sed 's/\$/ /'" 'cat; exit 1'; do
+        seeming_program ''
+        runner=$(readlink "$there/crates/play_tests/out/play_tests")
+        rm "$there/crates/play_tests/out/play_tests"
+        printf '#!/bin/sh\n"%s" | %s\n' "$runner" "$does" >"$there/crates/play_tests/out/play_tests"
+        chmod +x "$there/crates/play_tests/out/play_tests"
+        judged >"$out"
+        echo "$does"
+        cat "$out"
+        [ "$(grep -c . "$out")" -eq 1 ]
+        grep -q '^a script: ' "$out"
+    done
     seeming_program "if [ \"\${1-}\" = help ]; then '$program' help | grep -v '^serve'; exit 0; fi"
     status=0
     "$there/tests/fuzz/run" 1 7 >"$out" 2>"$err" || status=$?
