@@ -105,7 +105,7 @@ the_build_of_the_page_makes_both() (
     make_threads_library
     mkdir "$work/there"
     cd "$work/there"
-    cp -R "$top/bindings" "$top/examples" "$top/tools" "$top/Makefile" "$top/crates.txt" .
+    cp -Rp "$top/bindings" "$top/examples" "$top/tools" "$top/Makefile" "$top/crates.txt" .
     ln -s "$top/crates" .
     sed -n '/^## From Python/,$p' "$top/docs/use/threads.md" | sed -n '/^```sh$/,/^```$/p' | sed '/^```/d' >"$work/build.sh"
     unset CVEC_LIB
