@@ -85,7 +85,7 @@ a_line_comes_out_before_the_input_ends() (
     env -u PYTHONUNBUFFERED python3 "$top/examples/python/floats.py" decode f64 <"$work/pipe" >"$out" &
     exec 9>"$work/pipe"
     has_lines() {
-        for _ in $(seq 100); do
+        for _ in $(seq 600); do
             [ "$(wc -l <"$out")" -lt "$1" ] || return 0
             sleep 0.1
         done
