@@ -1,5 +1,6 @@
 #!/usr/bin/env python3
-"""floats.py encode|decode f32|f64: has the commands work on floats, which for them are records of u32 or u64.
+"""floats.py encode|decode f32|f64: has the commands work on floats, which for them are records of u32 or u64. An install has it
+as cvec-floats.
 
 encode writes each float of the input as the number that has its bits, decode each number as the shortest float that reads as it.
 Blanks, commas and bars between them stay, so lines of growths and lists stay what they are:
@@ -17,6 +18,7 @@ import re
 import struct
 import sys
 
+NAME = os.path.basename(sys.argv[0])
 WORD = re.compile(r"[^\s,|]+")
 # Python's own float takes blanks, underscores and digits of other scripts too.
 DECIMAL = re.compile(r"[+-]?([0-9]+\.?[0-9]*|\.[0-9]+)([eE][+-]?[0-9]+)?")
@@ -109,11 +111,11 @@ def cut(held, more):
 def main(words):
     calls = {"encode": encoded, "decode": decoded}
     if len(words) != 2 or words[0] not in calls or words[1] not in FORMS:
-        print("usage: floats.py encode|decode f32|f64", file=sys.stderr)
+        print(f"usage: {NAME} encode|decode f32|f64", file=sys.stderr)
         return 2
     fault = convert(calls[words[0]], FORMS[words[1]])
     if fault:
-        print(f"floats.py: {words[0]} {words[1]}: {fault}", file=sys.stderr)
+        print(f"{NAME}: {words[0]} {words[1]}: {fault}", file=sys.stderr)
     return 1 if fault else 0
 
 
