@@ -78,6 +78,25 @@ what_is_no_float_is_refused() (
     done
 )
 
+# Lines of one f64 each are turned together.
+lines_of_one_float_are_as_others() (
+    has python3 'floats' || exit $is_skipped
+    given '0.5\n1\n-2\n.1\n-0.0\n5e-324\n1.7976931348623157E+308\n'
+    floats encode f64
+    answers 0 '4602678819172646912\n4607182418800017408\n13835058055282163712\n4591870180066957722\n9223372036854775808\n1\n9218868437227405311\n'
+    cp "$out" "$in"
+    floats decode f64
+    answers 0 '0.5\n1.0\n-2.0\n0.1\n-0.0\n5e-324\n1.7976931348623157e+308\n'
+    for row in encode:1e400:4607182418800017408 encode:-1e400:4607182418800017408 decode:18446744073709551616:5e-324; do
+        word=${row#*:}
+        given "1\n${word%:*}\n2\n"
+        floats "${row%%:*}" f64
+        [ "$status" -eq 1 ]
+        tells 'line 2 has'
+        [ "$(cat "$out")" = "${row##*:}" ]
+    done
+)
+
 # So it stands in a pipe behind a command that waits for more.
 a_line_comes_out_before_the_input_ends() (
     has python3 'floats' || exit $is_skipped
