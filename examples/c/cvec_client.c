@@ -24,25 +24,24 @@ struct answer {
     uint64_t first, second;
 };
 
-/* The bytes of a record of this type, or 0. */
-static size_t width_of(const char *type) {
-    static const struct {
-        const char *name;
-        size_t width;
-    } types[] = {{"u8", 1},       {"u16", 2},      {"u32", 4},      {"u64", 8},      {"i32", 4},
-                 {"i64", 8},      {"f32", 4},      {"f64", 8},      {"pair", 16},    {"flagged", 9},
-                 {"bytes16", 16}, {"bytes24", 24}, {"bytes32", 32}, {"bytes64", 64}};
-    for (size_t k = 0; k < sizeof types / sizeof *types; k++)
-        if (strcmp(types[k].name, type) == 0)
-            return types[k].width;
-    return 0;
-}
+/* A type of records: its bytes, and the server's word for it. That has none for floats, whose bytes are to it those of numbers. */
+struct record_type {
+    const char *name, *word;
+    size_t width;
+};
 
-/* The server's word for a type. It has none for floats, whose bytes are to it those of numbers. */
-static const char *word_of(const char *type) {
-    if (strcmp(type, "f32") == 0)
-        return "u32";
-    return strcmp(type, "f64") == 0 ? "u64" : type;
+/* The type of this name, or NULL. */
+static const struct record_type *type_of(const char *name) {
+    static const struct record_type types[] = {
+        {"u8", "u8", 1},            {"u16", "u16", 2},          {"u32", "u32", 4},          {"u64", "u64", 8},
+        {"i32", "i32", 4},          {"i64", "i64", 8},          {"f32", "u32", 4},          {"f64", "u64", 8},
+        {"pair", "pair", 16},       {"flagged", "flagged", 9},  {"bytes16", "bytes16", 16}, {"bytes24", "bytes24", 24},
+        {"bytes32", "bytes32", 32}, {"bytes64", "bytes64", 64},
+    };
+    for (size_t k = 0; k < sizeof types / sizeof *types; k++)
+        if (strcmp(types[k].name, name) == 0)
+            return &types[k];
+    return NULL;
 }
 
 static void put(unsigned char *bytes, uint64_t number, int len) {
@@ -265,9 +264,10 @@ static void run(char *const words[], int pipes[][2], int count) {
 }
 
 int cvec_seat_of(struct cvec_seat *seat, const char *type, int requests, int answers) {
+    const struct record_type *found = type_of(type);
     seat->requests = requests;
     seat->answers = answers;
-    seat->width = width_of(type);
+    seat->width = found == NULL ? 0 : found->width;
     seat->over = 0;
     seat->untaken = 0;
     if (seat->width > 0)
@@ -300,13 +300,14 @@ static int start_server(struct cvec_server *server, char *const words[], const c
 
 int cvec_server_start(struct cvec_server *server, const char *program, const char *type, const char *file, int count) {
     char seats[32];
-    if (count < 1 || count > CVEC_SEAT_LIMIT || width_of(type) == 0) {
+    const struct record_type *found = type_of(type);
+    if (count < 1 || count > CVEC_SEAT_LIMIT || found == NULL) {
         errno = EINVAL;
         return -1;
     }
     snprintf(seats, sizeof seats, "--seats=%d", count);
     /* None is written. */
-    char *const words[] = {(char *)program, (char *)"serve", (char *)word_of(type), (char *)file, seats, NULL};
+    char *const words[] = {(char *)program, (char *)"serve", (char *)found->word, (char *)file, seats, NULL};
     return start_server(server, words, type, count);
 }
 

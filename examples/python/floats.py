@@ -15,11 +15,13 @@ word that is none ends it with status 1; the lines before it are written.
 import fractions
 import os
 import re
+import signal
 import struct
 import sys
 
 NAME = os.path.basename(sys.argv[0])
 WORD = re.compile(r"[^\s,|]+")
+LINE = re.compile(r"[^\n]*\n|[^\n]+")
 # Python's own float takes blanks, underscores and digits of other scripts too.
 DECIMAL = re.compile(r"[+-]?(?:[0-9]+\.?[0-9]*|\.[0-9]+)(?:[eE][+-]?[0-9]+)?")
 LINES_OF_DECIMALS = re.compile(rf"(?:{DECIMAL.pattern}\n)+")
@@ -98,7 +100,7 @@ def at_once(text, call):
 def one_by_one(text, call, form):
     """The lines, up to the first one that has a word which is none, and whether there is one."""
     made = []
-    for line in text.splitlines(keepends=True):
+    for line in LINE.findall(text):
         try:
             made.append(WORD.sub(lambda found: call(found[0], form), line))
         except (ValueError, OverflowError, struct.error):
@@ -113,9 +115,8 @@ def convert(call, form):
         read = os.read(0, 1 << 16)
         more, (lines, rest) = bool(read), cut(rest + read, bool(read))
         text = lines.decode(errors="replace")
-        made, has_none = form == FORMS["f64"] and at_once(text, call), False
-        if not made:
-            made, has_none = one_by_one(text, call, form)
+        made = at_once(text, call) if form == FORMS["f64"] else None
+        made, has_none = (made, False) if made is not None else one_by_one(text, call, form)
         sys.stdout.write(made)
         sys.stdout.flush()
         count += made.count("\n")
@@ -135,7 +136,13 @@ def main(words):
     if len(words) != 2 or words[0] not in calls or words[1] not in FORMS:
         print(f"usage: {NAME} encode|decode f32|f64", file=sys.stderr)
         return 2
-    fault = convert(calls[words[0]], FORMS[words[1]])
+    # As other filters it ends where nobody reads on, and by Ctrl-C.
+    for number in (signal.SIGPIPE, signal.SIGINT):
+        signal.signal(number, signal.SIG_DFL)
+    try:
+        fault = convert(calls[words[0]], FORMS[words[1]])
+    except OSError as error:
+        fault = error.strerror
     if fault:
         print(f"{NAME}: {words[0]} {words[1]}: {fault}", file=sys.stderr)
     return 1 if fault else 0

@@ -41,7 +41,7 @@ def list_of(image, kind):
 
 def judge_opened(job):
     """What is wrong with the lists to which images open. One process opens all of them by a script, since a run of the program
-    takes a hundred times as long."""
+    takes twenty times as long."""
     images, kind = job
     lines = ['type %s -> ok' % kind]
     for image in images:

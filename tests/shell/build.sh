@@ -8,7 +8,7 @@ seeming_repository() {
     there=$work/there
     mkdir -p "$there/crates/cvec/src" "$there/bin" "$there/tools"
     cp "$top/cvec" "$top/build" "$there"
-    cp "$top/tools/crates.py" "$top/tools/prove" "$there/tools"
+    cp "$top/tools/crates.py" "$top/tools/prove" "$top/tools/current" "$top/tools/below" "$there/tools"
     echo 'cvec: clap' >"$there/crates.txt"
     touch -d '1 hour ago' "$there/crates.txt" "$there/HANDLES" "$there/crates/cvec/src/main.rt"
     cat >"$there/bin/rt" <<'RT'
@@ -157,7 +157,7 @@ a_source_that_is_edited_in_a_build_is_built_again() (
 a_source_that_is_edited_in_a_build_without_python_is_built_again() (
     seeming_repository
     mkdir "$work/tools"
-    for tool in awk cat cp dirname find mkdir mktemp readlink rm sh sleep touch; do
+    for tool in awk cat cp dirname find mkdir mktemp readlink rm sed sh sleep touch; do
         ln -s "$(command -v $tool)" "$work/tools"
     done
     sed -i "2i [ \"\$1\" != run ] || { sleep 0.1 && touch src/main.rt && mkdir -p out && cp '$work/made' out/cvec; exit; }" "$there/bin/rt"

@@ -56,6 +56,7 @@ is_none() {
     floats "$1" "$2"
     [ "$status" -eq 1 ]
     [ "$(wc -l <"$out")" -eq 1 ]
+    head -n 1 "$out" | cmp - "$out"
     [ "$(cat "$err")" = "floats.py: $1 $2: line 2 has a word that is none" ]
 }
 
@@ -63,6 +64,8 @@ what_is_no_float_is_refused() (
     has python3 'floats' || exit $is_skipped
     for word in x 1_0 1,,x 0x1 . e5 1e 1e400 -1e400 ٣; do is_none encode f64 1 $word; done
     is_none encode f32 1 1e39
+    # A line ends by LF alone.
+    is_none encode f64 1 '1\fx'
     for word in x -1 +1 1.0 18446744073709551616 ٣; do is_none decode f64 1 $word; done
     is_none decode f32 1 4294967296
     # It is counted over many reads.
@@ -117,6 +120,35 @@ a_line_comes_out_before_the_input_ends() (
     exec 9>&-
     wait
     printf '0.5\n0.5\n' | cmp - "$out"
+)
+
+# By the signal of a pipe, or of Ctrl-C, without a word; where its output fails, in a line.
+a_filter_that_is_cut_off_says_no_more_than_a_line() (
+    has python3 'floats' || exit $is_skipped
+    seq 100000 >"$in"
+    status=0
+    python3 "$top/examples/python/floats.py" encode f64 <"$in" 2>"$err" | head -n 1 >"$out"
+    answers 0 '4607182418800017408\n'
+    status=0
+    python3 "$top/examples/python/floats.py" encode f64 <"$in" >/dev/full 2>"$err" || status=$?
+    [ "$status" -eq 1 ]
+    [ "$(cat "$err")" = 'floats.py: encode f64: No space left on device' ]
+    mkfifo "$work/pipe"
+    # What a shell begins behind it has no Ctrl-C of its own.
+    env --default-signal=INT python3 "$top/examples/python/floats.py" decode f64 <"$work/pipe" >"$out" 2>"$err" &
+    exec 9>"$work/pipe"
+    echo 1 >&9
+    for _ in $(seq 600); do
+        [ ! -s "$out" ] || break
+        sleep 0.1
+    done
+    kill -INT $!
+    sleep 0.5
+    exec 9>&-
+    status=0
+    wait $! || status=$?
+    [ "$status" -eq 130 ]
+    [ ! -s "$err" ]
 )
 
 the_commands_work_on_floats() (
