@@ -1,0 +1,4 @@
+pub mod Bits
+pub mod Decodes
+pub mod Encodes
+pub mod Worked
