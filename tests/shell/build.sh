@@ -604,7 +604,11 @@ image_and_show_are_built_first() (
     answers_by cvec_hex show u64
     [ ! -e "$there/crates/cvec/out/cvec" ]
     tells "proves and builds what 'image' and 'show' need"
-    answers_by cvec show --help
+    for words in 'image f32' 'show f64' 'show --help'; do
+        rm -f "$there/crates/cvec/out/cvec"
+        # shellcheck disable=SC2086 # each is a word
+        answers_by cvec $words
+    done
     echo 'echo the small one' >>"$there/crates/cvec_hex/out/cvec_hex"
     answers_by cvec image u64
     [ "$(grep -c 'the small one' "$out")" -eq 0 ]

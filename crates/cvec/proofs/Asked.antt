@@ -18,7 +18,7 @@ use Rattle.words_core.specs.declared.request.FileTask.TheVariants.{Create, Load,
 use Rattle.words_core.specs.declared.request.Following.{Following}
 use Rattle.words_core.specs.declared.request.Following.TheVariants.{Records, Events}
 use Rattle.words_core.specs.declared.request.RecordType.{RecordType}
-use Rattle.words_core.specs.declared.request.RecordType.TheVariants.{U8, U16, U32, U64, I32, I64, Pair, Flagged, Bytes16, Bytes24, Bytes32, Bytes64}
+use Rattle.words_core.specs.declared.request.RecordType.TheVariants.{U8, U16, U32, U64, I32, I64, F32, F64, Pair, Flagged, Bytes16, Bytes24, Bytes32, Bytes64}
 use Rattle.sentences.specs.declared.complaint.Complaint.{Complaint}
 use Rattle.text_core.specs.declared.status.Status.{Status}
 use Rattle.text_core.specs.declared.status.Status.TheVariants as statuses
@@ -127,6 +127,8 @@ no_usage_of_file U32 task input old new filed run = no_usage_of_task _ old new f
 no_usage_of_file U64 task input old new filed run = no_usage_of_task _ old new filed _ task input run
 no_usage_of_file I32 task input old new filed run = no_usage_of_task _ old new filed _ task input run
 no_usage_of_file I64 task input old new filed run = no_usage_of_task _ old new filed _ task input run
+no_usage_of_file F32 task input old new filed run = no_usage_of_task _ old new filed _ task input run
+no_usage_of_file F64 task input old new filed run = no_usage_of_task _ old new filed _ task input run
 no_usage_of_file Pair task input old new filed run = no_usage_of_task _ old new filed _ task input run
 no_usage_of_file Flagged task input old new filed run = no_usage_of_task _ old new filed _ task input run
 no_usage_of_file Bytes16 task input old new filed run = no_usage_of_task _ old new filed _ task input run

@@ -7,7 +7,7 @@ use Rattle.record_core.specs.Joined.{bytes16, bytes24, bytes32, bytes64}
 use Rattle.words_core.specs.declared.request.Task.{Task}
 use Rattle.words_core.specs.declared.request.Task.TheVariants.{Image, Show, Play}
 use Rattle.words_core.specs.declared.request.RecordType.{RecordType}
-use Rattle.words_core.specs.declared.request.RecordType.TheVariants.{U8, U16, U32, U64, I32, I64, Pair, Flagged, Bytes16, Bytes24, Bytes32, Bytes64}
+use Rattle.words_core.specs.declared.request.RecordType.TheVariants.{U8, U16, U32, U64, I32, I64, F32, F64, Pair, Flagged, Bytes16, Bytes24, Bytes32, Bytes64}
 use Rattle.words_core.specs.declared.request.Request.{Request}
 use Rattle.words_core.specs.declared.request.Request.TheVariants.{Input, File, Stat, Tell}
 use Rattle.words_core.specs.declared.request.FileTask.{FileTask}
@@ -34,7 +34,7 @@ IsTaskRun Image form spelling input old new status = IsImageRun form spelling in
 IsTaskRun Show form spelling input old new status = IsShowRun form spelling input old new status
 IsTaskRun Play form spelling input old new status = IsPlayRun form spelling input old new status
 
--- the same over records of one of the program's types
+-- the same over records of one of the program's types; floats are the numbers that have their bits
 abbrev pub IsProgramRun : Task → RecordType → List ℕ → Option (List ℕ) → Option (List ℕ) → Status → Type 0
 IsProgramRun task U8 = IsTaskRun task (unsigned w8) (number_spelling 8)
 IsProgramRun task U16 = IsTaskRun task (unsigned w16) (number_spelling 16)
@@ -42,6 +42,8 @@ IsProgramRun task U32 = IsTaskRun task (unsigned w32) (number_spelling 32)
 IsProgramRun task U64 = IsTaskRun task (unsigned w64) (number_spelling 64)
 IsProgramRun task I32 = IsTaskRun task (signed w32) (signed_spelling w32)
 IsProgramRun task I64 = IsTaskRun task (signed w64) (signed_spelling w64)
+IsProgramRun task F32 = IsTaskRun task (unsigned w32) (number_spelling 32)
+IsProgramRun task F64 = IsTaskRun task (unsigned w64) (number_spelling 64)
 IsProgramRun task Pair = IsTaskRun task pair pair_spelling
 IsProgramRun task Flagged = IsTaskRun task flagged flagged_spelling
 IsProgramRun task Bytes16 = IsTaskRun task bytes16 (hex_spelling bytes16)
@@ -57,6 +59,8 @@ IsTypedCommandRun U32 = IsCommandRun (unsigned w32) (number_spelling 32)
 IsTypedCommandRun U64 = IsCommandRun (unsigned w64) (number_spelling 64)
 IsTypedCommandRun I32 = IsCommandRun (signed w32) (signed_spelling w32)
 IsTypedCommandRun I64 = IsCommandRun (signed w64) (signed_spelling w64)
+IsTypedCommandRun F32 = IsCommandRun (unsigned w32) (number_spelling 32)
+IsTypedCommandRun F64 = IsCommandRun (unsigned w64) (number_spelling 64)
 IsTypedCommandRun Pair = IsCommandRun pair pair_spelling
 IsTypedCommandRun Flagged = IsCommandRun flagged flagged_spelling
 IsTypedCommandRun Bytes16 = IsCommandRun bytes16 (hex_spelling bytes16)

@@ -1,9 +1,12 @@
 //! `cvec`: a durable vector in a file, from a shell; and segment files as hex.
 #![tactic(auto)]
 
+mod floats;
 mod program;
 
-use crate::program::{Outcome, System, run};
+use crate::floats::{floats_read, floats_written, with_bits, words_in_bits};
+use crate::program::{Outcome, System, read_request, run};
+use float_core::FloatType;
 use sentences::Sentence;
 use std::alloc::Global;
 use std::env;
@@ -14,10 +17,10 @@ use std::process::ExitCode;
 use std::sync::Wait;
 use std::thread::Threads;
 use std::time::Clock;
-use streams::{Behind, Lenient, Meter, Noting, Paced};
+use streams::{Behind, Decoded, Meter, Noting, Paced, Turn, Turned};
 use text_core::{Refusal, Status, refuse};
 use words_core::{
-    FileTask, HELP, Look, Request, Usage, read_words, usage_of, write_usage, write_wrong,
+    FileTask, HELP, Look, Request, Usage, WordsFault, usage_of, write_usage, write_wrong,
 };
 
 const OUTPUT_BUFFER_LEN: usize = 65_536;
@@ -70,25 +73,40 @@ fn words_of(rt: &HostRuntime) -> io::Result<Vec<String>> {
     Ok(env::args(rt)?.skip(1).collect(rt.alloc())?)
 }
 
+/// What the words ask for, with the numbers for floats, whose words are left here.
+fn asked_in_bits<'a>(
+    alloc: Global,
+    words: &'a [String],
+    bits: &'a mut Vec<u8>,
+) -> Result<Request<'a>, WordsFault> {
+    let request = read_request(alloc, words)?;
+    *bits = words_in_bits(alloc, request)?;
+    Ok(with_bits(request, str::from_utf8(bits.as_slice()).unwrap_or("")))
+}
+
 /// Runs the words over standard input and output, and tells on standard error what neither of them has.
 fn run_words<E: Threads + Wait + Clock + Sync + Copy + Send + 'static>(
     rt: &HostRuntime,
     threads: &E,
     words: &[String],
 ) -> Status {
-    let manner = manner_of(rt.alloc(), words);
+    let mut bits = Vec::new(rt.alloc());
+    let asked = asked_in_bits(rt.alloc(), words, &mut bits);
+    let manner = manner_of(asked);
     let meter = Meter::new(rt, rt.stderr().is_terminal(), manner.progress);
     let shares_terminal = rt.stdout().is_terminal();
     let behind = Behind::new(io::writer(rt), shares_terminal.then_some(&meter));
     let Ok(buffer) = BufWriter::with_capacity(rt.alloc(), OUTPUT_BUFFER_LEN, behind) else {
         return refuse_memory(rt);
     };
-    let mut output = Noting::new(buffer);
+    let mut output = Noting::new(Decoded::new(buffer, manner.floats));
     let paced = Paced::new(threads, rt, manner.pause);
-    let Ok(mut input) = Lenient::new(rt.alloc(), paced, manner.lenient) else {
+    let Ok(mut input) = Turned::new(rt.alloc(), paced, manner.turn) else {
         return refuse_memory(rt);
     };
-    answer(rt, threads, words, &meter, &mut input, &mut output)
+    let ended = answer(rt, threads, asked, &meter, &mut input, &mut output);
+    tell_ended(rt, words, &ended, output.error());
+    ended.status
 }
 
 /// What of the words has to be known before they are run.
@@ -98,27 +116,37 @@ struct Manner {
     pause: Option<u64>,
     /// How far the work is is told in lines.
     progress: bool,
-    /// Lines are taken leniently.
-    lenient: bool,
+    /// How the input is taken.
+    turn: Turn,
+    /// The floats that the output has.
+    floats: Option<FloatType>,
 }
 
-/// The manner of words that don't tell of it.
+/// The manner of words that ask for nothing.
 const PLAIN: Manner = Manner {
     pause: None,
     progress: false,
-    lenient: false,
+    turn: Turn {
+        lenient: false,
+        floats: None,
+    },
+    floats: None,
 };
 
-fn manner_of(alloc: Global, words: &[String]) -> Manner {
-    // The words of no other command are read twice.
-    if !words
-        .first()
-        .is_some_and(|word| matches!(word.as_str(), "load" | "append" | "set"))
-    {
+fn manner_of(asked: Result<Request<'_>, WordsFault>) -> Manner {
+    let Ok(request) = asked else {
         return PLAIN;
-    }
-    let Ok(Request::File(words)) = read_words(alloc, words) else {
-        return PLAIN;
+    };
+    let manner = Manner {
+        turn: Turn {
+            lenient: false,
+            floats: floats_read(request),
+        },
+        floats: floats_written(request),
+        ..PLAIN
+    };
+    let Request::File(words) = request else {
+        return manner;
     };
     let pause = match words.task {
         FileTask::Append { every, .. } => Some(every),
@@ -127,28 +155,31 @@ fn manner_of(alloc: Global, words: &[String]) -> Manner {
     Manner {
         pause,
         progress: words.progress && !words.quiet,
-        lenient: words.lenient,
+        turn: Turn {
+            lenient: words.lenient,
+            ..manner.turn
+        },
+        ..manner
     }
 }
 
-/// Answers the words on this output.
-fn answer<I: Read, W: Write, E: Threads + Wait + Clock + Sync + Copy + Send + 'static>(
+/// Does on this output what was asked for.
+fn answer<'a, I: Read, W: Write, E: Threads + Wait + Clock + Sync + Copy + Send + 'static>(
     rt: &HostRuntime,
     threads: &E,
-    words: &[String],
+    asked: Result<Request<'a>, WordsFault>,
     meter: &Meter<'_>,
     input: &mut I,
-    output: &mut Noting<W>,
-) -> Status {
+    output: &mut W,
+) -> Outcome<'a> {
     let system = System {
         alloc: rt.alloc(),
         files: rt,
         progress: meter,
     };
-    let ended = run(&system, threads, words, input, output);
+    let ended = run(&system, threads, asked, input, output);
     meter.end();
-    tell_ended(rt, words, &ended, output.error());
-    ended.status
+    ended
 }
 
 /// Tells what standard error has to tell of an end.

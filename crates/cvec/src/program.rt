@@ -1,6 +1,6 @@
 //! The program: what its words ask for, done on its input and output, and on files.
 
-ghost use Rattle.std.specs.Prelude.{◌≡◌, ◌≢◌, [], ℕ, List, Option, IfSome, Some, None, Ok, ◌++◌, ◌⊎◌, codes};
+ghost use Rattle.std.specs.Prelude.{◌≡◌, ◌≢◌, [], ℕ, List, Option, MatchResult, IfSome, Some, None, Ok, ◌++◌, ◌⊎◌, codes};
 ghost use Rattle.std.specs.Io.KnownBytes.{Keeps, Appends};
 ghost use Rattle.text_core.specs.Refusals.{refused_line};
 ghost use Rattle.text_core.specs.Text.{ended_line};
@@ -73,8 +73,12 @@ fn run_task<I: Read, W: Write, E: Threads + Wait + Sync>(
     match record_type {
         RecordType::U8 => run_of::<u8, I, W, E>(alloc, rt, task, reader, writer),
         RecordType::U16 => run_of::<u16, I, W, E>(alloc, rt, task, reader, writer),
-        RecordType::U32 => run_of::<u32, I, W, E>(alloc, rt, task, reader, writer),
-        RecordType::U64 => run_of::<u64, I, W, E>(alloc, rt, task, reader, writer),
+        RecordType::U32 | RecordType::F32 => {
+            run_of::<u32, I, W, E>(alloc, rt, task, reader, writer)
+        }
+        RecordType::U64 | RecordType::F64 => {
+            run_of::<u64, I, W, E>(alloc, rt, task, reader, writer)
+        }
         RecordType::I32 => run_of::<i32, I, W, E>(alloc, rt, task, reader, writer),
         RecordType::I64 => run_of::<i64, I, W, E>(alloc, rt, task, reader, writer),
         RecordType::Pair => run_of::<Pair, I, W, E>(alloc, rt, task, reader, writer),
@@ -144,8 +148,12 @@ fn run_filing<
     match words.record_type {
         RecordType::U8 => filing.run::<u8, Dealt<u8>, I, W, E>(rt, task, reader, shown, writer),
         RecordType::U16 => filing.run::<u16, Dealt<u16>, I, W, E>(rt, task, reader, shown, writer),
-        RecordType::U32 => filing.run::<u32, Dealt<u32>, I, W, E>(rt, task, reader, shown, writer),
-        RecordType::U64 => filing.run::<u64, Dealt<u64>, I, W, E>(rt, task, reader, shown, writer),
+        RecordType::U32 | RecordType::F32 => {
+            filing.run::<u32, Dealt<u32>, I, W, E>(rt, task, reader, shown, writer)
+        }
+        RecordType::U64 | RecordType::F64 => {
+            filing.run::<u64, Dealt<u64>, I, W, E>(rt, task, reader, shown, writer)
+        }
         RecordType::I32 => filing.run::<i32, Dealt<i32>, I, W, E>(rt, task, reader, shown, writer),
         RecordType::I64 => filing.run::<i64, Dealt<i64>, I, W, E>(rt, task, reader, shown, writer),
         RecordType::Pair => filing.run::<Pair, Dealt<Pair>, I, W, E>(
@@ -232,8 +240,9 @@ pub struct Outcome<'a> {
     pub shown: Option<Excerpt>,
 }
 
-/// What the words ask for: with none, what `image u64` does.
-fn read_request<'a, S: AsStr>(alloc: Global, words: &'a [S]) -> Result<Request<'a>, WordsFault>
+/// What the words behind the program's name ask for: with none, what `image u64` does. Words that are not the program's, and those
+/// that ask for help, ask for nothing.
+pub fn read_request<'a, S: AsStr>(alloc: Global, words: &'a [S]) -> Result<Request<'a>, WordsFault>
     ensures no_words { words.now ≡ [] → result ≡ Ok (requests.Input Task.Image RecordType.U64) }
 {
     if words.is_empty() {
@@ -371,24 +380,27 @@ fn answer<
     }
 }
 
-/// Does what the words behind the program's name ask for, and with no words what `image u64` does. Words that
-/// are not the program's, and those that ask for help, are answered with `Usage`.
+/// Does what was asked for. Where it is nothing, the answer is `Usage`, or that memory was refused.
 pub fn run<
     'a,
-    S: AsStr,
     I: Read,
     W: Write,
     E: Threads + Wait + Sync,
     F: Files<File = File> + Clock + AllocGlobal,
     P: Progress + Sync,
->(system: &System<'_, F, P>, rt: &E, words: &'a [S], reader: &mut I, writer: &mut W) -> Outcome<'a>
-    ensures no_words { words.now ≡ [] → result.asked ≡ Some (requests.Input Task.Image RecordType.U64) }
+>(
+    system: &System<'_, F, P>,
+    rt: &E,
+    asked: Result<Request<'a>, WordsFault>,
+    reader: &mut I,
+    writer: &mut W,
+) -> Outcome<'a>
+    ensures asked { MatchResult asked.entry (λ request. result.asked ≡ Some request) (λ _. result.asked ≡ None) }
     ensures ends { IsAskedRun result.asked (I.remaining reader.old) (W.contents writer.old) (W.contents writer.new) result.status result.complaint }
     ensures usage { result.status ≡ Status.Usage → Keeps (W.contents writer.old) (W.contents writer.new) }
 {
-    let request = match read_request(system.alloc, words) {
-        Ok(request) => request,
-        Err(fault) => return answer_fault(fault, writer),
-    };
-    answer(system, rt, request, reader, writer)
+    match asked {
+        Ok(request) => answer(system, rt, request, reader, writer),
+        Err(fault) => answer_fault(fault, writer),
+    }
 }

@@ -85,10 +85,18 @@ fn flaw_by_type(word: &[u8], record_type: RecordType) -> Flaw {
         }
         RecordType::I32 | RecordType::I64 => flaw_of_number(word, true),
         RecordType::Pair | RecordType::Flagged => flaw_of_keyed(word, record_type),
-        RecordType::Bytes16 | RecordType::Bytes24 | RecordType::Bytes32 | RecordType::Bytes64 => {
-            Flaw::Form
-        }
+        RecordType::F32
+        | RecordType::F64
+        | RecordType::Bytes16
+        | RecordType::Bytes24
+        | RecordType::Bytes32
+        | RecordType::Bytes64 => Flaw::Form,
     }
+}
+
+/// Whether other bytes stood in the input for what is shown of a line: those of floats, which come as the numbers with their bits.
+fn is_turned(record_type: RecordType) -> bool {
+    matches!(record_type, RecordType::F32 | RecordType::F64)
 }
 
 /// What stands behind what is known of a word.
@@ -175,7 +183,10 @@ fn write_word_at<W: fmt::Write>(
     let flaw = flaw_of(word, behind, record_type);
     let words = flaw.words();
     write_quoted(f, word, matches!(behind, WordEnd::More))?;
-    write!(f, " at its byte {place} {words}")?;
+    if !is_turned(record_type) {
+        write!(f, " at its byte {place}")?;
+    }
+    write!(f, " {words}")?;
     match flaw {
         Flaw::Tab | Flaw::CarriageReturn => f.write_str(LENIENT),
         _ => Ok(()),
@@ -196,6 +207,10 @@ pub fn write_bad_word<W: fmt::Write>(
         ([], None) if place == 1 => f.write_str("it is empty"),
         ([], None) => {
             f.write_str("it ends with a blank too many")?;
+            f.write_str(LENIENT)
+        }
+        ([], Some(_)) if is_turned(record_type) => {
+            f.write_str("it has a blank too many")?;
             f.write_str(LENIENT)
         }
         ([], Some(_)) => {

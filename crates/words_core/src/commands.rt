@@ -4,9 +4,9 @@ use clap::{Arg, ArgAction, Command};
 use std::alloc::{AllocError, Global};
 
 /// The words for the types of record.
-const TYPES: [&str; 12] = [
-    "u8", "u16", "u32", "u64", "i32", "i64", "pair", "flagged", "bytes16", "bytes24", "bytes32",
-    "bytes64",
+const TYPES: [&str; 14] = [
+    "u8", "u16", "u32", "u64", "i32", "i64", "f32", "f64", "pair", "flagged", "bytes16", "bytes24",
+    "bytes32", "bytes64",
 ];
 
 /// The words for the versions of a file.

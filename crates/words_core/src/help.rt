@@ -27,8 +27,8 @@ copy TYPE FILE NEW [--format=1|2] [--block=N]  copies a vector to a new file, wi
 
 'cvec help COMMAND' tells of each, 'cvec version' of the program. --quiet: no progress on the terminal.
 --wait[=SECONDS]: where another command has FILE, its end is waited for, so long or for good.
-TYPE is u8, u16, u32, u64, i32, i64, pair (a u64 and an i64, as 7:-3), flagged (a u64 and 0 or 1, as 5:1),
-or bytes16, bytes24, bytes32, bytes64 (so many bytes, as hex digits in lower case).
+TYPE is u8, u16, u32, u64, i32, i64, f32, f64 (as 0.5 or 1e-9), pair (a u64 and an i64, as 7:-3),
+flagged (a u64 and 0 or 1, as 5:1), or bytes16, bytes24, bytes32, bytes64 (so many bytes, as hex digits in lower case).
 A growth has records with a space between each two, and a group line growths with ' | ' between each two.
 
 cvec create u64 t.cv

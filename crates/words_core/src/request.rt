@@ -19,7 +19,7 @@ pub enum Task {
     Play,
 }
 
-/// The types of record that the program knows.
+/// The types of record that the program knows. Those of floats have the bytes of `u32` and `u64`, and are these but for their texts.
 #[derive(Clone, Copy)]
 pub enum RecordType {
     U8,
@@ -28,6 +28,8 @@ pub enum RecordType {
     U64,
     I32,
     I64,
+    F32,
+    F64,
     Pair,
     Flagged,
     Bytes16,
@@ -48,6 +50,8 @@ impl RecordType {
             RecordType::U64 => "u64",
             RecordType::I32 => "i32",
             RecordType::I64 => "i64",
+            RecordType::F32 => "f32",
+            RecordType::F64 => "f64",
             RecordType::Pair => "pair",
             RecordType::Flagged => "flagged",
             RecordType::Bytes16 => "bytes16",
@@ -62,8 +66,8 @@ impl RecordType {
         match self {
             RecordType::U8 => width_of::<u8>(),
             RecordType::U16 => width_of::<u16>(),
-            RecordType::U32 => width_of::<u32>(),
-            RecordType::U64 => width_of::<u64>(),
+            RecordType::U32 | RecordType::F32 => width_of::<u32>(),
+            RecordType::U64 | RecordType::F64 => width_of::<u64>(),
             RecordType::I32 => width_of::<i32>(),
             RecordType::I64 => width_of::<i64>(),
             RecordType::Pair => width_of::<Pair>(),
@@ -144,6 +148,39 @@ pub enum FileTask<'a> {
     },
     /// So many clients grow the vector through pipes.
     Serve(u16),
+}
+
+impl<'a> FileTask<'a> {
+    /// The words of records that it has, as they were given.
+    pub fn records(self) -> Option<&'a str> {
+        match self {
+            FileTask::Count(record) | FileTask::Find(record) => Some(record),
+            FileTask::Set { records, .. } => records,
+            FileTask::Resize { record, .. } => Some(record),
+            _ => None,
+        }
+    }
+
+    /// The same task with these words of records, if it has some.
+    pub fn with_records(self, words: &'a str) -> FileTask<'a> {
+        match self {
+            FileTask::Count(_) => FileTask::Count(words),
+            FileTask::Find(_) => FileTask::Find(words),
+            FileTask::Set {
+                start,
+                records: Some(_),
+            } => FileTask::Set {
+                start,
+                records: Some(words),
+            },
+            FileTask::Resize { len, in_parts, .. } => FileTask::Resize {
+                len,
+                record: words,
+                in_parts,
+            },
+            task => task,
+        }
+    }
 }
 
 /// A command over a file.

@@ -95,6 +95,8 @@ fn record_type_of(word: &str) -> Option<RecordType>
         "u64" => Some(RecordType::U64),
         "i32" => Some(RecordType::I32),
         "i64" => Some(RecordType::I64),
+        "f32" => Some(RecordType::F32),
+        "f64" => Some(RecordType::F64),
         "pair" => Some(RecordType::Pair),
         "flagged" => Some(RecordType::Flagged),
         "bytes16" => Some(RecordType::Bytes16),

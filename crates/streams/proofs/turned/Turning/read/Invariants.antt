@@ -1,5 +1,5 @@
 use Rattle.std.proofs.Common.{◌≡◌, ◌≤◌, length}
-use Rattle.streams.proofs.leniently.Strict.read.Given as goal
+use Rattle.streams.proofs.turned.Turning.read.Given as goal
 
 -- what was filled lies within what is to be filled
 abbrev pub invariant-loop : goal.invariant-loop
