@@ -42,7 +42,7 @@ encoded_one r new bytes given t taken is plain turned float lines none = record 
   lines = lines;
 }
 
-pub encoded_part : (r new : Reading) (bytes : List ℕ) → IsPlain (r.held ++ bytes) → 4096 ≤ length (r.held ++ bytes) → new.float ≡ r.float → new.lines ≡ r.lines → new.place ≡ r.place → new.held ≡ []
+pub encoded_part : (r new : Reading) (bytes : List ℕ) → IsPlain (r.held ++ bytes) → 4096 < length (r.held ++ bytes) → new.float ≡ r.float → new.lines ≡ r.lines → new.place ≡ r.place → new.held ≡ []
     → IsEncoded r bytes (r.held ++ bytes) new
 encoded_part r new bytes plain long float lines place none =
     encoded_one r new bytes (r.held ++ bytes) (record { word = r.held ++ bytes; given = r.held ++ bytes; end = None }) (sym (append-nil _)) (sym (append-nil _)) plain (long, refl, place) float lines none

@@ -73,7 +73,7 @@ step_is_turned = record {
       Record,
       plain (codes "0") refl,
       (refl, (Record, inr (some _ _, refl, refl), refl)),
-      (Record, plain (codes "0.5") refl, (refl, (Record, inr (some _ _, inl (0x3fe0_0000_0000_0000, half, refl), inr (no_bar, refl)), refl)), refl),
+      (Record, plain (codes "0.5") refl, (refl, (Record, inr (some _ _, inl (0x3fe0_0000_0000_0000, (omega arith, half), refl), inr (no_bar, refl)), refl)), refl),
     ),
   );
   float = refl;

@@ -1,5 +1,5 @@
 -- Lines of floats as lines of the numbers that have their bits, word by word.
-use Rattle.std.specs.Prelude.{◌≡◌, ◌≢◌, ◌⊎◌, ℕ, ◌≤◌, List, [], ◌∷◌, ◌++◌, length, codes, decimal, Bool, cond, ◌==◌, ◌||◌, not, true, Option, Some, None}
+use Rattle.std.specs.Prelude.{◌≡◌, ◌≢◌, ◌⊎◌, ℕ, ◌≤◌, ◌<◌, List, [], ◌∷◌, ◌++◌, length, codes, decimal, Bool, cond, ◌==◌, ◌||◌, not, true, Option, Some, None}
 use Rattle.std.specs.List.{AllPass, flat_map}
 use Rattle.float_core.specs.declared.float.FloatType.{FloatType}
 use Rattle.float_core.specs.declared.encoding.FloatLines.{FloatLines}
@@ -31,10 +31,14 @@ IsBehind Steps Nowhere word next = next ≡ Nowhere
 
 -- ---- what is given for words
 
+-- the word is short enough, and the text of this float
+abbrev pub IsFloatWord : FloatType → List ℕ → ℕ → Type 0
+IsFloatWord float word bits = (length word ≤ 4096) × IsFloatText float word bits
+
 -- for a record that is a float the number that has its bits; all else stays
 abbrev pub IsGiven : FloatType → Place → List ℕ → List ℕ → Type 0
 IsGiven float Record word given =
-    ((bits : ℕ) × IsFloatText float word bits × (given ≡ decimal bits)) ⊎ (((bits : ℕ) → ¬ (IsFloatText float word bits)) × (given ≡ word))
+    ((bits : ℕ) × IsFloatWord float word bits × (given ≡ decimal bits)) ⊎ (((bits : ℕ) → ¬ (IsFloatWord float word bits)) × (given ≡ word))
 IsGiven float Verb word given = given ≡ word
 IsGiven float Number word given = given ≡ word
 IsGiven float Nowhere word given = given ≡ word
@@ -68,7 +72,7 @@ abbrev pub given_bytes : List Turned → List ℕ
 given_bytes turned = flat_map (λ t. t.given ++ end_bytes t.end) turned
 
 abbrev pub IsTurnedWith : FloatType → FloatLines → Place → List ℕ → List ℕ → Option ℕ → Place → Type 0
-IsTurnedWith float lines place word given None next = (4096 ≤ length word) × (given ≡ word) × (next ≡ place)
+IsTurnedWith float lines place word given None next = (4096 < length word) × (given ≡ word) × (next ≡ place)
 IsTurnedWith float lines place word given (Some b) next =
     (ends_word b ≡ true) × ((mid : Place) × IsWordGiven float lines place word given mid × (next ≡ cond (b == 10) (first_place lines) mid))
 

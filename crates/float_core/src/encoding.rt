@@ -1,8 +1,7 @@
 //! Lines of floats as lines of the numbers that have their bits.
 
 ghost use Rattle.std.specs.Prelude.{◌≡◌, ◌++◌, ◌∷◌, ◌<◌, ◌⊎◌, ℕ, List, [], true, length, take, slice_index, MatchOption, OnOk, decimal};
-ghost use Rattle.float_core.specs.Floats.{IsFloatText};
-ghost use Rattle.float_core.specs.Encoded.{first_place, ends_word, IsBehind, IsGiven, IsWordGiven, IsPlain, IsEncoded};
+ghost use Rattle.float_core.specs.Encoded.{first_place, ends_word, IsBehind, IsFloatWord, IsGiven, IsWordGiven, IsPlain, IsEncoded};
 
 use crate::float::FloatType;
 use std::alloc::{AllocError, Global};
@@ -10,7 +9,7 @@ use std::marker::Model;
 use std::mem;
 use text_core::BAR;
 
-/// The bytes that a word may have at most to be a float: any has a text of fewer, with all its digits.
+/// The bytes that a word may have at most to be a float: each has a text of fewer, with all its digits.
 const WORD_LIMIT: usize = 4096;
 
 /// Which words of the lines of an input are records.
@@ -34,9 +33,12 @@ pub enum Place {
 
 /// Appends the number that has the bits of the float that the word is. A word that is none stays: it is no number then.
 pub fn append_bits(float: FloatType, word: &[u8], out: &mut Vec<u8>) -> Result<(), AllocError>
-    ensures { OnOk result (((bits : ℕ) × IsFloatText float word.now bits × (out.new.items ≡ out.old.items ++ decimal bits))
-        ⊎ (((bits : ℕ) → ¬ (IsFloatText float word.now bits)) × (out.new.items ≡ out.old.items ++ word.now))) }
+    ensures { OnOk result (((bits : ℕ) × IsFloatWord float word.now bits × (out.new.items ≡ out.old.items ++ decimal bits))
+        ⊎ (((bits : ℕ) → ¬ (IsFloatWord float word.now bits)) × (out.new.items ≡ out.old.items ++ word.now))) }
 {
+    if word.len() > WORD_LIMIT {
+        return out.extend_from_slice(word);
+    }
     match float.bits_of_text(word) {
         Some(bits) => out.extend_from_slice(itoa::Buffer::new().format(bits).as_bytes()),
         None => out.extend_from_slice(word),
@@ -165,7 +167,7 @@ impl Encoder {
         requires { IsPlain bytes.now }
         ensures { OnOk result ((own : List ℕ) × (out.new.items ≡ out.old.items ++ own) × IsEncoded self.old bytes.now own self.new) }
     {
-        if self.held.len().saturating_add(bytes.len()) < WORD_LIMIT {
+        if self.held.len().saturating_add(bytes.len()) <= WORD_LIMIT {
             return self.held.extend_from_slice(bytes);
         }
         out.extend_from_slice(self.held.as_slice())?;
