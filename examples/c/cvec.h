@@ -272,8 +272,7 @@ uint32_t cvec_frame_at(const uint8_t *image, size_t len, uint64_t at, uint8_t ve
 
 /* i32, f32 and f64 by the functions above for numbers with the same bytes: an int32_t has those of a uint32_t (two's
  * complement), a float and a double have 4 and 8 (IEEE 754: binary32, binary64), in the order of a uint32_t and a uint64_t. No
- * function looks at what they stand for: any bits are kept, also those of each NaN. The commands have no type for floats: they
- * show a file of f32 as u32, and one of f64 as u64. */
+ * function looks at what they stand for: any bits are kept, also those of each NaN. */
 #define CVEC_SAME_BYTES(TYPE, RECORD, NUMBER, WORD) \
     static inline uint32_t cvec_check_##TYPE(const uint8_t *image, size_t len, cvec_stat *stat, cvec_fault *fault) { \
         return cvec_check_##NUMBER(image, len, stat, fault); \

@@ -24,7 +24,7 @@ struct answer {
     uint64_t first, second;
 };
 
-/* A type of records: its bytes, and the server's word for it. That has none for floats, whose bytes are to it those of numbers. */
+/* A type of records: its bytes, and the word that its server is started with. To a server floats are numbers, with their bytes. */
 struct record_type {
     const char *name, *word;
     size_t width;

@@ -13,7 +13,7 @@ def records_of(path, kind):
 
 
 def text_of(form, record):
-    """As the program lists it, and floats, which it has not, as Python does."""
+    """As the program lists it, but floats as Python does."""
     if form.is_bytes:
         return bytes(record).hex()
     if form.is_number:

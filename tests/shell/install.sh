@@ -29,20 +29,6 @@ the_installed_program_runs() (
     cmp "$program" "$prefix/libexec/cvec/cvec"
 )
 
-the_installed_filter_has_commands_work_on_floats() (
-    can_install && has python3 'floats' || exit $is_skipped
-    installs_once
-    cd /
-    "$prefix/bin/cvec" create u64 "$work/t.cv" >"$out"
-    printf '0.1\n-2\n' | env -i "PATH=$PATH" "$prefix/bin/cvec-floats" encode f64 | "$prefix/bin/cvec" append u64 "$work/t.cv" >"$out"
-    [ "$("$prefix/bin/cvec" list u64 "$work/t.cv")" = "$(printf '%s\n' 4591870180066957722 13835058055282163712)" ]
-    [ "$("$prefix/bin/cvec" list u64 "$work/t.cv" | "$prefix/bin/cvec-floats" decode f64)" = "$(printf '0.1\n-2.0\n')" ]
-    status=0
-    "$prefix/bin/cvec-floats" encode </dev/null 2>"$err" || status=$?
-    [ "$status" -eq 2 ]
-    tells 'usage: cvec-floats encode|decode f32|f64'
-)
-
 # The greatest size of a file stands for a full disk. What is written past it is refused, and the file is as before.
 the_installed_program_outlives_a_full_disk() (
     can_install || exit $is_skipped
