@@ -51,6 +51,8 @@ RECORDS = {
     "u16": (lambda pick: str(pick.choice([pick.randrange(2**8), pick.randrange(2**16)])), "{}"),
     "u32": (lambda pick: str(pick.randrange(2**32)), "{}"),
     "i32": (lambda pick: str(pick.choice([-2**31, 2**31 - 1, pick.randrange(-9, 9)])), "{}"),
+    "f32": (lambda pick: pick.choice(["-0.0", "inf", "NaN", "NaN:4294967295", "1e-45", f"{pick.randrange(10**6)}.5"]), "{}.0"),
+    "f64": (lambda pick: pick.choice(["0.0", "-inf", "NaN", "NaN:18446744073709551615", "-1e300", f"{pick.randrange(10**9)}.25"]), "{}.0"),
     "pair": (lambda pick: f"{pick.randrange(2**64)}:{pick.randrange(-2**63, 2**63)}", "{}:1"),
     "flagged": (lambda pick: f"{pick.randrange(2**64)}:{pick.randrange(2)}", "{}:1"),
 }

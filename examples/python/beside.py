@@ -17,8 +17,8 @@ import os
 import struct
 import sys
 
-TYPES = {"u8": "<B", "u16": "<H", "u32": "<I", "u64": "<Q", "i32": "<i", "i64": "<q", "pair": "<Qq", "flagged": "<QB",
-         "bytes16": "16s", "bytes24": "24s", "bytes32": "32s", "bytes64": "64s"}
+TYPES = {"u8": "<B", "u16": "<H", "u32": "<I", "u64": "<Q", "i32": "<i", "i64": "<q", "f32": "<f", "f64": "<d",
+         "pair": "<Qq", "flagged": "<QB", "bytes16": "16s", "bytes24": "24s", "bytes32": "32s", "bytes64": "64s"}
 HEADER_BYTES, HEAD_BYTES = 11, 6
 PAYLOAD_LIMITS = {1: 1 << 20, 2: 1 << 24}
 OPEN = 1
@@ -106,7 +106,7 @@ class Reader:
         return runs
 
     def texts(self):
-        """The records of the last look, as `cvec list` writes them."""
+        """The records of the last look, as `cvec list` writes them, but floats as Python does."""
         return (":".join(map(text_of, fields)) for fields in self.form.iter_unpack(self.records))
 
 

@@ -12,8 +12,9 @@ import sys
 
 STOPPED, USAGE, REFUSED = 1, 2, 3
 NUMBER, BYTES = r"\d+", "|".join(f"[0-9a-f]{{{2 * width}}}" for width in (16, 24, 32, 64))
-RECORD = rf"(?:-?\d+(?::-?\d+)?|{BYTES})"
-# No word but numbers, joined by colons, and bytes in hexadecimal: it can stand in a statement or a command as it is.
+FLOAT = r"-?\d+(?:[.]\d+)?(?:e-?\d+)?|-?inf|NaN(?::\d+)?"
+RECORD = rf"(?:-?\d+(?::-?\d+)?|{FLOAT}|{BYTES})"
+# No word but numbers, joined by colons, floats, and bytes in hexadecimal: it can stand in a statement or a command as it is.
 LINE = re.compile(rf"(?:[+] {RECORD}|= {NUMBER} {RECORD}|< {NUMBER}|[.] {NUMBER}(?::{NUMBER})*)\n", re.ASCII)
 
 

@@ -85,6 +85,21 @@ def random_line_of_numbers(rng):
     return kind, lines + [rng.choice(['%s', '%s 1', '1 %s', '1 | %s']) % wrong]
 
 
+def random_line_of_floats(rng):
+    """Lines of a type of floats, of which the last has a text that is nearly a record: a decimal that is too large, one with what
+    stands in no decimal, or the bits of what is no NaN."""
+    kind = rng.choice(['f32', 'f64'])
+    width, _, text = TYPES[kind]
+    infinite, large = {'f32': (0x7f800000, '3.5e38'), 'f64': (0x7ff << 52, '1.8e308')}[kind]
+    some = rng.choice(['5', '0.5', '1e9', '.5'])
+    no_nan = rng.choice([infinite, rng.randrange(infinite), 1 << 8 * width])
+    wrong = rng.choice([large, '1e%d' % rng.randrange(309, 1 << 40), 'NaN:%d' % no_nan, 'NaN:', 'NaN:nan', 'in', 'infinit', 'nann', '-',
+                        '.', 'e5', '0x1', *(form % some for form in ('--%s', '+-%s', '%s-', '%se', '%s:1', '%s,5', '%s_5', '%sf', '%s.5.',
+                                                                     '%se5.5', '%se5e5', 'x%s'))])
+    lines = [' '.join(map(text, random_cells(rng, kind, 3))) for _ in range(rng.randrange(3))]
+    return kind, lines + [rng.choice(['%s', '%s 1', '.5 %s', '1 | %s']) % wrong]
+
+
 def judge_wrong_line(job):
     """The last line, which is none of its type, is named."""
     kind, lines = job
@@ -113,8 +128,8 @@ def random_words(rng):
         words = [rng.choice(engines), rng.choice(kinds)] + words[:rng.randrange(2)]
     # Of one digit more or less than a record of bytes has, too, and in upper case.
     digits = bytes(rng.choice(b'0123456789abcdef') for _ in range(2 * rng.choice([16, 24, 32, 64]) + rng.choice([0, 0, 0, -1, 1])))
-    inputs = [b'', b'\n', b'5\n', b'256\n', b'-2147483649\n', b'5:1\n', b'1 2 | 3', b'-1\r\n', b'zz', b'0',
-              rng.randbytes(rng.randrange(9)), digits, digits + b'\n', digits + b' ' + digits + b'\n', digits.upper() + b'\n',
+    inputs = [b'', b'\n', b'5\n', b'256\n', b'-2147483649\n', b'5:1\n', b'.5\n', b'1e999\n', b'NaN:5\n', b'1 2 | 3', b'-1\r\n',
+              b'zz', b'0', rng.randbytes(rng.randrange(9)), digits, digits + b'\n', digits + b' ' + digits + b'\n', digits.upper() + b'\n',
               random_image(rng)[0].hex().encode(), '\n'.join(random_script(rng)[:5]).encode()]
     return words, rng.choice(inputs)
 
@@ -175,4 +190,5 @@ def random_jobs(seed):
         yield judge_lines, (kind, lines)
         yield judge_wrong_line, random_line_of_bytes(rng)
         yield judge_wrong_line, random_line_of_numbers(rng)
+        yield judge_wrong_line, random_line_of_floats(rng)
         yield judge_words, random_words(rng)

@@ -1,6 +1,7 @@
 """The reader of files: docs/file/format.md, read in its order. It shares nothing with the program."""
 
 import struct
+from fractions import Fraction
 
 
 # ---- record types: width, whether bytes are a record, and their text
@@ -17,6 +18,62 @@ def signed_text(cell):
     return str(int.from_bytes(cell, 'little', signed=True))
 
 
+def float_value(cell):
+    """The sign, the bits behind it, and the number that they are, as a ratio; of an infinity and a NaN there is none."""
+    digits, least = {4: (23, -149), 8: (52, -1074)}[len(cell)]
+    bits = int.from_bytes(cell, 'little')
+    top = 1 << 8 * len(cell) - 1
+    exponent, fraction = bits % top >> digits, bits % (1 << digits)
+    if exponent == (top >> digits) - 1:
+        return bits // top, bits % top, None
+    whole = fraction + ((1 << digits) if exponent else 0)
+    return bits // top, bits % top, whole * Fraction(2) ** (max(exponent, 1) - 1 + least)
+
+
+def shortest_digits(width, bits, number):
+    """The digits, as a number, and the power of ten behind them: of decimals that round to the float those with the fewest digits,
+    and of these the nearest."""
+    def of(other):
+        infinite = {4: 0x7f800000, 8: 0x7ff << 52}[width]
+        # Behind the greatest float the next power of two stands for the infinity.
+        return Fraction(2) ** {4: 128, 8: 1024}[width] if other == infinite else float_value(other.to_bytes(width, 'little'))[2]
+
+    low, high = (number + of(bits - 1)) / 2, (number + of(bits + 1)) / 2
+    is_in = (lambda it: low <= it <= high) if bits % 2 == 0 else (lambda it: low < it < high)
+    power = len(str(number.numerator)) - len(str(number.denominator)) + 1
+    while True:
+        scaled = number / Fraction(10) ** power
+        below = scaled.numerator // scaled.denominator
+        found = [it for it in (below, below + 1) if it and is_in(it * Fraction(10) ** power)]
+        if found:
+            return min(found, key=lambda it: (abs(it - scaled), it % 2)), power
+        power -= 1
+
+
+def float_text(cell):
+    """A point stands between digits where there are few zeros beside them, and else an exponent behind."""
+    sign, bits, number = float_value(cell)
+    front, few, zeros = '-' * sign, {4: 13, 8: 16}[len(cell)], {4: 6, 8: 5}[len(cell)]
+    if number is None:
+        quiet, infinite = {4: (0x7fc00000, 0x7f800000), 8: (0x7ff8 << 48, 0x7ff << 52)}[len(cell)]
+        if bits == infinite:
+            return front + 'inf'
+        return 'NaN' if (sign, bits) == (0, quiet) else 'NaN:%d' % int.from_bytes(cell, 'little')
+    if number == 0:
+        return front + '0.0'
+    digits, power = shortest_digits(len(cell), bits, number)
+    text = str(digits).rstrip('0')
+    power += len(str(digits)) - len(text)
+    before = len(text) + power
+    if power >= 0 and before <= few:
+        return '%s%s%s.0' % (front, text, '0' * power)
+    if 0 < before <= few:
+        return '%s%s.%s' % (front, text[:before], text[before:])
+    if -zeros < before <= 0:
+        return '%s0.%s%s' % (front, '0' * -before, text)
+    return '%s%s%se%d' % (front, text[0], '.' + text[1:] if len(text) > 1 else '', before - 1)
+
+
 def pair_text(cell):
     return '%d:%d' % struct.unpack('<Qq', cell)
 
@@ -28,6 +85,8 @@ TYPES = {
     'u64': (8, any_bytes, number_text),
     'i32': (4, any_bytes, signed_text),
     'i64': (8, any_bytes, signed_text),
+    'f32': (4, any_bytes, float_text),
+    'f64': (8, any_bytes, float_text),
     'pair': (16, any_bytes, pair_text),
     'flagged': (9, lambda cell: cell[8] < 2, lambda cell: '%d:%d' % struct.unpack('<QB', cell)),
     'bytes16': (16, any_bytes, bytes.hex),

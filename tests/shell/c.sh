@@ -68,7 +68,7 @@ a_c_program_has_records_of_bytes() (
     done
 )
 
-# Of one byte, of two, and of 4 and 8, with a sign and with a fraction. The program has floats as the numbers of their bits.
+# Of one byte, of two, and of 4 and 8, with a sign and with a fraction. The program has floats also as the numbers of their bits.
 a_c_program_has_numbers_of_each_width() (
     has_c || exit $is_skipped
     make_c_library
@@ -83,6 +83,10 @@ a_c_program_has_numbers_of_each_width() (
     did '1069547520\n2147483648\n'
     run list u64 "$work/file.f64"
     did '13836183955189006336\n1\n'
+    run list f32 "$work/file.f32"
+    did '1.5\n-0.0\n'
+    run list f64 "$work/file.f64"
+    did '-2.5\n5e-324\n'
 )
 
 # Each request for memory is refused in turn, until none is met: also that of the system for the path's real name.

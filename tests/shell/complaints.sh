@@ -224,6 +224,12 @@ what_is_wrong_with_a_line_is_told() (
     line_is_told_as u64 '\n5\n' 'it is empty'
     line_is_told_as u64 ' 5 6\n' '" 5 6" at its byte 1 begins with a blank too many, which --lenient takes'
     line_is_told_as u64 '5 6\r7 8\n' '"6\r7" at its byte 3 is no record'
+    line_is_told_as f32 '.5 1e39 x\n' '"1e39" is no record'
+    line_is_told_as f64 '0.5 1_0\n' '"1_0" is no record'
+    line_is_told_as f64 ' 5 6\n' 'it has a blank too many, which --lenient takes'
+    line_is_told_as f64 '5 6 \n' 'it ends with a blank too many, which --lenient takes'
+    line_is_told_as f64 '\n5\n' 'it is empty'
+    line_is_told_as f64 '0.5 1\r2 3\n' '"1\r2" is no record'
     line_is_told_as pair '1:1 2:+3\n' '"2:+3" at its byte 5 has a sign that no such number has'
     line_is_told_as pair '-1:5\n' '"-1:5" at its byte 1 has a sign that no such number has'
     line_is_told_as pair '1:2:3\n' '"1:2:3" at its byte 1 is no record'
@@ -239,6 +245,8 @@ a_line_is_shown_as_text() (
     a=1234567890
     line_is_told_as u64 "x$a$a$a$a 5\n" '"x123456789012345678901234567890123456789".. at its byte 1 is no record'
     line_is_told_as u64 "$a$a$a$a$a$a$a$a$a$a" '"1234567890123456789012345678901234567890".. at its byte 1 is no record'
+    line_is_told_as f64 "1 x$a$a$a$a 5\n" '"x123456789012345678901234567890123456789".. is no record'
+    line_is_told_as f64 '0.5 5\0001\n' '"5\x01" is no record'
     line_is_told_as u64 "  $a$a$a$a$a" '"  12345678901234567890123456789012345678".. at its byte 1 begins with a blank too many, which --lenient takes'
 )
 

@@ -21,6 +21,11 @@ a_copy_of_bytes_stays_exact() (
     stays_exact apply bytes24
 )
 
+a_copy_of_floats_stays_exact() (
+    has python3 'copies by follow' || exit "$is_skipped"
+    stays_exact apply f64
+)
+
 a_copy_in_sqlite_stays_exact() (
     has python3 'copies by follow' && has sqlite3 'a copy in SQLite' || exit "$is_skipped"
     stays_exact sqlite u64
@@ -106,6 +111,8 @@ what_is_no_line_of_a_step_is_refused() (
     keeps
     bytes=00112233445566778899aabbccddeeff
     for line in '+' '+ ' '+ x' '+ 5 6' '= 1' '= 0 5;drop' '= -1 5' '< ' '< -1' '. ' '. 1 2' '. --once' '+ 5\\r' ' + 5' 5 '' '+ ff' \
+        '+ .5' '+ 1.' '+ +1.5' '+ 1e' '+ 1e+5' '+ 1.5e1.5' '+ nan' '+ -NaN' '+ NaN:' '+ NaN:-1' '+ infinity' '+ inf:1' '+ 1.5:2' \
+        '+ 0.5;drop' '= 0.5 1' '= inf 1' '< 1.0' '. 1.5' '. NaN:1' \
         "+ ${bytes#0}" "+ a$bytes" "= 0 -$bytes" "= 0 $bytes:1" "+ $(echo $bytes | tr a-f A-F)" "+ $bytes$bytes$bytes" "< $bytes" ". $bytes"; do
         follows --after=1 "+ 6\\\\n$line\\\\n. 2\\\\n"
         keeps
@@ -147,6 +154,22 @@ numbers_are_integers_in_sqlite() (
     [ "$status" -eq 0 ]
     has_kept "$numbers" 1
     [ "$(sqlite3 "$work/t.db" 'select typeof(record) from vector order by position' | uniq -c | tr -s ' \n' ' ')" = ' 6 integer 1 text ' ]
+)
+
+# SQLite's own REAL has no NaN, and none of these texts.
+floats_are_text_in_sqlite() (
+    has python3 'copies by follow' && has sqlite3 'a copy in SQLite' || exit "$is_skipped"
+    floats='0.5 -0.0 1.0 1e300 -5e-324 1.7976931348623157e308 3.4028235e38 inf -inf NaN NaN:18446744073709551615'
+    # shellcheck disable=SC2086 # each word is one
+    follows '' "$(printf '+ %s\\\\n' $floats). 1\\\\n"
+    keeps
+    [ "$status" -eq 0 ]
+    has_kept "$floats" 1
+    follows --after=1 '= 0 NaN:9221120237041090561\\n= 2 1e16\\n. 2\\n'
+    keeps
+    [ "$status" -eq 0 ]
+    [ "$(sqlite3 "$work/t.db" 'select record from vector order by position limit 3' | paste -sd ' ')" = 'NaN:9221120237041090561 -0.0 1e16' ]
+    [ "$(sqlite3 "$work/t.db" 'select distinct typeof(record) from vector')" = text ]
 )
 
 # PostgreSQL takes 63 bytes of a name. That of the table with PLACE must be another.
@@ -191,11 +214,11 @@ a_copy_of_a_wrong_type_is_refused() (
     has python3 'copies by follow' || exit "$is_skipped"
     export CVEC="$program" PYTHONDONTWRITEBYTECODE=1
     leaves_a_file
-    for type in u65 u24 i8 f32 f64 U64 bytes bytes8 bytes24.0 ''; do
+    for type in u65 u24 i8 f16 F64 float U64 bytes bytes8 bytes24.0 ''; do
         status=0
         timeout 10 "$shipping/again" "$shipping/apply" "$type" "$work/copy.cv" "$work/follower" >"$out" 2>"$err" || status=$?
         [ "$status" -eq 2 ]
-        tells 'a TYPE is one of u8, u16, u32, u64, i32, i64, pair, flagged, bytes16, bytes24, bytes32, bytes64'
+        tells 'a TYPE is one of u8, u16, u32, u64, i32, i64, f32, f64, pair, flagged, bytes16, bytes24, bytes32, bytes64'
         [ -z "$(find "$work" -name 'copy.cv*' -o -name begun)" ]
     done
     "$shipping/apply" u64 "$work/copy.cv" "$work/follower"
@@ -221,6 +244,8 @@ u32 0 4294967295
 u64 0 18446744073709551615
 i32 -2147483648 2147483647
 i64 -9223372036854775808 9223372036854775807
+f32 -0.0 3.4028235e38
+f64 NaN:18446744073709551615 -inf
 pair 7:-3 8:0
 flagged 5:1 6:0
 bytes16 $(printf '%032d %032d' 5 6)
@@ -426,6 +451,8 @@ a_python_reader_has_each_type() (
     is_read_as u32 "${head}01040001010c0000000100000001000000fffffffe00" '4278190079\n'
     is_read_as u64 "${head}010800010110000000010000000100000000000000000000ff00" '18374686479671623680\n'
     is_read_as i64 "${head}010800010110000000010000000100000000000000000000ff00" '-72057594037927936\n'
+    is_read_as f32 "${head}0104000101140000000100000003000000""0000003f00000080cdcccc3d00" '0.5\n-0.0\n0.10000000149011612\n'
+    is_read_as f64 "${head}0108000101200000000100000003000000""0000000000000440000000000000f0ff9c7500883ce4377e00" '2.5\n-inf\n1e+300\n'
     is_read_as pair "${head}0110000101180000000100000001000000ffffffffffffffff010000000000000000" '18446744073709551615:1\n'
     is_read_as flagged "${head}01090001011a000000010000000200000005000000000000000105000000000000000000" '5:1\n5:0\n'
     is_read_as bytes16 "${head}0110000101280000000100000002000000$one${two}00" "$one\\n$two\\n"

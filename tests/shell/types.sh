@@ -8,6 +8,8 @@ signed_of_4_bytes=014356454353454701040001011c0000000200000002000000020000000000
 numbers_of_4_bytes=0143564543534547010400010110000000010000000200000000000000ffffffff00
 greatest_u64=01435645435345470108000101100000000100000001000000ffffffffffffffff00
 signed_numbers=014356454353454701080001012c0000000200000002000000020000000000000000000080ffffffffffffff7fffffffffffffffff000000000000000000
+floats_of_4_bytes=01435645435345470104000101180000000200000002000000010000000000003f000000800000c07f00
+floats_of_8_bytes=014356454353454701080001011800000001000000020000000100000000000000000000000000f0ff00
 
 two_pairs=01435645435345470110000101280000000100000002000000ffffffffffffffff00000000000000800000000000000000000000000000000000
 flagged_keys=014356454353454701090001011a000000010000000200000005000000000000000105000000000000000000
@@ -34,6 +36,8 @@ records_of_each_type_are_written_and_shown() (
     is_written_and_shown u32 '0 4294967295\n' $numbers_of_4_bytes '0\n4294967295\n'
     is_written_and_shown u64 '18446744073709551615\n' $greatest_u64 '18446744073709551615\n'
     is_written_and_shown i64 '-9223372036854775808 9223372036854775807 | -1 0\n' $signed_numbers '-9223372036854775808\n9223372036854775807\n-1\n0\n'
+    is_written_and_shown f32 '0.5 -0 | NaN\n' $floats_of_4_bytes '0.5\n-0.0\nNaN\n'
+    is_written_and_shown f64 '5e-324 -inf\n' $floats_of_8_bytes '5e-324\n-inf\n'
     is_written_and_shown pair '7:-3\n' $small_pair '7:-3\n'
     is_written_and_shown pair '18446744073709551615:-9223372036854775808 0:0' $two_pairs '18446744073709551615:-9223372036854775808\n0:0\n'
     is_written_and_shown flagged '5:1 5:0\n' $flagged_keys '5:1\n5:0\n'
@@ -84,6 +88,8 @@ the_text_of_no_record_is_refused() (
     are_no_records u32 4294967296 18446744073709551616 -1 01 +1 1:1 ''
     are_no_records u64 18446744073709551616 -1 00 +0 1:1 ''
     are_no_records i64 -9223372036854775809 9223372036854775808 -18446744073709551616 -0 +1 05 -05 - --1 -+1 1- ''
+    are_no_records f32 x 1e39 1_0 0x1 1,5 . e5 1e 1:1 NaN: NaN:5 ''
+    are_no_records f64 x 1e309 1_0 0x1 1,5 . e5 1e 1:1 NaN: NaN:5 ''
     are_no_records pair 7 7: :3 : 7:3:1 7::3 7:+3 07:3 7:-0 -7:3 18446744073709551616:0 0:9223372036854775808 ''
     are_no_records flagged 5:2 5 5: :1 5:01 5:true 5:-1 5:1:1 05:1 18446744073709551616:0 ''
     # Upper case, a digit too few or too many, a byte too few or too many, a sign and a letter that are no digits.
@@ -100,6 +106,8 @@ a_line_of_another_type_is_named() (
     becomes 'image u32' '0\n4294967296\n' 1 'refused: line 2\n'
     becomes 'image u64' '4294967296\n-1\n' 1 'refused: line 2\n'
     becomes 'image i64' '-1\n1:1\n' 1 'refused: line 2\n'
+    becomes 'image f32' '0.5 1e38 | -inf\n1e39\n' 1 'refused: line 2\n'
+    becomes 'image f64' '0.5 1e39\n1:1\n' 1 'refused: line 2\n'
     becomes 'image pair' '1:2 3:4 | 5:-6\n1\n' 1 'refused: line 2\n'
     becomes 'image flagged' '1:1 | 1:0\n1:-1\n' 1 'refused: line 2\n'
     becomes 'image bytes16' "$sixteen\n1:1\n" 1 'refused: line 2\n'
@@ -118,6 +126,12 @@ a_file_is_read_as_the_type_that_the_words_name() (
     becomes 'show u32' $signed_of_4_bytes 0 '2147483648\n2147483647\n4294967295\n0\n'
     becomes 'show u32' $greatest_u64 1 'refused: width 8\n'
     becomes 'show i64' $numbers_of_4_bytes 1 'refused: width 4\n'
+    becomes 'show f64' $greatest_u64 0 'NaN:18446744073709551615\n'
+    becomes 'show u64' $floats_of_8_bytes 0 '1\n18442240474082181120\n'
+    becomes 'show f32' $numbers_of_4_bytes 0 '0.0\nNaN:4294967295\n'
+    becomes 'show i32' $floats_of_4_bytes 0 '1056964608\n-2147483648\n2143289344\n'
+    becomes 'show f64' $floats_of_4_bytes 1 'refused: width 4\n'
+    becomes 'show f32' $floats_of_8_bytes 1 'refused: width 8\n'
     becomes 'show flagged' $small_pair 1 'refused: width 16\n'
     becomes 'show pair' $flagged_keys 1 'refused: width 9\n'
     becomes 'show bytes16' $small_pair 0 '0700000000000000fdffffffffffffff\n'
@@ -143,7 +157,9 @@ records_of_numbers_are_played() (
     becomes 'play u16' 'create 2\nresize 2 65535\nchanges 0 256\nlist\n' 0 'ok\nok\nok\n256 65535\n'
     becomes 'play i32' 'create\nshare 1 1\nput 0 -2147483648 2147483647\nview 0\n' 0 \
         'ok\nok\ngrowth 0 start 0 len 2\n-2147483648 2147483647\n'
+    becomes 'play f32' 'create\nresize 2 .1\nchange 1 -1e-45\nlist\n' 0 'ok\nok\nok\n0.1 -1e-45\n'
     becomes 'play u8' 'create\nresize 2 256\n' 1 'refused: line 2\n'
     becomes 'play u16' 'create\nresize 2 65536\n' 1 'refused: line 2\n'
     becomes 'play i32' 'create\nresize 2 -2147483649\n' 1 'refused: line 2\n'
+    becomes 'play f32' 'create\nresize 2 1e39\n' 1 'refused: line 2\n'
 )

@@ -3,8 +3,7 @@
 # ---- the program's words
 
 other_words_for_a_type_are_usage() (
-    # Of floating numbers the library alone has types.
-    for word in u128 i8 i16 f32 f64 U8 u08 8 U64 Pair flag u; do
+    for word in u128 i8 i16 f8 f16 f128 float double F32 F64 f032 f U8 u08 8 U64 Pair flag u; do
         becomes "image $word" '5\n' 2 ''
         becomes "show $word" '5\n' 2 ''
     done
@@ -29,7 +28,7 @@ what_is_wrong_with_words_is_told_in_a_sentence() (
 lists u64=error: unrecognized subcommand 'lists'
 show=error: the following required arguments were not provided:
 image u24=error: invalid value 'u24' for '<TYPE>'
-show u24=[possible values: u8, u16, u32, u64, i32, i64, pair, flagged, bytes16, bytes24, bytes32, bytes64]
+show u24=[possible values: u8, u16, u32, u64, i32, i64, f32, f64, pair, flagged, bytes16, bytes24, bytes32, bytes64]
 show u64 u64=error: unexpected argument 'u64' found
 --kind=error: unexpected argument '--kind' found
 show -- u64 --help=error: unexpected argument '--help' found
@@ -141,7 +140,11 @@ the_program_tells_of_itself() (
         grep -q "^$command .*   *[a-z]" "$out"
     done
     run help
-    for type in u8 u16 u32 u64 i32 i64 pair flagged bytes16 bytes24 bytes32 bytes64; do grep -qw "$type" "$out"; done
+    for type in u8 u16 u32 u64 i32 i64 f32 f64 pair flagged bytes16 bytes24 bytes32 bytes64; do grep -qw "$type" "$out"; done
+    for line in 'TYPE is u8, u16, u32, u64, i32, i64, f32, f64 (as 0.5 or 1e-9), pair (a u64 and an i64, as 7:-3),' \
+        'flagged (a u64 and 0 or 1, as 5:1), or bytes16, bytes24, bytes32, bytes64 (so many bytes, as hex digits in lower case).'; do
+        grep -qxF "$line" "$out"
+    done
     run help play
     grep -qxF "  \$ printf 'create\\nresize 1 5\\ncrash old\\nopen\\nlist\\n' | cvec play u64" "$out"
     for words in version --version; do
