@@ -34,39 +34,30 @@ IsTaskRun Image form spelling input old new status = IsImageRun form spelling in
 IsTaskRun Show form spelling input old new status = IsShowRun form spelling input old new status
 IsTaskRun Play form spelling input old new status = IsPlayRun form spelling input old new status
 
--- the same over records of one of the program's types; floats are the numbers that have their bits
+-- what holds of the bytes and texts of the program's types; floats are the numbers that have their bits
+abbrev pub OfType : RecordType → ((R : Type 0) → Encoding R → Spelling R → Type 0) → Type 0
+OfType U8 Is = Is _ (unsigned w8) (number_spelling 8)
+OfType U16 Is = Is _ (unsigned w16) (number_spelling 16)
+OfType U32 Is = Is _ (unsigned w32) (number_spelling 32)
+OfType U64 Is = Is _ (unsigned w64) (number_spelling 64)
+OfType I32 Is = Is _ (signed w32) (signed_spelling w32)
+OfType I64 Is = Is _ (signed w64) (signed_spelling w64)
+OfType F32 Is = Is _ (unsigned w32) (number_spelling 32)
+OfType F64 Is = Is _ (unsigned w64) (number_spelling 64)
+OfType Pair Is = Is _ pair pair_spelling
+OfType Flagged Is = Is _ flagged flagged_spelling
+OfType Bytes16 Is = Is _ bytes16 (hex_spelling bytes16)
+OfType Bytes24 Is = Is _ bytes24 (hex_spelling bytes24)
+OfType Bytes32 Is = Is _ bytes32 (hex_spelling bytes32)
+OfType Bytes64 Is = Is _ bytes64 (hex_spelling bytes64)
+
+-- the same over records of one of the program's types
 abbrev pub IsProgramRun : Task → RecordType → List ℕ → Option (List ℕ) → Option (List ℕ) → Status → Type 0
-IsProgramRun task U8 = IsTaskRun task (unsigned w8) (number_spelling 8)
-IsProgramRun task U16 = IsTaskRun task (unsigned w16) (number_spelling 16)
-IsProgramRun task U32 = IsTaskRun task (unsigned w32) (number_spelling 32)
-IsProgramRun task U64 = IsTaskRun task (unsigned w64) (number_spelling 64)
-IsProgramRun task I32 = IsTaskRun task (signed w32) (signed_spelling w32)
-IsProgramRun task I64 = IsTaskRun task (signed w64) (signed_spelling w64)
-IsProgramRun task F32 = IsTaskRun task (unsigned w32) (number_spelling 32)
-IsProgramRun task F64 = IsTaskRun task (unsigned w64) (number_spelling 64)
-IsProgramRun task Pair = IsTaskRun task pair pair_spelling
-IsProgramRun task Flagged = IsTaskRun task flagged flagged_spelling
-IsProgramRun task Bytes16 = IsTaskRun task bytes16 (hex_spelling bytes16)
-IsProgramRun task Bytes24 = IsTaskRun task bytes24 (hex_spelling bytes24)
-IsProgramRun task Bytes32 = IsTaskRun task bytes32 (hex_spelling bytes32)
-IsProgramRun task Bytes64 = IsTaskRun task bytes64 (hex_spelling bytes64)
+IsProgramRun task record_type input old new status = OfType record_type (λ R form spelling. IsTaskRun task form spelling input old new status)
 
 -- what a command over a file has done, on records of one of the program's types
 abbrev pub IsTypedCommandRun : RecordType → FileTask → Option (List ℕ) → Option (List ℕ) → Option (List ℕ) → Result Status Complaint → Type 0
-IsTypedCommandRun U8 = IsCommandRun (unsigned w8) (number_spelling 8)
-IsTypedCommandRun U16 = IsCommandRun (unsigned w16) (number_spelling 16)
-IsTypedCommandRun U32 = IsCommandRun (unsigned w32) (number_spelling 32)
-IsTypedCommandRun U64 = IsCommandRun (unsigned w64) (number_spelling 64)
-IsTypedCommandRun I32 = IsCommandRun (signed w32) (signed_spelling w32)
-IsTypedCommandRun I64 = IsCommandRun (signed w64) (signed_spelling w64)
-IsTypedCommandRun F32 = IsCommandRun (unsigned w32) (number_spelling 32)
-IsTypedCommandRun F64 = IsCommandRun (unsigned w64) (number_spelling 64)
-IsTypedCommandRun Pair = IsCommandRun pair pair_spelling
-IsTypedCommandRun Flagged = IsCommandRun flagged flagged_spelling
-IsTypedCommandRun Bytes16 = IsCommandRun bytes16 (hex_spelling bytes16)
-IsTypedCommandRun Bytes24 = IsCommandRun bytes24 (hex_spelling bytes24)
-IsTypedCommandRun Bytes32 = IsCommandRun bytes32 (hex_spelling bytes32)
-IsTypedCommandRun Bytes64 = IsCommandRun bytes64 (hex_spelling bytes64)
+IsTypedCommandRun record_type task input old new filed = OfType record_type (λ R form spelling. IsCommandRun form spelling task input old new filed)
 
 -- the line that is printed of a complaint
 abbrev pub complaint_line : Complaint → List ℕ

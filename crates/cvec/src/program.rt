@@ -27,7 +27,9 @@ use std::thread::Threads;
 use std::time::Clock;
 use streams::ToldUnless;
 use text_core::{Refusal, Status, TextRecord, refuse, write_line, write_refusal, write_text};
-use words_core::{FileWords, RecordType, Request, StatWords, Task, WordsFault, read_words};
+use words_core::{
+    FileWords, RecordType, Request, StatWords, Task, WordsFault, read_words, record_types,
+};
 
 /// What the program has of the system beside its input and output.
 #[derive(Drop)]
@@ -57,6 +59,15 @@ fn run_of<R: TextRecord, I: Read, W: Write, E: Threads + Wait + Sync>(
     }
 }
 
+/// Does a task on records of a type, by the table.
+macro_rules! run_on {
+    ([$of:expr; $given:tt] $($variant:ident $word:literal $record:ty, $form:literal;)*) => {
+        match $of {
+            $(RecordType::$variant => run_of::<$record, I, W, E>$given,)*
+        }
+    };
+}
+
 /// Does the task on records of the type.
 fn run_task<I: Read, W: Write, E: Threads + Wait + Sync>(
     alloc: Global,
@@ -70,24 +81,7 @@ fn run_task<I: Read, W: Write, E: Threads + Wait + Sync>(
         IsProgramRun task record_type input (W.contents writer.old) (W.contents writer.new) result) }
     ensures no_usage { result ≢ Status.Usage }
 {
-    match record_type {
-        RecordType::U8 => run_of::<u8, I, W, E>(alloc, rt, task, reader, writer),
-        RecordType::U16 => run_of::<u16, I, W, E>(alloc, rt, task, reader, writer),
-        RecordType::U32 | RecordType::F32 => {
-            run_of::<u32, I, W, E>(alloc, rt, task, reader, writer)
-        }
-        RecordType::U64 | RecordType::F64 => {
-            run_of::<u64, I, W, E>(alloc, rt, task, reader, writer)
-        }
-        RecordType::I32 => run_of::<i32, I, W, E>(alloc, rt, task, reader, writer),
-        RecordType::I64 => run_of::<i64, I, W, E>(alloc, rt, task, reader, writer),
-        RecordType::Pair => run_of::<Pair, I, W, E>(alloc, rt, task, reader, writer),
-        RecordType::Flagged => run_of::<Flagged, I, W, E>(alloc, rt, task, reader, writer),
-        RecordType::Bytes16 => run_of::<Bytes16, I, W, E>(alloc, rt, task, reader, writer),
-        RecordType::Bytes24 => run_of::<Bytes24, I, W, E>(alloc, rt, task, reader, writer),
-        RecordType::Bytes32 => run_of::<Bytes32, I, W, E>(alloc, rt, task, reader, writer),
-        RecordType::Bytes64 => run_of::<Bytes64, I, W, E>(alloc, rt, task, reader, writer),
-    }
+    record_types!(run_on [record_type; (alloc, rt, task, reader, writer)])
 }
 
 /// Writes the line of a file that isn't opened.
@@ -127,6 +121,15 @@ fn refuse_for<W: Write>(writer: &mut W, complaint: &Complaint) -> Status
     }
 }
 
+/// Does a command over a file on records of a type, by the table.
+macro_rules! file_on {
+    ([$of:expr; $filing:ident; $given:tt] $($variant:ident $word:literal $record:ty, $form:literal;)*) => {
+        match $of {
+            $(RecordType::$variant => $filing.run::<$record, Dealt<$record>, I, W, E>$given,)*
+        }
+    };
+}
+
 /// Does a command over a file, on records of its type.
 fn run_filing<
     I: Read,
@@ -145,36 +148,7 @@ fn run_filing<
     ensures { IsTypedCommandRun words.now.record_type words.now.task (I.remaining reader.old) (W.contents writer.old) (W.contents writer.new) result }
 {
     let task = words.task;
-    match words.record_type {
-        RecordType::U8 => filing.run::<u8, Dealt<u8>, I, W, E>(rt, task, reader, shown, writer),
-        RecordType::U16 => filing.run::<u16, Dealt<u16>, I, W, E>(rt, task, reader, shown, writer),
-        RecordType::U32 | RecordType::F32 => {
-            filing.run::<u32, Dealt<u32>, I, W, E>(rt, task, reader, shown, writer)
-        }
-        RecordType::U64 | RecordType::F64 => {
-            filing.run::<u64, Dealt<u64>, I, W, E>(rt, task, reader, shown, writer)
-        }
-        RecordType::I32 => filing.run::<i32, Dealt<i32>, I, W, E>(rt, task, reader, shown, writer),
-        RecordType::I64 => filing.run::<i64, Dealt<i64>, I, W, E>(rt, task, reader, shown, writer),
-        RecordType::Pair => filing.run::<Pair, Dealt<Pair>, I, W, E>(
-            rt, task, reader, shown, writer,
-        ),
-        RecordType::Flagged => {
-            filing.run::<Flagged, Dealt<Flagged>, I, W, E>(rt, task, reader, shown, writer)
-        }
-        RecordType::Bytes16 => {
-            filing.run::<Bytes16, Dealt<Bytes16>, I, W, E>(rt, task, reader, shown, writer)
-        }
-        RecordType::Bytes24 => {
-            filing.run::<Bytes24, Dealt<Bytes24>, I, W, E>(rt, task, reader, shown, writer)
-        }
-        RecordType::Bytes32 => {
-            filing.run::<Bytes32, Dealt<Bytes32>, I, W, E>(rt, task, reader, shown, writer)
-        }
-        RecordType::Bytes64 => {
-            filing.run::<Bytes64, Dealt<Bytes64>, I, W, E>(rt, task, reader, shown, writer)
-        }
-    }
+    record_types!(file_on [words.record_type; filing; (rt, task, reader, shown, writer)])
 }
 
 /// Does a command over a file.

@@ -6,26 +6,20 @@ use lines_core::Excerpt;
 use record_core::{Bytes16, Bytes24, Bytes32, Bytes64, Flagged, PAYLOAD_LIMIT, Pair};
 use std::fmt::{self, Formatter};
 use text_core::{INPUT_LIMIT, Refusal};
-use words_core::{FileTask, FileWords, Following, RecordType};
+use words_core::{FileTask, FileWords, Following, RecordType, record_types};
+
+/// The text of a record of a type, by the table.
+macro_rules! form_of {
+    ([$of:expr] $($variant:ident $word:literal $record:ty, $form:literal;)*) => {
+        match $of {
+            $(RecordType::$variant => $form,)*
+        }
+    };
+}
 
 /// The text of a record of a type.
 fn record_form(record_type: RecordType) -> &'static str {
-    match record_type {
-        RecordType::U8 => "a number from 0 to 255",
-        RecordType::U16 => "a number from 0 to 65535",
-        RecordType::U32 => "a number from 0 to 4294967295",
-        RecordType::U64 => "a number from 0 to 18446744073709551615",
-        RecordType::I32 => "a number from -2147483648 to 2147483647",
-        RecordType::I64 => "a number from -9223372036854775808 to 9223372036854775807",
-        RecordType::F32 => "a decimal number up to 3.4028235e38, inf or NaN",
-        RecordType::F64 => "a decimal number up to 1.7976931348623157e308, inf or NaN",
-        RecordType::Pair => "a u64 and an i64 with a colon between them, as 7:-3",
-        RecordType::Flagged => "a u64 and 0 or 1 with a colon between them, as 5:1",
-        RecordType::Bytes16 => "32 hex digits in lower case",
-        RecordType::Bytes24 => "48 hex digits in lower case",
-        RecordType::Bytes32 => "64 hex digits in lower case",
-        RecordType::Bytes64 => "128 hex digits in lower case",
-    }
+    record_types!(form_of[record_type])
 }
 
 /// The name of a word that is refused.
@@ -40,22 +34,18 @@ fn name_of_word(word: Word) -> &'static str {
     }
 }
 
+/// The first word of several that is no record of a type, by the table.
+macro_rules! excerpt_of {
+    ([$of:expr, $records:expr] $($variant:ident $word:literal $record:ty, $form:literal;)*) => {
+        match $of {
+            $(RecordType::$variant => Excerpt::of_bad_word::<$record>($records, b','),)*
+        }
+    };
+}
+
 /// The first of the values of `--records` that is no record.
 fn excerpt_of_records(records: &[u8], record_type: RecordType) -> Excerpt {
-    match record_type {
-        RecordType::U8 => Excerpt::of_bad_word::<u8>(records, b','),
-        RecordType::U16 => Excerpt::of_bad_word::<u16>(records, b','),
-        RecordType::U32 | RecordType::F32 => Excerpt::of_bad_word::<u32>(records, b','),
-        RecordType::U64 | RecordType::F64 => Excerpt::of_bad_word::<u64>(records, b','),
-        RecordType::I32 => Excerpt::of_bad_word::<i32>(records, b','),
-        RecordType::I64 => Excerpt::of_bad_word::<i64>(records, b','),
-        RecordType::Pair => Excerpt::of_bad_word::<Pair>(records, b','),
-        RecordType::Flagged => Excerpt::of_bad_word::<Flagged>(records, b','),
-        RecordType::Bytes16 => Excerpt::of_bad_word::<Bytes16>(records, b','),
-        RecordType::Bytes24 => Excerpt::of_bad_word::<Bytes24>(records, b','),
-        RecordType::Bytes32 => Excerpt::of_bad_word::<Bytes32>(records, b','),
-        RecordType::Bytes64 => Excerpt::of_bad_word::<Bytes64>(records, b','),
-    }
+    record_types!(excerpt_of [record_type, records])
 }
 
 /// The text of a word that is refused, as it was given. Of the values of `--records`, all of them.

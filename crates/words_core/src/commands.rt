@@ -1,13 +1,18 @@
 //! The words of each command, as `clap` is told of them.
 
+use crate::record_types;
 use clap::{Arg, ArgAction, Command};
 use std::alloc::{AllocError, Global};
 
+/// The words of all types, by the table.
+macro_rules! words_of_types {
+    ([] $($variant:ident $word:literal $record:ty, $form:literal;)*) => {
+        [$($word,)*]
+    };
+}
+
 /// The words for the types of record.
-const TYPES: [&str; 14] = [
-    "u8", "u16", "u32", "u64", "i32", "i64", "f32", "f64", "pair", "flagged", "bytes16", "bytes24",
-    "bytes32", "bytes64",
-];
+const TYPES: [&str; 14] = record_types!(words_of_types []);
 
 /// The words for the versions of a file.
 const FORMATS: [&str; 2] = ["1", "2"];

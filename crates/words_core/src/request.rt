@@ -38,45 +38,59 @@ pub enum RecordType {
     Bytes64,
 }
 
+/// The table of the types of record, which hands it to a macro behind the words in brackets. A line has the variant, the word of the
+/// type, the type of its records here, which is that of numbers for floats: these have their bits, and what the text of one is.
+#[macro_export]
+macro_rules! record_types {
+    ($to:ident [$($words:tt)*]) => {
+        $to! { [$($words)*]
+            U8 "u8" u8, "a number from 0 to 255";
+            U16 "u16" u16, "a number from 0 to 65535";
+            U32 "u32" u32, "a number from 0 to 4294967295";
+            U64 "u64" u64, "a number from 0 to 18446744073709551615";
+            I32 "i32" i32, "a number from -2147483648 to 2147483647";
+            I64 "i64" i64, "a number from -9223372036854775808 to 9223372036854775807";
+            F32 "f32" u32, "a decimal number up to 3.4028235e38, inf or NaN";
+            F64 "f64" u64, "a decimal number up to 1.7976931348623157e308, inf or NaN";
+            Pair "pair" Pair, "a u64 and an i64 with a colon between them, as 7:-3";
+            Flagged "flagged" Flagged, "a u64 and 0 or 1 with a colon between them, as 5:1";
+            Bytes16 "bytes16" Bytes16, "32 hex digits in lower case";
+            Bytes24 "bytes24" Bytes24, "48 hex digits in lower case";
+            Bytes32 "bytes32" Bytes32, "64 hex digits in lower case";
+            Bytes64 "bytes64" Bytes64, "128 hex digits in lower case";
+        }
+    };
+}
+
+/// The word of a type, by the table.
+macro_rules! word_of {
+    ([$of:expr] $($variant:ident $word:literal $record:ty, $form:literal;)*) => {
+        match $of {
+            $(RecordType::$variant => $word,)*
+        }
+    };
+}
+
+/// How many bytes a record of a type has, by the table.
+macro_rules! width_of_type {
+    ([$of:expr] $($variant:ident $word:literal $record:ty, $form:literal;)*) => {
+        match $of {
+            $(RecordType::$variant => width_of::<$record>(),)*
+        }
+    };
+}
+
 impl RecordType {
     /// The word of the type.
     pub fn word(self) -> &'static str
         ensures { result.now ≡ type_word self }
     {
-        match self {
-            RecordType::U8 => "u8",
-            RecordType::U16 => "u16",
-            RecordType::U32 => "u32",
-            RecordType::U64 => "u64",
-            RecordType::I32 => "i32",
-            RecordType::I64 => "i64",
-            RecordType::F32 => "f32",
-            RecordType::F64 => "f64",
-            RecordType::Pair => "pair",
-            RecordType::Flagged => "flagged",
-            RecordType::Bytes16 => "bytes16",
-            RecordType::Bytes24 => "bytes24",
-            RecordType::Bytes32 => "bytes32",
-            RecordType::Bytes64 => "bytes64",
-        }
+        record_types!(word_of[self])
     }
 
     /// How many bytes a record of the type has.
     pub fn width(self) -> usize {
-        match self {
-            RecordType::U8 => width_of::<u8>(),
-            RecordType::U16 => width_of::<u16>(),
-            RecordType::U32 | RecordType::F32 => width_of::<u32>(),
-            RecordType::U64 | RecordType::F64 => width_of::<u64>(),
-            RecordType::I32 => width_of::<i32>(),
-            RecordType::I64 => width_of::<i64>(),
-            RecordType::Pair => width_of::<Pair>(),
-            RecordType::Flagged => width_of::<Flagged>(),
-            RecordType::Bytes16 => width_of::<Bytes16>(),
-            RecordType::Bytes24 => width_of::<Bytes24>(),
-            RecordType::Bytes32 => width_of::<Bytes32>(),
-            RecordType::Bytes64 => width_of::<Bytes64>(),
-        }
+        record_types!(width_of_type[self])
     }
 }
 

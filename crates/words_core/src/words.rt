@@ -8,6 +8,7 @@ ghost use Rattle.words_core.specs.Words.{task_word, type_word};
 
 use crate::commands::all_commands;
 use crate::help::{VERSION, help_text};
+use crate::record_types;
 use crate::request::{FileTask, FileWords, Following, RecordType, Request, StatWords, Task};
 use clap::error::ErrorKind;
 use clap::{ArgMatches, Error};
@@ -83,28 +84,22 @@ fn task_of(name: &str) -> Option<Task>
     }
 }
 
+/// The type of a word, by the table.
+macro_rules! type_by_word {
+    ([$of:expr] $($variant:ident $word:literal $record:ty, $form:literal;)*) => {
+        match $of {
+            $($word => Some(RecordType::$variant),)*
+            _ => None,
+        }
+    };
+}
+
 /// The type of record that a word stands for.
 fn record_type_of(word: &str) -> Option<RecordType>
     ensures named { IfSome result (λ record_type. word.now ≡ type_word record_type) }
     ensures unnamed { IfNone result ((record_type : RecordType) → word.now ≢ type_word record_type) }
 {
-    match word {
-        "u8" => Some(RecordType::U8),
-        "u16" => Some(RecordType::U16),
-        "u32" => Some(RecordType::U32),
-        "u64" => Some(RecordType::U64),
-        "i32" => Some(RecordType::I32),
-        "i64" => Some(RecordType::I64),
-        "f32" => Some(RecordType::F32),
-        "f64" => Some(RecordType::F64),
-        "pair" => Some(RecordType::Pair),
-        "flagged" => Some(RecordType::Flagged),
-        "bytes16" => Some(RecordType::Bytes16),
-        "bytes24" => Some(RecordType::Bytes24),
-        "bytes32" => Some(RecordType::Bytes32),
-        "bytes64" => Some(RecordType::Bytes64),
-        _ => None,
-    }
+    record_types!(type_by_word[word])
 }
 
 /// What `clap` makes of the words.
