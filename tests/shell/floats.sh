@@ -537,7 +537,8 @@ commands_over_a_file_of_floats_do_their_work() (
     run list f64 "$t" --from=2 --count=2
     did '1e300\n0.1\n'
     run check f64 "$t"
-    did 'ok version 1 width 8 size 7 frames 4 live 0\n'
+    # How many commits there are is a matter of time.
+    [ "$(cut -d ' ' -f 1-7,10- "$out")" = 'ok version 1 width 8 size 7 live 0' ]
     run count f64 "$t" --record=1e-1
     did '2\n'
     run count f64 "$t" --record 7
