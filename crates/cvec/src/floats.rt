@@ -3,7 +3,6 @@
 
 use float_core::{FloatLines, FloatType, append_bits};
 use std::alloc::{AllocError, Global};
-use text_core::cut;
 use words_core::{FileTask, FileWords, RecordType, Request, Task};
 
 /// The floats that records of a type are, if they are some.
@@ -48,16 +47,15 @@ pub fn floats_written(request: Request<'_>) -> Option<FloatType> {
 
 /// Appends what several records with commas between them stand for.
 fn append_list(float: FloatType, words: &[u8], out: &mut Vec<u8>) -> Result<(), AllocError> {
-    let mut rest = Some(words);
-    while let Some(words) = rest {
-        let (word, behind) = cut(words, b',');
-        append_bits(float, word, out)?;
-        if behind.is_some() {
+    let mut start = 0;
+    for at in 0..words.len() {
+        if words[at] == b',' {
+            append_bits(float, &words[start..at], out)?;
             out.push(b',')?;
+            start = at + 1;
         }
-        rest = behind;
     }
-    Ok(())
+    append_bits(float, &words[start..], out)
 }
 
 /// The words of records that a request has, with the numbers for floats. Where it has none, nothing.

@@ -90,9 +90,7 @@ fn run_words<E: Threads + Wait + Clock + Sync + Copy + Send + 'static>(
     threads: &E,
     words: &[String],
 ) -> Status {
-    let mut bits = Vec::new(rt.alloc());
-    let asked = asked_in_bits(rt.alloc(), words, &mut bits);
-    let manner = manner_of(asked);
+    let manner = manner_of(rt.alloc(), words);
     let meter = Meter::new(rt, rt.stderr().is_terminal(), manner.progress);
     let shares_terminal = rt.stdout().is_terminal();
     let behind = Behind::new(io::writer(rt), shares_terminal.then_some(&meter));
@@ -104,9 +102,7 @@ fn run_words<E: Threads + Wait + Clock + Sync + Copy + Send + 'static>(
     let Ok(mut input) = Turned::new(rt.alloc(), paced, manner.turn) else {
         return refuse_memory(rt);
     };
-    let ended = answer(rt, threads, asked, &meter, &mut input, &mut output);
-    tell_ended(rt, words, &ended, output.error());
-    ended.status
+    answer(rt, threads, words, &meter, &mut input, &mut output)
 }
 
 /// What of the words has to be known before they are run.
@@ -122,7 +118,7 @@ struct Manner {
     floats: Option<FloatType>,
 }
 
-/// The manner of words that ask for nothing.
+/// The manner of words whose input and output are taken as they come.
 const PLAIN: Manner = Manner {
     pause: None,
     progress: false,
@@ -133,8 +129,17 @@ const PLAIN: Manner = Manner {
     floats: None,
 };
 
-fn manner_of(asked: Result<Request<'_>, WordsFault>) -> Manner {
-    let Ok(request) = asked else {
+/// Whether the input or the output of the words isn't taken as it comes: lines that are waited for or lenient, and floats.
+fn may_be_turned(words: &[String]) -> bool {
+    words.iter().any(|word| matches!(word.as_str(), "load" | "append" | "set" | "f32" | "f64"))
+}
+
+fn manner_of(alloc: Global, words: &[String]) -> Manner {
+    // No other words are read twice.
+    if !may_be_turned(words) {
+        return PLAIN;
+    }
+    let Ok(request) = read_request(alloc, words) else {
         return PLAIN;
     };
     let manner = Manner {
@@ -163,23 +168,26 @@ fn manner_of(asked: Result<Request<'_>, WordsFault>) -> Manner {
     }
 }
 
-/// Does on this output what was asked for.
-fn answer<'a, I: Read, W: Write, E: Threads + Wait + Clock + Sync + Copy + Send + 'static>(
+/// Answers the words on this output.
+fn answer<I: Read, W: Write, E: Threads + Wait + Clock + Sync + Copy + Send + 'static>(
     rt: &HostRuntime,
     threads: &E,
-    asked: Result<Request<'a>, WordsFault>,
+    words: &[String],
     meter: &Meter<'_>,
     input: &mut I,
-    output: &mut W,
-) -> Outcome<'a> {
+    output: &mut Noting<W>,
+) -> Status {
     let system = System {
         alloc: rt.alloc(),
         files: rt,
         progress: meter,
     };
+    let mut bits = Vec::new(rt.alloc());
+    let asked = asked_in_bits(rt.alloc(), words, &mut bits);
     let ended = run(&system, threads, asked, input, output);
     meter.end();
-    ended
+    tell_ended(rt, words, &ended, output.error());
+    ended.status
 }
 
 /// Tells what standard error has to tell of an end.
