@@ -178,3 +178,7 @@ def memory_tables(_folder):
     runs += [('show', it.hex().encode(), answers_of(it, 'u64')[0]) for it in (all_kinds(1), all_kinds(2))]
     for word, given, wanted in runs:
         yield judge_refused_run, (PROGRAM, [word, 'u64'], given, (*wanted, b''))
+    # Floats that are read as what they are, or not at all: 5 is also a number.
+    floats = header(1, 8) + group([numbers(4617315517961601024, 4619567317775286272), numbers(4602678819172646912)]) + b'\0'
+    yield judge_refused_run, (PROGRAM, ['image', 'f64'], b'5 7 | .5\n', (0, floats.hex().encode() + b'\n', b''))
+    yield judge_refused_run, (PROGRAM, ['show', 'f64'], floats.hex().encode(), (0, b'5.0\n7.0\n0.5\n', b''))

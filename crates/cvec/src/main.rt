@@ -90,7 +90,9 @@ fn run_words<E: Threads + Wait + Clock + Sync + Copy + Send + 'static>(
     threads: &E,
     words: &[String],
 ) -> Status {
-    let manner = manner_of(rt.alloc(), words);
+    let Some(manner) = manner_of(rt.alloc(), words) else {
+        return refuse_memory(rt);
+    };
     let meter = Meter::new(rt, rt.stderr().is_terminal(), manner.progress);
     let shares_terminal = rt.stdout().is_terminal();
     let behind = Behind::new(io::writer(rt), shares_terminal.then_some(&meter));
@@ -134,13 +136,16 @@ fn may_be_turned(words: &[String]) -> bool {
     words.iter().any(|word| matches!(word.as_str(), "load" | "append" | "set" | "f32" | "f64"))
 }
 
-fn manner_of(alloc: Global, words: &[String]) -> Manner {
+/// The manner of the words. `None`: memory was refused, so it isn't known whether floats are to be turned.
+fn manner_of(alloc: Global, words: &[String]) -> Option<Manner> {
     // No other words are read twice.
     if !may_be_turned(words) {
-        return PLAIN;
+        return Some(PLAIN);
     }
-    let Ok(request) = read_request(alloc, words) else {
-        return PLAIN;
+    let request = match read_request(alloc, words) {
+        Ok(request) => request,
+        Err(WordsFault::Memory) => return None,
+        Err(_) => return Some(PLAIN),
     };
     let manner = Manner {
         turn: Turn {
@@ -151,13 +156,13 @@ fn manner_of(alloc: Global, words: &[String]) -> Manner {
         ..PLAIN
     };
     let Request::File(words) = request else {
-        return manner;
+        return Some(manner);
     };
     let pause = match words.task {
         FileTask::Append { every, .. } => Some(every),
         _ => None,
     };
-    Manner {
+    Some(Manner {
         pause,
         progress: words.progress && !words.quiet,
         turn: Turn {
@@ -165,7 +170,7 @@ fn manner_of(alloc: Global, words: &[String]) -> Manner {
             ..manner.turn
         },
         ..manner
-    }
+    })
 }
 
 /// Answers the words on this output.
