@@ -148,7 +148,10 @@ def judge_refused_run(job):
     found, refused = run_refused(library, number, words, given, program)
     if not refused:
         return None, False, None
-    told = None if found == wanted or is_memory_refused(found) else 'request %d of %s: %r' % (number, ' '.join(words), found)
+    # Floats are turned as they are read, which takes memory too.
+    is_unread = words[1] == 'f64' and found == (1, b'refused: input\n', b'')
+    is_right = found == wanted or is_memory_refused(found) or is_unread
+    told = None if is_right else 'request %d of %s: %r' % (number, ' '.join(words), found)
     return told, True, ('REFUSE=%d %s\n' % (number, ' '.join(words))).encode() + given
 
 
