@@ -1,6 +1,5 @@
 -- Bits of NaNs and of numbers, and the texts that are read as them.
-use Rattle.std.proofs.Common.{◌≡◌, ℕ, ◌*◌, ◌<◌, ◌%◌, ◌^◌, ◌↔◌, ◌&&◌, ◌⊎◌, T, not, Bool, true, false, List, ◌++◌, Some, None, Option, IfNone, IsTrue, IsFalse, codes, decimal, nat_le, from_bits, sym, refl, ◌∙◌, subst, inl, inr, arith, ltb}
-use Rattle.std.specs.List.{AllPass}
+use Rattle.std.proofs.Common.{◌≡◌, ℕ, ◌*◌, ◌<◌, ◌%◌, ◌^◌, ◌↔◌, ◌⊎◌, T, not, Bool, true, false, List, ◌++◌, Some, None, Option, IfNone, IsTrue, IsFalse, codes, decimal, from_bits, sym, refl, ◌∙◌, subst, inl, inr, arith, ltb}
 use Rattle.std.specs.Float.{NotNan, NotNanBits, float_is_finite, float_is_infinite}
 use Rattle.ryu.specs.Plain.{word_of}
 use Rattle.std.proofs.lemmas.List.Sums.{AllPass-from_list_all}
@@ -12,7 +11,7 @@ use lib.Ieee.{Float, Format, nan, inf, fin, top, hid, ones, is_nan}
 use lib.Ieee.Bits.{nan_bits_is, nan_bits_above}
 use Rattle.float_core.specs.declared.float.FloatType.{FloatType}
 use Rattle.float_core.specs.declared.float.FloatType.TheVariants.{F32, F64}
-use Rattle.float_core.specs.Floats.{format_of, quiet_nan, AreBits, AreNanBits, IsNamedNan, IsNumberText, IsNanWord, IsFloatText}
+use Rattle.float_core.specs.Floats.{format_of, quiet_nan, is_digit, HasNoDigit, AreBits, AreNanBits, IsNamedNan, IsNumberText, IsNanWord, IsFloatText}
 
 pub bits_of_number : (f : Format) (bits : ℕ) → NotNan (from_bits f bits) → NotNanBits f bits
 bits_of_number f bits number = subst (λ (b : Bool). T (not b)) (sym (nan_bits_is f bits)) number
@@ -48,16 +47,16 @@ unfolding is_nan
 number_no_nan is = is
 
 -- a word for an infinity has no digit
-pub no_digit : (x : Float) (text : List ℕ) → (IsFalse (float_is_finite x) → text ≡ word_of x) → IsTrue (float_is_infinite x) → AllPass (λ b. not (nat_le 48 b && nat_le b 57)) text
+pub no_digit : (x : Float) (text : List ℕ) → (IsFalse (float_is_finite x) → text ≡ word_of x) → IsTrue (float_is_infinite x) → HasNoDigit text
 unfolding float_is_finite float_is_infinite
 no_digit nan text word infinite = absurd cc
-no_digit (inf true) text word infinite = rw (word refl) (AllPass-from_list_all (λ b. not (nat_le 48 b && nat_le b 57)) (codes "-inf") refl)
-no_digit (inf false) text word infinite = rw (word refl) (AllPass-from_list_all (λ b. not (nat_le 48 b && nat_le b 57)) (codes "inf") refl)
+no_digit (inf true) text word infinite = rw (word refl) (AllPass-from_list_all (λ b. not (is_digit b)) (codes "-inf") refl)
+no_digit (inf false) text word infinite = rw (word refl) (AllPass-from_list_all (λ b. not (is_digit b)) (codes "inf") refl)
 no_digit (fin s m e) text word infinite = absurd cc
 
 -- a decimal that is read as an infinity is the text of none
 pub too_large : (float : FloatType) (text : List ℕ) (x : Float) → parse_float (format_of float) text ≡ Some x → NotNan x → IsTrue (float_is_infinite x)
-    → ¬ (AllPass (λ b. not (nat_le 48 b && nat_le b 57)) text) → (bits : ℕ) → ¬ (IsNumberText float text bits) × ¬ (IsNanWord float text bits)
+    → ¬ (HasNoDigit text) → (bits : ℕ) → ¬ (IsNumberText float text bits) × ¬ (IsNanWord float text bits)
 too_large float text x read number infinite has_digit bits = (
   λ is. has_digit (is.word (subst (λ (y : Float). IsTrue (float_is_infinite y)) (one_float x _ (sym read ∙ is.nearest)) infinite)),
   λ is. number_no_nan (subst NotNan (one_float x nan (sym read ∙ is.0)) number),
@@ -66,7 +65,7 @@ too_large float text x read number infinite has_digit bits = (
 -- the same by the bits that it was read as
 pub too_large_by_bits : (float : FloatType) (text : List ℕ) (x : Float) (n : ℕ) → parse_float (format_of float) text ≡ Some x
     → ((x ≡ nan) × (n ≡ quiet_nan float)) ⊎ (NotNan x × (from_bits (format_of float) n ≡ x) × (n < 2 * top (format_of float)))
-    → ¬ (AreNanBits float n) → IsTrue (float_is_infinite (from_bits (format_of float) n)) → ¬ (AllPass (λ b. not (nat_le 48 b && nat_le b 57)) text)
+    → ¬ (AreNanBits float n) → IsTrue (float_is_infinite (from_bits (format_of float) n)) → ¬ (HasNoDigit text)
     → (bits : ℕ) → ¬ (IsNumberText float text bits) × ¬ (IsNanWord float text bits)
 too_large_by_bits float text x n read (inl quiet) none infinite has_digit = absurd (none (subst (AreNanBits float) (sym quiet.1) (quiet_is_nan float)))
 too_large_by_bits float text x n read (inr number) none infinite has_digit =

@@ -13,8 +13,8 @@ use Rattle.float_core.specs.declared.float.FloatType.{FloatType}
 use Rattle.float_core.specs.declared.decoding.Spot.{Spot}
 use Rattle.float_core.specs.declared.decoding.Spot.TheVariants.{Records, Nowhere}
 use Rattle.float_core.specs.Encoded.{end_bytes}
-use Rattle.float_core.specs.Floats.{AreBits}
-use Rattle.float_core.specs.Decoded.{Writing, Shown, IsDecoded, IsNumberGiven, IsShownWith, AreShown, AreDigitsAt, is_digit, may_be_record, spot_behind, spot_behind_digits, shown_bytes, given_bytes}
+use Rattle.float_core.specs.Floats.{AreBits, is_digit}
+use Rattle.float_core.specs.Decoded.{Writing, Shown, IsDecoded, IsNumberGiven, IsShownWith, AreShown, AreDigitsAt, may_be_record, spot_behind, spot_behind_digits, shown_bytes, given_bytes}
 use Rattle.float_core.proofs.Bits.{within_64}
 
 -- a number of 64 bits that no float has, or what is none, stays

@@ -1,8 +1,8 @@
 -- What the definitions of texts and of lines allow and rule out, on small inputs.
-use Rattle.std.proofs.Common.{◌≡◌, ◌≢◌, ℕ, List, [], ◌∷◌, ◌++◌, codes, true, not, ◌&&◌, nat_le, Some, refl, ap, get_or, inl, inr, arith, IsTrue, is_nan, from_bits}
+use Rattle.std.proofs.Common.{◌≡◌, ◌≢◌, ℕ, List, [], ◌∷◌, ◌++◌, codes, true, not, Some, refl, ap, get_or, inl, inr, arith, IsTrue, is_nan, from_bits}
 use Rattle.std.specs.Float.{NotNan, float_is_infinite}
 use Rattle.std.specs.Float.Parse.{parse_float}
-use Rattle.std.specs.List.{AllPass, list_all}
+use Rattle.std.specs.List.{list_all}
 use Rattle.std.proofs.lemmas.List.Sums.{AllPass-from_list_all, list_all-from_AllPass}
 use Rattle.std.specs.Fmt.{digits}
 use lib.Ieee.{binary32, binary64, of_bits}
@@ -10,11 +10,11 @@ use Rattle.fast_float.proofs.OnLiterals.{fast_float_on_literals}
 use Rattle.float_core.specs.declared.float.FloatType.TheVariants.{F32, F64}
 use Rattle.float_core.specs.declared.encoding.FloatLines.TheVariants.{Steps}
 use Rattle.float_core.specs.declared.encoding.Place.TheVariants.{Verb, Number, Record}
-use Rattle.float_core.specs.Floats.{IsFloatText, IsNamedNan}
+use Rattle.float_core.specs.Floats.{IsFloatText, IsNamedNan, HasNoDigit, is_digit}
 use Rattle.float_core.specs.declared.decoding.Spot.{Spot}
 use Rattle.float_core.specs.declared.decoding.Spot.TheVariants.{Begin, Change, Event, Records}
 use Rattle.float_core.specs.Encoded.{IsEncoded, IsPlain, Reading, Turned, ends_word}
-use Rattle.float_core.specs.Decoded.{IsDecoded, Writing, Shown, AreDigitsAt, is_digit}
+use Rattle.float_core.specs.Decoded.{IsDecoded, Writing, Shown, AreDigitsAt}
 use Rattle.float_core.proofs.Bits.{is_nan_is, neither, too_large}
 
 -- ---- texts
@@ -47,8 +47,8 @@ infinity_is_number = tt
 too_large_for_f32 : (bits : ℕ) → ¬ (IsFloatText F32 (codes "1e39") bits)
 too_large_for_f32 bits = neither F32 (codes "1e39") bits (too_large F32 (codes "1e39") _ large_is_read infinity_is_number infinity_is has_digit bits) unnamed
   where
-    has_digit : AllPass (λ b. not (nat_le 48 b && nat_le b 57)) (codes "1e39") → ⊥
-    has_digit none = let all = list_all-from_AllPass (λ b. not (nat_le 48 b && nat_le b 57)) (codes "1e39") none in absurd cc
+    has_digit : HasNoDigit (codes "1e39") → ⊥
+    has_digit none = let all = list_all-from_AllPass (λ b. not (is_digit b)) (codes "1e39") none in absurd cc
 
     unnamed : ¬ (IsNamedNan F32 (codes "1e39") bits)
     unnamed is = omega (arith, ap (λ (text : List ℕ). get_or text 0 0) is.0)

@@ -1,11 +1,11 @@
 -- Lines of numbers as lines of the floats that have their bits, number by number.
-use Rattle.std.specs.Prelude.{◌≡◌, ◌≢◌, ◌⊎◌, ℕ, ◌≤◌, List, [], ◌∷◌, ◌++◌, length, decimal, Bool, cond, ◌==◌, ◌&&◌, nat_le, true, false, Option, Some, None}
+use Rattle.std.specs.Prelude.{◌≡◌, ◌≢◌, ◌⊎◌, ℕ, ◌≤◌, List, [], ◌∷◌, ◌++◌, length, decimal, Bool, cond, ◌==◌, ◌&&◌, true, false, Option, Some, None}
 use Rattle.std.specs.List.{AllPass, flat_map}
 use Rattle.float_core.specs.declared.float.FloatType.{FloatType}
 use Rattle.float_core.specs.declared.decoding.Spot.{Spot}
 use Rattle.float_core.specs.declared.decoding.Spot.TheVariants.{Begin, Change, Event, Records, Nowhere}
 use Rattle.float_core.specs.Encoded.{end_bytes}
-use Rattle.float_core.specs.Floats.{AreBits, IsFloatText}
+use Rattle.float_core.specs.Floats.{AreBits, IsFloatText, is_digit}
 
 -- what is known of an output behind some bytes of it: where its next records stand, and the digits of one that have come
 pub record Writing : Type 0 where
@@ -14,9 +14,6 @@ pub record Writing : Type 0 where
   pub digits : List ℕ
 
 -- ---- where records stand
-
-abbrev pub is_digit : ℕ → Bool
-is_digit b = nat_le 48 b && nat_le b 57
 
 -- a number here is a record
 abbrev pub may_be_record : Spot → Bool

@@ -1,5 +1,5 @@
 -- The texts of floats. A float is known by its bits: the number that has them.
-use Rattle.std.specs.Prelude.{◌≡◌, ℕ, ◌*◌, ◌<◌, List, ◌++◌, ◌⊎◌, Some, codes, decimal, not, ◌&&◌, IsTrue, IsFalse, is_nan, from_bits, nat_le}
+use Rattle.std.specs.Prelude.{◌≡◌, ℕ, ◌*◌, ◌<◌, List, ◌++◌, ◌⊎◌, Bool, Some, codes, decimal, not, ◌&&◌, IsTrue, IsFalse, is_nan, from_bits, nat_le}
 use Rattle.std.specs.List.{AllPass}
 use Rattle.std.specs.Float.{float_is_infinite}
 use Rattle.std.specs.Float.Ieee.{Format, binary32, binary64, nan, top}
@@ -16,6 +16,12 @@ abbrev pub quiet_nan : FloatType → ℕ
 quiet_nan F32 = 0x7fc0_0000
 quiet_nan F64 = 0x7ff8_0000_0000_0000
 
+abbrev pub is_digit : ℕ → Bool
+is_digit b = nat_le 48 b && nat_le b 57
+
+abbrev pub HasNoDigit : List ℕ → Type 0
+HasNoDigit text = AllPass (λ b. not (is_digit b)) text
+
 -- a float of the type has these bits
 abbrev pub AreBits : FloatType → ℕ → Type 0
 AreBits float bits = bits < 2 * top (format_of float)
@@ -29,7 +35,7 @@ pub record IsNumberText (float : FloatType) (text : List ℕ) (bits : ℕ) : Typ
   pub in_range : AreBits float bits
   pub number : IsFalse (is_nan (from_bits (format_of float) bits))
   pub nearest : parse_float (format_of float) text ≡ Some (from_bits (format_of float) bits)
-  pub word : IsTrue (float_is_infinite (from_bits (format_of float) bits)) → AllPass (λ b. not (nat_le 48 b && nat_le b 57)) text
+  pub word : IsTrue (float_is_infinite (from_bits (format_of float) bits)) → HasNoDigit text
 
 -- a word for a NaN, of which it says no more
 abbrev pub IsNanWord : FloatType → List ℕ → ℕ → Type 0

@@ -2,7 +2,8 @@
 
 ghost use Rattle.std.specs.Prelude.{◌≡◌, ◌≢◌, ◌++◌, ◌∷◌, ◌⊎◌, ◌&&◌, ℕ, List, [], true, false, OnOk};
 ghost use Rattle.std.specs.Io.KnownBytes.{Appends};
-ghost use Rattle.float_core.specs.Decoded.{is_digit, may_be_record, spot_behind, spot_behind_digits, AreDigitsAt, IsNumberGiven, IsDecoded};
+ghost use Rattle.float_core.specs.Floats.{is_digit};
+ghost use Rattle.float_core.specs.Decoded.{may_be_record, spot_behind, spot_behind_digits, AreDigitsAt, IsNumberGiven, IsDecoded};
 
 use crate::float::FloatType;
 use arrayvec::ArrayVec;
@@ -77,6 +78,7 @@ pub struct Decoder {
 }
 
 impl Model for Decoder {
+    ghost use Rattle.float_core.specs.Floats.{is_digit};
     ghost use Rattle.float_core.specs.Decoded.{Writing, AreDigitsAt};
 
     ghost Value = { Writing };

@@ -101,6 +101,7 @@ pub struct Encoder {
 }
 
 impl Model for Encoder {
+    ghost use Rattle.std.specs.Prelude.{◌≤◌, length};
     ghost use Rattle.float_core.specs.Encoded.{Reading, IsPlain};
 
     ghost Value = { Reading };
@@ -112,7 +113,7 @@ impl Model for Encoder {
       held = encoder.held.items;
     } };
 
-    ghost invariant = { λ encoder. IsPlain encoder.held.items };
+    ghost invariant = { λ encoder. IsPlain encoder.held.items × (length encoder.held.items ≤ 4096) };
 }
 
 impl Encoder {

@@ -7,7 +7,7 @@ ghost use Rattle.std.specs.Float.{float_is_infinite, NotNan};
 ghost use Rattle.std.specs.Float.Ieee as Ieee;
 ghost use Rattle.std.specs.Float.Ieee.{nan, top, ones, hid};
 ghost use Rattle.std.specs.Float.Parse.{parse_float};
-ghost use Rattle.float_core.specs.Floats.{format_of, quiet_nan, AreBits, AreNanBits, IsNamedNan, IsFloatText, IsNumberText, IsNanWord};
+ghost use Rattle.float_core.specs.Floats.{format_of, quiet_nan, is_digit, HasNoDigit, AreBits, AreNanBits, IsNamedNan, IsFloatText, IsNumberText, IsNanWord};
 
 use ryu::{Buffer, Float};
 use std::io::{self, Write};
@@ -18,7 +18,7 @@ const NAN: &[u8] = b"NaN:";
 
 /// Whether a digit is in it.
 fn has_digit(text: &[u8]) -> bool
-    ensures { IsFalse result ↔ AllPass (λ b. not (nat_le 48 b && nat_le b 57)) text.now }
+    ensures { IsFalse result ↔ HasNoDigit text.now }
 {
     text.iter().any(|b| b.is_ascii_digit())
 }
@@ -40,7 +40,7 @@ fn bits_of<F: Float>(text: &[u8], quiet_nan: u64) -> Option<u64>
 fn write_float<F: Float, W: Write>(x: F, writer: &mut W) -> io::Result<()>
     ensures { OnOk result ((text : List ℕ) × Appends (W.contents writer.old) (W.contents writer.new) text
         × (parse_float F.format text ≡ Some (F.value x))
-        × (IsTrue (float_is_infinite (F.value x)) → AllPass (λ b. not (nat_le 48 b && nat_le b 57)) text)) }
+        × (IsTrue (float_is_infinite (F.value x)) → HasNoDigit text)) }
 {
     writer.write_all(Buffer::new().format(x).as_bytes())
 }

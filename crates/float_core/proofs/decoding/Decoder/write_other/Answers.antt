@@ -1,6 +1,7 @@
 use Rattle.std.proofs.Common.{rules, ◌≡◌, ◌&&◌, ℕ, List, false, subst, ◌∷◌, ◌++◌, [], refl, sym}
 use Rattle.text_core.proofs.Known.{Appends_then}
-use Rattle.float_core.specs.Decoded.{Writing, IsNumberGiven, is_digit, may_be_record}
+use Rattle.float_core.specs.Decoded.{Writing, IsNumberGiven, may_be_record}
+use Rattle.float_core.specs.Floats.{is_digit}
 use Rattle.float_core.proofs.Decodes.{decoded_byte, decoded_number, empty_from}
 use Rattle.float_core.proofs.decoding.Decoder.write_other.Goals as goal
 
