@@ -547,6 +547,11 @@ commands_over_a_file_of_floats_do_their_work() (
     did '2\n'
     run find f64 "$t" --record=NaN
     did 'none\n'
+)
+
+commands_that_change_a_file_of_floats_do_their_work() (
+    t=$work/t.cv
+    a_float_file f64 '0.5 -2 1e300 0.1 inf 0.1 inf'
     run set f64 "$t" 1 --records=-0,NaN:9221120237041090561
     did 'ok\n'
     run list f64 "$t"
@@ -577,6 +582,25 @@ commands_over_a_file_of_floats_do_their_work() (
     did 'ok\n'
     run list f64 "$t"
     did ''
+)
+
+# Whether floats are to be turned doesn't hang on where TYPE stands.
+options_may_stand_before_the_type_of_floats() (
+    cd "$work"
+    a_float_file f64 '0.5 2 1e-9'
+    run list --from=1 f64 t.cv --count=1
+    did '2.0\n'
+    run find --record 2 f64 t.cv
+    did '1\n'
+    given '7\n'
+    run append --lenient f64 t.cv
+    did 'appended 1 growths, size 4\n'
+    run list --from 3 f64 t.cv
+    did '7.0\n'
+    # A file may have a type's name.
+    mv t.cv f64
+    run list u64 f64 --from=3
+    did '4619567317775286272\n'
 )
 
 # Those of f32 have four bytes, as u32 has, and those of f64 eight: a file has the width of its records.
