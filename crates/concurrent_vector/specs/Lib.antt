@@ -1,5 +1,6 @@
 pub use Rattle.record_core.specs.Bytes
 pub use Rattle.record_core.specs.Joined
+pub use Rattle.record_core.specs.ByteRecords
 pub use Rattle.record_core.specs.WritesBack
 pub use Rattle.directory_core.specs.Chain
 pub use Rattle.book_core.specs.Lists

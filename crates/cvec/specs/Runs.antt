@@ -3,7 +3,7 @@ use Rattle.std.specs.Prelude.{◌≡◌, ℕ, List, Option, Some, None, IfSome, 
 use Rattle.std.specs.Io.KnownBytes.{Appends, Keeps}
 use Rattle.std.specs.Int.{w8, w16, w32, w64}
 use Rattle.record_core.specs.Bytes.{Encoding, unsigned, signed, pair, flagged}
-use Rattle.record_core.specs.Joined.{bytes16, bytes24, bytes32, bytes64}
+use Rattle.record_core.specs.ByteRecords.{bytes16, bytes24, bytes32, bytes64}
 use Rattle.words_core.specs.declared.request.Task.{Task}
 use Rattle.words_core.specs.declared.request.Task.TheVariants.{Image, Show, Play}
 use Rattle.words_core.specs.declared.request.RecordType.{RecordType}

@@ -1,5 +1,4 @@
 pub mod Append
-pub mod ByteRecords
 pub mod Creates
 pub mod FrameTold
 pub mod HomesStand

@@ -4,8 +4,6 @@ use Rattle.std.proofs.Common.{◌≡◌, ℕ, zero, suc, ◌+◌, ◌^◌, ◌<�
 use Rattle.std.specs.Prelude.{slice_get}
 use Rattle.std.specs.Int.{w64, to_le_bytes}
 use Rattle.record_core.specs.Bytes.{Encoding, unsigned}
-use Rattle.record_core.specs.Joined.{Bytes16, Bytes24, Bytes32, Bytes64}
-use Rattle.record_core.specs.Joined as joined
 use Rattle.segment_core.specs.declared.fault.Cause.TheVariants as causes
 use Rattle.segment_core.specs.declared.fault.ScanFault.{ScanFault}
 use Rattle.segment_core.specs.declared.fault.ScanFault.TheVariants as faults
@@ -29,11 +27,6 @@ use Rattle.cvec_c.specs.declared.stat.CvecStat.{CvecStat}
 use Rattle.cvec_c.specs.declared.status.CvecFault.{CvecFault}
 use Rattle.cvec_c.specs.declared.status.CallStatus.{CallStatus}
 use Rattle.cvec_c.specs.declared.status.CallStatus.TheVariants as statuses
-use Rattle.cvec_c.specs.ByteRecords.{bytes16, bytes24, bytes32, bytes64}
-use Rattle.cvec_c.specs.declared.byte_records.CvecBytes16.{CvecBytes16}
-use Rattle.cvec_c.specs.declared.byte_records.CvecBytes24.{CvecBytes24}
-use Rattle.cvec_c.specs.declared.byte_records.CvecBytes32.{CvecBytes32}
-use Rattle.cvec_c.specs.declared.byte_records.CvecBytes64.{CvecBytes64}
 use Rattle.cvec_c.specs.Stat.{HasStat, IsScanToldOf}
 use Rattle.cvec_c.specs.Status.{code_of, status_of, fault_record}
 use Rattle.cvec_c.specs.Append.{first_status, append_lines, AppendsTo}
@@ -349,34 +342,3 @@ unborn = (faults.Unborn, inl refl, refl, refl)
 unborn_alone : (answer : ℕ) (fault : CvecFault) → IsScanToldOf numbers [] answer fault → answer ≡ 1
 unfolding header_lines
 unborn_alone answer fault is = elim is.1 [ inl first ↦ is.2 ∙ ap (λ (f : ScanFault). code_of (status_of f)) first | inr memory ↦ absurd (let none = memory.1 in cc) ]
-
--- ---- records of bytes: those of C stand in a file as those of record_core do
-
-abbrev as_16 : CvecBytes16 → Bytes16
-as_16 r = record { front = r.front; back = r.back }
-
-abbrev as_24 : CvecBytes24 → Bytes24
-as_24 r = record { front = as_16 r.front; back = r.back }
-
-abbrev as_32 : CvecBytes32 → Bytes32
-as_32 r = record { front = as_16 r.front; back = as_16 r.back }
-
-abbrev as_64 : CvecBytes64 → Bytes64
-as_64 r = record { front = as_32 r.front; back = as_32 r.back }
-
-same_16 : (r : CvecBytes16) → bytes16.bytes_of r ≡ joined.bytes16.bytes_of (as_16 r)
-same_16 r = refl
-
-same_24 : (r : CvecBytes24) → bytes24.bytes_of r ≡ joined.bytes24.bytes_of (as_24 r)
-same_24 r = refl
-
-same_32 : (r : CvecBytes32) → bytes32.bytes_of r ≡ joined.bytes32.bytes_of (as_32 r)
-same_32 r = refl
-
-same_64 : (r : CvecBytes64) → bytes64.bytes_of r ≡ joined.bytes64.bytes_of (as_64 r)
-same_64 r = refl
-
--- the words of a record, each with its lowest byte first, from its front on
-in_order : bytes24.bytes_of (record { front = record { front = 1; back = 2 ^ 63 }; back = 258 })
-    ≡ 1 ∷ 0 ∷ 0 ∷ 0 ∷ 0 ∷ 0 ∷ 0 ∷ 0 ∷ 0 ∷ 0 ∷ 0 ∷ 0 ∷ 0 ∷ 0 ∷ 0 ∷ 128 ∷ 2 ∷ 1 ∷ 0 ∷ 0 ∷ 0 ∷ 0 ∷ 0 ∷ 0 ∷ []
-in_order = refl

@@ -1,4 +1,3 @@
-pub mod ByteRecords
 pub mod Status
 pub mod Stat
 pub mod Reading

@@ -9,12 +9,14 @@ ghost use Rattle.segment_core.specs.Frame.{frame_text};
 ghost use Rattle.segment_core.specs.Written.{group_frame};
 ghost use Rattle.cvec_c.specs.Status.{code_of};
 ghost use Rattle.cvec_c.specs.Append.{first_status, append_lines, append_len, AppendsTo};
-ghost use Rattle.cvec_c.specs.ByteRecords.{bytes16, bytes24, bytes32, bytes64};
+ghost use Rattle.record_core.specs.ByteRecords.{bytes16, bytes24, bytes32, bytes64};
 
-use crate::byte_records::{CvecBytes16, CvecBytes24, CvecBytes32, CvecBytes64};
 use crate::stat::CvecStat;
 use crate::status::CallStatus;
-use record_core::{Flagged, GROWTH_HEAD_LEN, Pair, RECORD_LIMIT, Record, width_of};
+use record_core::{
+    Bytes16, Bytes24, Bytes32, Bytes64, Flagged, GROWTH_HEAD_LEN, Pair, RECORD_LIMIT, Record,
+    width_of,
+};
 use segment_core::{CLOSED_GATE, FRAME_HEAD_LEN, Format, GATE_LIMIT, append_group};
 use std::alloc::{AllocError, Global};
 
@@ -241,7 +243,7 @@ pub extern "C" fn cvec_append_flagged(
 pub extern "C" fn cvec_append_bytes16(
     alloc: Global,
     stat: &CvecStat,
-    records: &[CvecBytes16],
+    records: &[Bytes16],
     out: &mut [u8],
     next: &mut CvecStat,
 ) -> u32
@@ -252,7 +254,7 @@ pub extern "C" fn cvec_append_bytes16(
     ensures rest { drop (append_len 16 (length records.now)) out.new ≡ drop (append_len 16 (length records.now)) out.old }
     ensures refused { result ≢ 0 → (out.new ≡ out.old) × (next.new ≡ next.old) }
 {
-    append::<CvecBytes16>(alloc, stat, records, out, next)
+    append::<Bytes16>(alloc, stat, records, out, next)
 }
 
 /// Appends records of bytes24, as `append` says.
@@ -260,7 +262,7 @@ pub extern "C" fn cvec_append_bytes16(
 pub extern "C" fn cvec_append_bytes24(
     alloc: Global,
     stat: &CvecStat,
-    records: &[CvecBytes24],
+    records: &[Bytes24],
     out: &mut [u8],
     next: &mut CvecStat,
 ) -> u32
@@ -271,7 +273,7 @@ pub extern "C" fn cvec_append_bytes24(
     ensures rest { drop (append_len 24 (length records.now)) out.new ≡ drop (append_len 24 (length records.now)) out.old }
     ensures refused { result ≢ 0 → (out.new ≡ out.old) × (next.new ≡ next.old) }
 {
-    append::<CvecBytes24>(alloc, stat, records, out, next)
+    append::<Bytes24>(alloc, stat, records, out, next)
 }
 
 /// Appends records of bytes32, as `append` says.
@@ -279,7 +281,7 @@ pub extern "C" fn cvec_append_bytes24(
 pub extern "C" fn cvec_append_bytes32(
     alloc: Global,
     stat: &CvecStat,
-    records: &[CvecBytes32],
+    records: &[Bytes32],
     out: &mut [u8],
     next: &mut CvecStat,
 ) -> u32
@@ -290,7 +292,7 @@ pub extern "C" fn cvec_append_bytes32(
     ensures rest { drop (append_len 32 (length records.now)) out.new ≡ drop (append_len 32 (length records.now)) out.old }
     ensures refused { result ≢ 0 → (out.new ≡ out.old) × (next.new ≡ next.old) }
 {
-    append::<CvecBytes32>(alloc, stat, records, out, next)
+    append::<Bytes32>(alloc, stat, records, out, next)
 }
 
 /// Appends records of bytes64, as `append` says.
@@ -298,7 +300,7 @@ pub extern "C" fn cvec_append_bytes32(
 pub extern "C" fn cvec_append_bytes64(
     alloc: Global,
     stat: &CvecStat,
-    records: &[CvecBytes64],
+    records: &[Bytes64],
     out: &mut [u8],
     next: &mut CvecStat,
 ) -> u32
@@ -309,5 +311,5 @@ pub extern "C" fn cvec_append_bytes64(
     ensures rest { drop (append_len 64 (length records.now)) out.new ≡ drop (append_len 64 (length records.now)) out.old }
     ensures refused { result ≢ 0 → (out.new ≡ out.old) × (next.new ≡ next.old) }
 {
-    append::<CvecBytes64>(alloc, stat, records, out, next)
+    append::<Bytes64>(alloc, stat, records, out, next)
 }

@@ -7,16 +7,15 @@ ghost use Rattle.segment_core.specs.Fault.{IsRefused};
 ghost use Rattle.cvec_c.specs.Stat.{HasStat, IsScanToldOf};
 ghost use Rattle.record_core.specs.declared.key_value.Pair.{Pair};
 ghost use Rattle.record_core.specs.declared.key_flag.Flagged.{Flagged};
-ghost use Rattle.cvec_c.specs.ByteRecords.{bytes16, bytes24, bytes32, bytes64};
-ghost use Rattle.cvec_c.specs.declared.byte_records.CvecBytes16.{CvecBytes16};
-ghost use Rattle.cvec_c.specs.declared.byte_records.CvecBytes24.{CvecBytes24};
-ghost use Rattle.cvec_c.specs.declared.byte_records.CvecBytes32.{CvecBytes32};
-ghost use Rattle.cvec_c.specs.declared.byte_records.CvecBytes64.{CvecBytes64};
+ghost use Rattle.record_core.specs.ByteRecords.{bytes16, bytes24, bytes32, bytes64};
+ghost use Rattle.record_core.specs.declared.byte_records.Bytes16.{Bytes16};
+ghost use Rattle.record_core.specs.declared.byte_records.Bytes24.{Bytes24};
+ghost use Rattle.record_core.specs.declared.byte_records.Bytes32.{Bytes32};
+ghost use Rattle.record_core.specs.declared.byte_records.Bytes64.{Bytes64};
 
-use crate::byte_records::{CvecBytes16, CvecBytes24, CvecBytes32, CvecBytes64};
 use crate::stat::CvecStat;
 use crate::status::{CallStatus, CvecFault};
-use record_core::{Flagged, Pair, Record};
+use record_core::{Bytes16, Bytes24, Bytes32, Bytes64, Flagged, Pair, Record};
 use segment_core::{ScanFault, scan};
 use std::alloc::Global;
 
@@ -153,10 +152,10 @@ pub extern "C" fn cvec_check_bytes16(
     stat: &mut CvecStat,
     fault: &mut CvecFault,
 ) -> u32
-    ensures done { result ≡ 0 → ((records : List CvecBytes16) × HasStat bytes16 image.now records stat.new) × (fault.new ≡ fault.old) }
+    ensures done { result ≡ 0 → ((records : List Bytes16) × HasStat bytes16 image.now records stat.new) × (fault.new ≡ fault.old) }
     ensures refused { result ≢ 0 → IsScanToldOf bytes16 image.now result fault.new × (stat.new ≡ stat.old) }
 {
-    check::<CvecBytes16>(alloc, image, stat, fault)
+    check::<Bytes16>(alloc, image, stat, fault)
 }
 
 /// Checks an image of bytes24, as `check` says.
@@ -167,10 +166,10 @@ pub extern "C" fn cvec_check_bytes24(
     stat: &mut CvecStat,
     fault: &mut CvecFault,
 ) -> u32
-    ensures done { result ≡ 0 → ((records : List CvecBytes24) × HasStat bytes24 image.now records stat.new) × (fault.new ≡ fault.old) }
+    ensures done { result ≡ 0 → ((records : List Bytes24) × HasStat bytes24 image.now records stat.new) × (fault.new ≡ fault.old) }
     ensures refused { result ≢ 0 → IsScanToldOf bytes24 image.now result fault.new × (stat.new ≡ stat.old) }
 {
-    check::<CvecBytes24>(alloc, image, stat, fault)
+    check::<Bytes24>(alloc, image, stat, fault)
 }
 
 /// Checks an image of bytes32, as `check` says.
@@ -181,10 +180,10 @@ pub extern "C" fn cvec_check_bytes32(
     stat: &mut CvecStat,
     fault: &mut CvecFault,
 ) -> u32
-    ensures done { result ≡ 0 → ((records : List CvecBytes32) × HasStat bytes32 image.now records stat.new) × (fault.new ≡ fault.old) }
+    ensures done { result ≡ 0 → ((records : List Bytes32) × HasStat bytes32 image.now records stat.new) × (fault.new ≡ fault.old) }
     ensures refused { result ≢ 0 → IsScanToldOf bytes32 image.now result fault.new × (stat.new ≡ stat.old) }
 {
-    check::<CvecBytes32>(alloc, image, stat, fault)
+    check::<Bytes32>(alloc, image, stat, fault)
 }
 
 /// Checks an image of bytes64, as `check` says.
@@ -195,8 +194,8 @@ pub extern "C" fn cvec_check_bytes64(
     stat: &mut CvecStat,
     fault: &mut CvecFault,
 ) -> u32
-    ensures done { result ≡ 0 → ((records : List CvecBytes64) × HasStat bytes64 image.now records stat.new) × (fault.new ≡ fault.old) }
+    ensures done { result ≡ 0 → ((records : List Bytes64) × HasStat bytes64 image.now records stat.new) × (fault.new ≡ fault.old) }
     ensures refused { result ≢ 0 → IsScanToldOf bytes64 image.now result fault.new × (stat.new ≡ stat.old) }
 {
-    check::<CvecBytes64>(alloc, image, stat, fault)
+    check::<Bytes64>(alloc, image, stat, fault)
 }

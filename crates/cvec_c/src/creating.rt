@@ -6,12 +6,11 @@ ghost use Rattle.record_core.specs.Bytes.{unsigned, signed, pair, flagged};
 ghost use Rattle.cvec_c.specs.Status.{code_of};
 ghost use Rattle.cvec_c.specs.Append.{first_status};
 ghost use Rattle.cvec_c.specs.Empty.{empty_lines, Creates};
-ghost use Rattle.cvec_c.specs.ByteRecords.{bytes16, bytes24, bytes32, bytes64};
+ghost use Rattle.record_core.specs.ByteRecords.{bytes16, bytes24, bytes32, bytes64};
 
-use crate::byte_records::{CvecBytes16, CvecBytes24, CvecBytes32, CvecBytes64};
 use crate::stat::CvecStat;
 use crate::status::CallStatus;
-use record_core::{Flagged, Pair, Record, width_of};
+use record_core::{Bytes16, Bytes24, Bytes32, Bytes64, Flagged, Pair, Record, width_of};
 use segment_core::{EMPTY_FILE_LEN, Format, HEADER_LEN, empty_file};
 
 /// Answers 0, and writes an empty file of this version over the front of `out`; `stat` is what is told of it. Else it
@@ -127,7 +126,7 @@ pub extern "C" fn cvec_empty_bytes16(version: u8, out: &mut [u8], stat: &mut Cve
     ensures rest { drop 12 out.new ≡ drop 12 out.old }
     ensures refused { result ≢ 0 → (out.new ≡ out.old) × (stat.new ≡ stat.old) }
 {
-    empty::<CvecBytes16>(version, out, stat)
+    empty::<Bytes16>(version, out, stat)
 }
 
 /// Makes a file of bytes24, as `empty` says.
@@ -138,7 +137,7 @@ pub extern "C" fn cvec_empty_bytes24(version: u8, out: &mut [u8], stat: &mut Cve
     ensures rest { drop 12 out.new ≡ drop 12 out.old }
     ensures refused { result ≢ 0 → (out.new ≡ out.old) × (stat.new ≡ stat.old) }
 {
-    empty::<CvecBytes24>(version, out, stat)
+    empty::<Bytes24>(version, out, stat)
 }
 
 /// Makes a file of bytes32, as `empty` says.
@@ -149,7 +148,7 @@ pub extern "C" fn cvec_empty_bytes32(version: u8, out: &mut [u8], stat: &mut Cve
     ensures rest { drop 12 out.new ≡ drop 12 out.old }
     ensures refused { result ≢ 0 → (out.new ≡ out.old) × (stat.new ≡ stat.old) }
 {
-    empty::<CvecBytes32>(version, out, stat)
+    empty::<Bytes32>(version, out, stat)
 }
 
 /// Makes a file of bytes64, as `empty` says.
@@ -160,5 +159,5 @@ pub extern "C" fn cvec_empty_bytes64(version: u8, out: &mut [u8], stat: &mut Cve
     ensures rest { drop 12 out.new ≡ drop 12 out.old }
     ensures refused { result ≢ 0 → (out.new ≡ out.old) × (stat.new ≡ stat.old) }
 {
-    empty::<CvecBytes64>(version, out, stat)
+    empty::<Bytes64>(version, out, stat)
 }

@@ -10,16 +10,15 @@ ghost use Rattle.record_core.specs.declared.key_flag.Flagged.{Flagged};
 ghost use Rattle.cvec_c.specs.declared.stat.CvecStat.{CvecStat};
 ghost use Rattle.cvec_c.specs.Stat.{IsScanToldOf};
 ghost use Rattle.cvec_c.specs.Homes.{HasHomes, as_homes};
-ghost use Rattle.cvec_c.specs.ByteRecords.{bytes16, bytes24, bytes32, bytes64};
-ghost use Rattle.cvec_c.specs.declared.byte_records.CvecBytes16.{CvecBytes16};
-ghost use Rattle.cvec_c.specs.declared.byte_records.CvecBytes24.{CvecBytes24};
-ghost use Rattle.cvec_c.specs.declared.byte_records.CvecBytes32.{CvecBytes32};
-ghost use Rattle.cvec_c.specs.declared.byte_records.CvecBytes64.{CvecBytes64};
+ghost use Rattle.record_core.specs.ByteRecords.{bytes16, bytes24, bytes32, bytes64};
+ghost use Rattle.record_core.specs.declared.byte_records.Bytes16.{Bytes16};
+ghost use Rattle.record_core.specs.declared.byte_records.Bytes24.{Bytes24};
+ghost use Rattle.record_core.specs.declared.byte_records.Bytes32.{Bytes32};
+ghost use Rattle.record_core.specs.declared.byte_records.Bytes64.{Bytes64};
 
-use crate::byte_records::{CvecBytes16, CvecBytes24, CvecBytes32, CvecBytes64};
 use crate::stat::CvecStat;
 use crate::status::{CallStatus, CvecFault};
-use record_core::{Flagged, Pair, Record};
+use record_core::{Bytes16, Bytes24, Bytes32, Bytes64, Flagged, Pair, Record};
 use segment_core::{Home, ScanFault, Scanner};
 use std::alloc::Global;
 
@@ -231,12 +230,12 @@ pub extern "C" fn cvec_homes_bytes16(
     stat: &mut CvecStat,
     fault: &mut CvecFault,
 ) -> u32
-    ensures done { result ≡ 0 → ((records : List CvecBytes16) × HasHomes bytes16 image.now records stat.new (as_homes (take count.new out.new))) × (fault.new ≡ fault.old) }
-    ensures no_room { result ≡ 11 → (length out.old < count.new) × ((records : List CvecBytes16) × (holds : CvecStat) × (homes : List Home) × HasHomes bytes16 image.now records holds homes × (count.new ≡ length homes)) }
+    ensures done { result ≡ 0 → ((records : List Bytes16) × HasHomes bytes16 image.now records stat.new (as_homes (take count.new out.new))) × (fault.new ≡ fault.old) }
+    ensures no_room { result ≡ 11 → (length out.old < count.new) × ((records : List Bytes16) × (holds : CvecStat) × (homes : List Home) × HasHomes bytes16 image.now records holds homes × (count.new ≡ length homes)) }
     ensures unchanged { result ≡ 11 → (out.new ≡ out.old) × (stat.new ≡ stat.old) × (fault.new ≡ fault.old) }
     ensures refused { result ≢ 0 → result ≢ 11 → IsScanToldOf bytes16 image.now result fault.new × (out.new ≡ out.old) × (count.new ≡ count.old) × (stat.new ≡ stat.old) }
 {
-    homes::<CvecBytes16>(alloc, image, out, count, stat, fault)
+    homes::<Bytes16>(alloc, image, out, count, stat, fault)
 }
 
 /// Tells where the records of an image of bytes24 stand, as `homes` says.
@@ -249,12 +248,12 @@ pub extern "C" fn cvec_homes_bytes24(
     stat: &mut CvecStat,
     fault: &mut CvecFault,
 ) -> u32
-    ensures done { result ≡ 0 → ((records : List CvecBytes24) × HasHomes bytes24 image.now records stat.new (as_homes (take count.new out.new))) × (fault.new ≡ fault.old) }
-    ensures no_room { result ≡ 11 → (length out.old < count.new) × ((records : List CvecBytes24) × (holds : CvecStat) × (homes : List Home) × HasHomes bytes24 image.now records holds homes × (count.new ≡ length homes)) }
+    ensures done { result ≡ 0 → ((records : List Bytes24) × HasHomes bytes24 image.now records stat.new (as_homes (take count.new out.new))) × (fault.new ≡ fault.old) }
+    ensures no_room { result ≡ 11 → (length out.old < count.new) × ((records : List Bytes24) × (holds : CvecStat) × (homes : List Home) × HasHomes bytes24 image.now records holds homes × (count.new ≡ length homes)) }
     ensures unchanged { result ≡ 11 → (out.new ≡ out.old) × (stat.new ≡ stat.old) × (fault.new ≡ fault.old) }
     ensures refused { result ≢ 0 → result ≢ 11 → IsScanToldOf bytes24 image.now result fault.new × (out.new ≡ out.old) × (count.new ≡ count.old) × (stat.new ≡ stat.old) }
 {
-    homes::<CvecBytes24>(alloc, image, out, count, stat, fault)
+    homes::<Bytes24>(alloc, image, out, count, stat, fault)
 }
 
 /// Tells where the records of an image of bytes32 stand, as `homes` says.
@@ -267,12 +266,12 @@ pub extern "C" fn cvec_homes_bytes32(
     stat: &mut CvecStat,
     fault: &mut CvecFault,
 ) -> u32
-    ensures done { result ≡ 0 → ((records : List CvecBytes32) × HasHomes bytes32 image.now records stat.new (as_homes (take count.new out.new))) × (fault.new ≡ fault.old) }
-    ensures no_room { result ≡ 11 → (length out.old < count.new) × ((records : List CvecBytes32) × (holds : CvecStat) × (homes : List Home) × HasHomes bytes32 image.now records holds homes × (count.new ≡ length homes)) }
+    ensures done { result ≡ 0 → ((records : List Bytes32) × HasHomes bytes32 image.now records stat.new (as_homes (take count.new out.new))) × (fault.new ≡ fault.old) }
+    ensures no_room { result ≡ 11 → (length out.old < count.new) × ((records : List Bytes32) × (holds : CvecStat) × (homes : List Home) × HasHomes bytes32 image.now records holds homes × (count.new ≡ length homes)) }
     ensures unchanged { result ≡ 11 → (out.new ≡ out.old) × (stat.new ≡ stat.old) × (fault.new ≡ fault.old) }
     ensures refused { result ≢ 0 → result ≢ 11 → IsScanToldOf bytes32 image.now result fault.new × (out.new ≡ out.old) × (count.new ≡ count.old) × (stat.new ≡ stat.old) }
 {
-    homes::<CvecBytes32>(alloc, image, out, count, stat, fault)
+    homes::<Bytes32>(alloc, image, out, count, stat, fault)
 }
 
 /// Tells where the records of an image of bytes64 stand, as `homes` says.
@@ -285,10 +284,10 @@ pub extern "C" fn cvec_homes_bytes64(
     stat: &mut CvecStat,
     fault: &mut CvecFault,
 ) -> u32
-    ensures done { result ≡ 0 → ((records : List CvecBytes64) × HasHomes bytes64 image.now records stat.new (as_homes (take count.new out.new))) × (fault.new ≡ fault.old) }
-    ensures no_room { result ≡ 11 → (length out.old < count.new) × ((records : List CvecBytes64) × (holds : CvecStat) × (homes : List Home) × HasHomes bytes64 image.now records holds homes × (count.new ≡ length homes)) }
+    ensures done { result ≡ 0 → ((records : List Bytes64) × HasHomes bytes64 image.now records stat.new (as_homes (take count.new out.new))) × (fault.new ≡ fault.old) }
+    ensures no_room { result ≡ 11 → (length out.old < count.new) × ((records : List Bytes64) × (holds : CvecStat) × (homes : List Home) × HasHomes bytes64 image.now records holds homes × (count.new ≡ length homes)) }
     ensures unchanged { result ≡ 11 → (out.new ≡ out.old) × (stat.new ≡ stat.old) × (fault.new ≡ fault.old) }
     ensures refused { result ≢ 0 → result ≢ 11 → IsScanToldOf bytes64 image.now result fault.new × (out.new ≡ out.old) × (count.new ≡ count.old) × (stat.new ≡ stat.old) }
 {
-    homes::<CvecBytes64>(alloc, image, out, count, stat, fault)
+    homes::<Bytes64>(alloc, image, out, count, stat, fault)
 }

@@ -8,7 +8,6 @@
 #![tactic(auto)]
 
 mod appending;
-mod byte_records;
 mod checking;
 mod creating;
 mod frame;

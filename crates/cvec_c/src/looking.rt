@@ -7,18 +7,17 @@ ghost use Rattle.cvec_c.specs.Look.{HasShown, IsLookToldOf};
 ghost use Rattle.cvec_c.specs.Reading.{AreCopied};
 ghost use Rattle.record_core.specs.declared.key_value.Pair.{Pair};
 ghost use Rattle.record_core.specs.declared.key_flag.Flagged.{Flagged};
-ghost use Rattle.cvec_c.specs.ByteRecords.{bytes16, bytes24, bytes32, bytes64};
-ghost use Rattle.cvec_c.specs.declared.byte_records.CvecBytes16.{CvecBytes16};
-ghost use Rattle.cvec_c.specs.declared.byte_records.CvecBytes24.{CvecBytes24};
-ghost use Rattle.cvec_c.specs.declared.byte_records.CvecBytes32.{CvecBytes32};
-ghost use Rattle.cvec_c.specs.declared.byte_records.CvecBytes64.{CvecBytes64};
+ghost use Rattle.record_core.specs.ByteRecords.{bytes16, bytes24, bytes32, bytes64};
+ghost use Rattle.record_core.specs.declared.byte_records.Bytes16.{Bytes16};
+ghost use Rattle.record_core.specs.declared.byte_records.Bytes24.{Bytes24};
+ghost use Rattle.record_core.specs.declared.byte_records.Bytes32.{Bytes32};
+ghost use Rattle.record_core.specs.declared.byte_records.Bytes64.{Bytes64};
 
-use crate::byte_records::{CvecBytes16, CvecBytes24, CvecBytes32, CvecBytes64};
 use crate::reading::copy_from;
 use crate::stat::CvecStat;
 use crate::status::{CallStatus, CvecFault};
 use beside_core::records_seen;
-use record_core::{Flagged, Pair, Record};
+use record_core::{Bytes16, Bytes24, Bytes32, Bytes64, Flagged, Pair, Record};
 use std::alloc::Global;
 
 /// Answers 0 where the bytes of a file show a vector, from its first one on, and copies its records from position `from` on
@@ -175,15 +174,15 @@ pub extern "C" fn cvec_look_bytes16(
     alloc: Global,
     bytes: &[u8],
     from: u64,
-    out: &mut [CvecBytes16],
+    out: &mut [Bytes16],
     count: &mut u64,
     stat: &mut CvecStat,
     fault: &mut CvecFault,
 ) -> u32
-    ensures done { result ≡ 0 → ((records : List CvecBytes16) × HasShown bytes16 bytes.now records stat.new × AreCopied records from out.old out.new count.new) × (fault.new ≡ fault.old) }
+    ensures done { result ≡ 0 → ((records : List Bytes16) × HasShown bytes16 bytes.now records stat.new × AreCopied records from out.old out.new count.new) × (fault.new ≡ fault.old) }
     ensures refused { result ≢ 0 → IsLookToldOf bytes16 bytes.now result fault.new × (out.new ≡ out.old) × (count.new ≡ count.old) × (stat.new ≡ stat.old) }
 {
-    look::<CvecBytes16>(alloc, bytes, from, out, count, stat, fault)
+    look::<Bytes16>(alloc, bytes, from, out, count, stat, fault)
 }
 
 /// Copies records of bytes24 out of the bytes of a file, as `look` says.
@@ -192,15 +191,15 @@ pub extern "C" fn cvec_look_bytes24(
     alloc: Global,
     bytes: &[u8],
     from: u64,
-    out: &mut [CvecBytes24],
+    out: &mut [Bytes24],
     count: &mut u64,
     stat: &mut CvecStat,
     fault: &mut CvecFault,
 ) -> u32
-    ensures done { result ≡ 0 → ((records : List CvecBytes24) × HasShown bytes24 bytes.now records stat.new × AreCopied records from out.old out.new count.new) × (fault.new ≡ fault.old) }
+    ensures done { result ≡ 0 → ((records : List Bytes24) × HasShown bytes24 bytes.now records stat.new × AreCopied records from out.old out.new count.new) × (fault.new ≡ fault.old) }
     ensures refused { result ≢ 0 → IsLookToldOf bytes24 bytes.now result fault.new × (out.new ≡ out.old) × (count.new ≡ count.old) × (stat.new ≡ stat.old) }
 {
-    look::<CvecBytes24>(alloc, bytes, from, out, count, stat, fault)
+    look::<Bytes24>(alloc, bytes, from, out, count, stat, fault)
 }
 
 /// Copies records of bytes32 out of the bytes of a file, as `look` says.
@@ -209,15 +208,15 @@ pub extern "C" fn cvec_look_bytes32(
     alloc: Global,
     bytes: &[u8],
     from: u64,
-    out: &mut [CvecBytes32],
+    out: &mut [Bytes32],
     count: &mut u64,
     stat: &mut CvecStat,
     fault: &mut CvecFault,
 ) -> u32
-    ensures done { result ≡ 0 → ((records : List CvecBytes32) × HasShown bytes32 bytes.now records stat.new × AreCopied records from out.old out.new count.new) × (fault.new ≡ fault.old) }
+    ensures done { result ≡ 0 → ((records : List Bytes32) × HasShown bytes32 bytes.now records stat.new × AreCopied records from out.old out.new count.new) × (fault.new ≡ fault.old) }
     ensures refused { result ≢ 0 → IsLookToldOf bytes32 bytes.now result fault.new × (out.new ≡ out.old) × (count.new ≡ count.old) × (stat.new ≡ stat.old) }
 {
-    look::<CvecBytes32>(alloc, bytes, from, out, count, stat, fault)
+    look::<Bytes32>(alloc, bytes, from, out, count, stat, fault)
 }
 
 /// Copies records of bytes64 out of the bytes of a file, as `look` says.
@@ -226,13 +225,13 @@ pub extern "C" fn cvec_look_bytes64(
     alloc: Global,
     bytes: &[u8],
     from: u64,
-    out: &mut [CvecBytes64],
+    out: &mut [Bytes64],
     count: &mut u64,
     stat: &mut CvecStat,
     fault: &mut CvecFault,
 ) -> u32
-    ensures done { result ≡ 0 → ((records : List CvecBytes64) × HasShown bytes64 bytes.now records stat.new × AreCopied records from out.old out.new count.new) × (fault.new ≡ fault.old) }
+    ensures done { result ≡ 0 → ((records : List Bytes64) × HasShown bytes64 bytes.now records stat.new × AreCopied records from out.old out.new count.new) × (fault.new ≡ fault.old) }
     ensures refused { result ≢ 0 → IsLookToldOf bytes64 bytes.now result fault.new × (out.new ≡ out.old) × (count.new ≡ count.old) × (stat.new ≡ stat.old) }
 {
-    look::<CvecBytes64>(alloc, bytes, from, out, count, stat, fault)
+    look::<Bytes64>(alloc, bytes, from, out, count, stat, fault)
 }

@@ -7,15 +7,14 @@ ghost use Rattle.cvec_c.specs.Stat.{HasRecords, IsScanToldOf};
 ghost use Rattle.cvec_c.specs.Reading.{AreCopied};
 ghost use Rattle.record_core.specs.declared.key_value.Pair.{Pair};
 ghost use Rattle.record_core.specs.declared.key_flag.Flagged.{Flagged};
-ghost use Rattle.cvec_c.specs.ByteRecords.{bytes16, bytes24, bytes32, bytes64};
-ghost use Rattle.cvec_c.specs.declared.byte_records.CvecBytes16.{CvecBytes16};
-ghost use Rattle.cvec_c.specs.declared.byte_records.CvecBytes24.{CvecBytes24};
-ghost use Rattle.cvec_c.specs.declared.byte_records.CvecBytes32.{CvecBytes32};
-ghost use Rattle.cvec_c.specs.declared.byte_records.CvecBytes64.{CvecBytes64};
+ghost use Rattle.record_core.specs.ByteRecords.{bytes16, bytes24, bytes32, bytes64};
+ghost use Rattle.record_core.specs.declared.byte_records.Bytes16.{Bytes16};
+ghost use Rattle.record_core.specs.declared.byte_records.Bytes24.{Bytes24};
+ghost use Rattle.record_core.specs.declared.byte_records.Bytes32.{Bytes32};
+ghost use Rattle.record_core.specs.declared.byte_records.Bytes64.{Bytes64};
 
-use crate::byte_records::{CvecBytes16, CvecBytes24, CvecBytes32, CvecBytes64};
 use crate::status::{CallStatus, CvecFault};
-use record_core::{Flagged, Pair, Record};
+use record_core::{Bytes16, Bytes24, Bytes32, Bytes64, Flagged, Pair, Record};
 use segment_core::scan;
 use std::alloc::Global;
 
@@ -175,14 +174,14 @@ pub extern "C" fn cvec_read_bytes16(
     alloc: Global,
     image: &[u8],
     from: u64,
-    out: &mut [CvecBytes16],
+    out: &mut [Bytes16],
     count: &mut u64,
     fault: &mut CvecFault,
 ) -> u32
-    ensures done { result ≡ 0 → ((records : List CvecBytes16) × HasRecords bytes16 image.now records × AreCopied records from out.old out.new count.new) × (fault.new ≡ fault.old) }
+    ensures done { result ≡ 0 → ((records : List Bytes16) × HasRecords bytes16 image.now records × AreCopied records from out.old out.new count.new) × (fault.new ≡ fault.old) }
     ensures refused { result ≢ 0 → IsScanToldOf bytes16 image.now result fault.new × (out.new ≡ out.old) × (count.new ≡ count.old) }
 {
-    read::<CvecBytes16>(alloc, image, from, out, count, fault)
+    read::<Bytes16>(alloc, image, from, out, count, fault)
 }
 
 /// Copies records of bytes24 out of an image, as `read` says.
@@ -191,14 +190,14 @@ pub extern "C" fn cvec_read_bytes24(
     alloc: Global,
     image: &[u8],
     from: u64,
-    out: &mut [CvecBytes24],
+    out: &mut [Bytes24],
     count: &mut u64,
     fault: &mut CvecFault,
 ) -> u32
-    ensures done { result ≡ 0 → ((records : List CvecBytes24) × HasRecords bytes24 image.now records × AreCopied records from out.old out.new count.new) × (fault.new ≡ fault.old) }
+    ensures done { result ≡ 0 → ((records : List Bytes24) × HasRecords bytes24 image.now records × AreCopied records from out.old out.new count.new) × (fault.new ≡ fault.old) }
     ensures refused { result ≢ 0 → IsScanToldOf bytes24 image.now result fault.new × (out.new ≡ out.old) × (count.new ≡ count.old) }
 {
-    read::<CvecBytes24>(alloc, image, from, out, count, fault)
+    read::<Bytes24>(alloc, image, from, out, count, fault)
 }
 
 /// Copies records of bytes32 out of an image, as `read` says.
@@ -207,14 +206,14 @@ pub extern "C" fn cvec_read_bytes32(
     alloc: Global,
     image: &[u8],
     from: u64,
-    out: &mut [CvecBytes32],
+    out: &mut [Bytes32],
     count: &mut u64,
     fault: &mut CvecFault,
 ) -> u32
-    ensures done { result ≡ 0 → ((records : List CvecBytes32) × HasRecords bytes32 image.now records × AreCopied records from out.old out.new count.new) × (fault.new ≡ fault.old) }
+    ensures done { result ≡ 0 → ((records : List Bytes32) × HasRecords bytes32 image.now records × AreCopied records from out.old out.new count.new) × (fault.new ≡ fault.old) }
     ensures refused { result ≢ 0 → IsScanToldOf bytes32 image.now result fault.new × (out.new ≡ out.old) × (count.new ≡ count.old) }
 {
-    read::<CvecBytes32>(alloc, image, from, out, count, fault)
+    read::<Bytes32>(alloc, image, from, out, count, fault)
 }
 
 /// Copies records of bytes64 out of an image, as `read` says.
@@ -223,12 +222,12 @@ pub extern "C" fn cvec_read_bytes64(
     alloc: Global,
     image: &[u8],
     from: u64,
-    out: &mut [CvecBytes64],
+    out: &mut [Bytes64],
     count: &mut u64,
     fault: &mut CvecFault,
 ) -> u32
-    ensures done { result ≡ 0 → ((records : List CvecBytes64) × HasRecords bytes64 image.now records × AreCopied records from out.old out.new count.new) × (fault.new ≡ fault.old) }
+    ensures done { result ≡ 0 → ((records : List Bytes64) × HasRecords bytes64 image.now records × AreCopied records from out.old out.new count.new) × (fault.new ≡ fault.old) }
     ensures refused { result ≢ 0 → IsScanToldOf bytes64 image.now result fault.new × (out.new ≡ out.old) × (count.new ≡ count.old) }
 {
-    read::<CvecBytes64>(alloc, image, from, out, count, fault)
+    read::<Bytes64>(alloc, image, from, out, count, fault)
 }

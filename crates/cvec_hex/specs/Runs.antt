@@ -2,7 +2,7 @@
 use Rattle.std.specs.Prelude.{ℕ, List, Option}
 use Rattle.std.specs.Int.{w8, w16, w32, w64}
 use Rattle.record_core.specs.Bytes.{Encoding, unsigned, signed, pair, flagged}
-use Rattle.record_core.specs.Joined.{bytes16, bytes24, bytes32, bytes64}
+use Rattle.record_core.specs.ByteRecords.{bytes16, bytes24, bytes32, bytes64}
 use Rattle.cvec_hex.specs.declared.request.HexRequest.{HexRequest}
 use Rattle.cvec_hex.specs.declared.request.HexTask.{HexTask}
 use Rattle.cvec_hex.specs.declared.request.HexTask.TheVariants.{Image, Show}

@@ -1,14 +1,13 @@
 //! A file that is opened to be written: by its frames alone, where any bytes are a record.
 
-ghost use Rattle.std.specs.Prelude.{◌≡◌, ◌&&◌, Bool, true, false, refl, IfOk, IfErr};
+ghost use Rattle.std.specs.Prelude.{◌≡◌, Bool, true, false, refl, IfOk, IfErr};
 ghost use Rattle.record_core.specs.Bytes.{flagged};
 ghost use Rattle.files_core.specs.Opened.{IsNotOpened};
-ghost use Rattle.record_core.specs.Joined.{joined_parts};
-ghost use Rattle.files_core.specs.Writable.{IsWritable, ReadsAny, none_read, both_read};
+ghost use Rattle.files_core.specs.Writable.{IsWritable, ReadsAny, none_read};
 
 use disk_core::Disk;
 use pen_core::{OpenFault, Pen};
-use record_core::{Flagged, Half, Joined, Pair, Record, width_of};
+use record_core::{Bytes16, Bytes24, Bytes32, Bytes64, Flagged, Pair, Record, width_of};
 use std::alloc::Global;
 
 /// A record whose file can be opened to be written.
@@ -77,6 +76,38 @@ impl OpensToWrite for Pair {
     ghost reads_any = { λ _ bytes. refl };
 }
 
+impl OpensToWrite for Bytes16 {
+    const READS_ANY: bool = true;
+
+    ghost READS_ANY = { true };
+
+    ghost reads_any = { λ _ bytes. refl };
+}
+
+impl OpensToWrite for Bytes24 {
+    const READS_ANY: bool = true;
+
+    ghost READS_ANY = { true };
+
+    ghost reads_any = { λ _ bytes. refl };
+}
+
+impl OpensToWrite for Bytes32 {
+    const READS_ANY: bool = true;
+
+    ghost READS_ANY = { true };
+
+    ghost reads_any = { λ _ bytes. refl };
+}
+
+impl OpensToWrite for Bytes64 {
+    const READS_ANY: bool = true;
+
+    ghost READS_ANY = { true };
+
+    ghost reads_any = { λ _ bytes. refl };
+}
+
 /// A flag is 0 or 1.
 impl OpensToWrite for Flagged {
     const READS_ANY: bool = false;
@@ -84,14 +115,6 @@ impl OpensToWrite for Flagged {
     ghost READS_ANY = { false };
 
     ghost reads_any = { none_read flagged };
-}
-
-impl<A: Half + OpensToWrite, B: Half + OpensToWrite> OpensToWrite for Joined<A, B> {
-    const READS_ANY: bool = A::READS_ANY && B::READS_ANY;
-
-    ghost READS_ANY = { A.READS_ANY && B.READS_ANY };
-
-    ghost reads_any = { both_read joined_parts A.Record.form B.Record.form A.READS_ANY B.READS_ANY A.reads_any B.reads_any };
 }
 
 /// Opens a file of records that any bytes are: none is read, since what stands on a disk is bytes.

@@ -1,2 +1,3 @@
+pub mod ByteRecords
 pub mod Cells
 pub mod Lists

@@ -2,41 +2,13 @@
 use Rattle.std.specs.Prelude.{◌≡◌, ◌≤◌, ◌<◌, ◌+◌, ◌^◌, ℕ, length, refl}
 use Rattle.std.proofs.Common.{arith}
 use Rattle.std.proofs.lemmas.List.{length-append}
-use Rattle.std.specs.Int.{w64}
-use Rattle.record_core.specs.Bytes.{Encoding, Parts, of_parts, unsigned}
+use Rattle.record_core.specs.Bytes.{Encoding, Parts, of_parts}
 use Rattle.record_core.specs.declared.joined.Joined.{Joined}
 
 abbrev pub joined_parts : {A B : Type 0} → Parts A B (Joined A B)
 joined_parts = record { make = λ a b. record { front = a; back = b }; first = λ j. j.front; second = λ j. j.back; first_is = λ a b. refl; second_is = λ a b. refl; nothing_else = λ j. refl }
 
--- ---- records of 16, 24, 32 and 64 bytes
-
-abbrev pub Bytes16 : Type 0
-Bytes16 = Joined ℕ ℕ
-
-abbrev pub Bytes24 : Type 0
-Bytes24 = Joined Bytes16 ℕ
-
-abbrev pub Bytes32 : Type 0
-Bytes32 = Joined Bytes16 Bytes16
-
-abbrev pub Bytes64 : Type 0
-Bytes64 = Joined Bytes32 Bytes32
-
-abbrev pub bytes16 : Encoding Bytes16
-bytes16 = of_parts joined_parts (unsigned w64) (unsigned w64)
-
-abbrev pub bytes24 : Encoding Bytes24
-bytes24 = of_parts joined_parts bytes16 (unsigned w64)
-
-abbrev pub bytes32 : Encoding Bytes32
-bytes32 = of_parts joined_parts bytes16 bytes16
-
-abbrev pub bytes64 : Encoding Bytes64
-bytes64 = of_parts joined_parts bytes32 bytes32
-
--- ---- what a record of two is, as each of them is one
-
+-- what a record of two is, as each of them is one
 pub width_joined : (m n v w : ℕ) → m ≡ v → n ≡ w → m + n ≡ v + w
 width_joined m n v w one two = omega arith
 

@@ -3,3 +3,4 @@ pub mod Joined
 pub mod Cells
 pub mod Limits
 pub mod WritesBack
+pub mod ByteRecords

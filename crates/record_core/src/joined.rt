@@ -1,4 +1,4 @@
-//! Two records behind one another, as one record; and records of 16, 24, 32 and 64 bytes, which are made so of words.
+//! Two records behind one another, as one record.
 
 ghost use Rattle.std.specs.Prelude.{◌<◌, ◌^◌, ◌+◌};
 ghost use Rattle.std.proofs.Common.{rules};
@@ -6,6 +6,7 @@ ghost use Rattle.record_core.specs.Bytes.{of_parts};
 ghost use Rattle.record_core.specs.Joined.{joined_parts, width_joined, range_joined, bytes_joined};
 ghost use Rattle.record_core.specs.WritesBack.{of_parts_back, of_parts_exact};
 
+use crate::byte_records::{Bytes16, Bytes32};
 use crate::record::Record;
 
 /// A record of at most 32,767 bytes: two of them are a record.
@@ -20,18 +21,6 @@ pub struct Joined<A, B> {
     pub front: A,
     pub back: B,
 }
-
-/// Any 16 bytes, as two words in the order of the file, of each the lowest byte first.
-pub type Bytes16 = Joined<u64, u64>;
-
-/// Any 24 bytes.
-pub type Bytes24 = Joined<Bytes16, u64>;
-
-/// Any 32 bytes.
-pub type Bytes32 = Joined<Bytes16, Bytes16>;
-
-/// Any 64 bytes.
-pub type Bytes64 = Joined<Bytes32, Bytes32>;
 
 impl Half for u32 {
     ghost narrow = { Prim.search rules };

@@ -5,6 +5,7 @@
 //! and that the bytes of record i stand at i times the width (both of them).
 #![tactic(auto)]
 
+mod byte_records;
 mod joined;
 mod key_flag;
 mod key_value;
@@ -13,7 +14,8 @@ mod number;
 mod record;
 mod records;
 
-pub use joined::{Bytes16, Bytes24, Bytes32, Bytes64, Half, Joined};
+pub use byte_records::{Bytes16, Bytes24, Bytes32, Bytes64};
+pub use joined::{Half, Joined};
 pub use key_flag::Flagged;
 pub use key_value::Pair;
 pub use limit::{GROWTH_HEAD_LEN, PAYLOAD_LIMIT, RECORD_LIMIT};

@@ -4,7 +4,7 @@ ghost use Rattle.std.specs.Prelude.{◌≡◌, ◌≢◌, ◌≤◌, ◌↔◌, 
 ghost use Rattle.std.specs.Io.KnownBytes.{Appends};
 ghost use Rattle.std.proofs.Common.{rules};
 ghost use Rattle.hex.specs.Hex.{encode_lower};
-ghost use Rattle.record_core.specs.Joined.{bytes16, bytes24, bytes32, bytes64};
+ghost use Rattle.record_core.specs.ByteRecords.{bytes16, bytes24, bytes32, bytes64};
 ghost use Rattle.text_core.specs.InHex.{IsReadAgain, hex_spelling, IsWord-hex, one_hex};
 
 use crate::hex_line::write_hex;

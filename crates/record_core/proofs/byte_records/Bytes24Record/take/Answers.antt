@@ -2,9 +2,9 @@ use Rattle.std.proofs.Common.{sym, ap, ◌∙◌}
 use Rattle.std.specs.Int.{w64}
 use Rattle.std.proofs.lemmas.List.{take_rest}
 use Rattle.record_core.specs.Bytes.{unsigned}
-use Rattle.cvec_c.specs.ByteRecords.{parts24, bytes16}
-use Rattle.cvec_c.proofs.ByteRecords.{both_read}
-use Rattle.cvec_c.proofs.byte_records.CvecBytes24Record.take.Goals as goal
+use Rattle.record_core.specs.ByteRecords.{parts24, bytes16}
+use Rattle.record_core.proofs.ByteRecords.{both_read}
+use Rattle.record_core.proofs.byte_records.Bytes24Record.take.Goals as goal
 
 pub returns : goal.returns
 returns c =

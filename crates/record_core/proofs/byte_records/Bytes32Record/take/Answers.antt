@@ -1,8 +1,8 @@
 use Rattle.std.proofs.Common.{sym, ap, ◌∙◌}
 use Rattle.std.proofs.lemmas.List.{take_rest}
-use Rattle.cvec_c.specs.ByteRecords.{parts32, bytes16}
-use Rattle.cvec_c.proofs.ByteRecords.{both_read}
-use Rattle.cvec_c.proofs.byte_records.CvecBytes32Record.take.Goals as goal
+use Rattle.record_core.specs.ByteRecords.{parts32, bytes16}
+use Rattle.record_core.proofs.ByteRecords.{both_read}
+use Rattle.record_core.proofs.byte_records.Bytes32Record.take.Goals as goal
 
 pub returns : goal.returns
 returns c =

@@ -1,16 +1,18 @@
-//! Records of 16, 24, 32 and 64 bytes as C has them: a struct with type arguments, as those of `record_core` are, doesn't cross to
-//! C.
+//! Records of 16, 24, 32 and 64 bytes, which are made of words. C has each with the same layout.
+//!
+//! Each is a type of its own, and no `Joined`: a type with arguments doesn't cross to C, and what is proved of a function on one takes
+//! the longer the deeper its arguments are.
 
-ghost use Rattle.cvec_c.specs.ByteRecords.{bytes16, bytes24, bytes32, bytes64, bytes16_blank, bytes24_blank, bytes32_blank, bytes64_blank, bytes16_back, bytes24_back, bytes32_back, bytes64_back, bytes16_exact, bytes24_exact, bytes32_exact, bytes64_exact};
+ghost use Rattle.record_core.specs.ByteRecords.{bytes16, bytes24, bytes32, bytes64, bytes16_blank, bytes24_blank, bytes32_blank, bytes64_blank, bytes16_back, bytes24_back, bytes32_back, bytes64_back, bytes16_exact, bytes24_exact, bytes32_exact, bytes64_exact};
 ghost use Rattle.std.specs.Prelude.{refl};
 ghost use Rattle.std.proofs.Common.{rules};
 
-use record_core::Record;
+use crate::record::Record;
 
 /// Any 16 bytes, as two words in the order of the file, of each the lowest byte first.
 #[repr(C)]
 #[derive(Clone, Copy, Debug, PartialEq, Eq)]
-pub struct CvecBytes16 {
+pub struct Bytes16 {
     pub front: u64,
     pub back: u64,
 }
@@ -18,28 +20,28 @@ pub struct CvecBytes16 {
 /// Any 24 bytes.
 #[repr(C)]
 #[derive(Clone, Copy, Debug, PartialEq, Eq)]
-pub struct CvecBytes24 {
-    pub front: CvecBytes16,
+pub struct Bytes24 {
+    pub front: Bytes16,
     pub back: u64,
 }
 
 /// Any 32 bytes.
 #[repr(C)]
 #[derive(Clone, Copy, Debug, PartialEq, Eq)]
-pub struct CvecBytes32 {
-    pub front: CvecBytes16,
-    pub back: CvecBytes16,
+pub struct Bytes32 {
+    pub front: Bytes16,
+    pub back: Bytes16,
 }
 
 /// Any 64 bytes.
 #[repr(C)]
 #[derive(Clone, Copy, Debug, PartialEq, Eq)]
-pub struct CvecBytes64 {
-    pub front: CvecBytes32,
-    pub back: CvecBytes32,
+pub struct Bytes64 {
+    pub front: Bytes32,
+    pub back: Bytes32,
 }
 
-impl Record for CvecBytes16 {
+impl Record for Bytes16 {
     const WIDTH: usize = 16;
 
     ghost WIDTH = { 16 };
@@ -53,14 +55,14 @@ impl Record for CvecBytes16 {
         self.back.put(&mut out[8..]);
     }
 
-    fn take(bytes: &[u8]) -> Option<CvecBytes16> {
+    fn take(bytes: &[u8]) -> Option<Bytes16> {
         let front = u64::take(&bytes[..8])?;
         let back = u64::take(&bytes[8..])?;
-        Some(CvecBytes16 { front, back })
+        Some(Bytes16 { front, back })
     }
 
-    fn blank() -> CvecBytes16 {
-        CvecBytes16 { front: 0, back: 0 }
+    fn blank() -> Bytes16 {
+        Bytes16 { front: 0, back: 0 }
     }
 
     ghost width_is = { refl };
@@ -74,7 +76,7 @@ impl Record for CvecBytes16 {
     ghost exact = { bytes16_exact };
 }
 
-impl Record for CvecBytes24 {
+impl Record for Bytes24 {
     const WIDTH: usize = 24;
 
     ghost WIDTH = { 24 };
@@ -88,15 +90,15 @@ impl Record for CvecBytes24 {
         self.back.put(&mut out[16..]);
     }
 
-    fn take(bytes: &[u8]) -> Option<CvecBytes24> {
-        let front = CvecBytes16::take(&bytes[..16])?;
+    fn take(bytes: &[u8]) -> Option<Bytes24> {
+        let front = Bytes16::take(&bytes[..16])?;
         let back = u64::take(&bytes[16..])?;
-        Some(CvecBytes24 { front, back })
+        Some(Bytes24 { front, back })
     }
 
-    fn blank() -> CvecBytes24 {
-        CvecBytes24 {
-            front: CvecBytes16::blank(),
+    fn blank() -> Bytes24 {
+        Bytes24 {
+            front: Bytes16::blank(),
             back: 0,
         }
     }
@@ -112,7 +114,7 @@ impl Record for CvecBytes24 {
     ghost exact = { bytes24_exact };
 }
 
-impl Record for CvecBytes32 {
+impl Record for Bytes32 {
     const WIDTH: usize = 32;
 
     ghost WIDTH = { 32 };
@@ -126,16 +128,16 @@ impl Record for CvecBytes32 {
         self.back.put(&mut out[16..]);
     }
 
-    fn take(bytes: &[u8]) -> Option<CvecBytes32> {
-        let front = CvecBytes16::take(&bytes[..16])?;
-        let back = CvecBytes16::take(&bytes[16..])?;
-        Some(CvecBytes32 { front, back })
+    fn take(bytes: &[u8]) -> Option<Bytes32> {
+        let front = Bytes16::take(&bytes[..16])?;
+        let back = Bytes16::take(&bytes[16..])?;
+        Some(Bytes32 { front, back })
     }
 
-    fn blank() -> CvecBytes32 {
-        CvecBytes32 {
-            front: CvecBytes16::blank(),
-            back: CvecBytes16::blank(),
+    fn blank() -> Bytes32 {
+        Bytes32 {
+            front: Bytes16::blank(),
+            back: Bytes16::blank(),
         }
     }
 
@@ -150,7 +152,7 @@ impl Record for CvecBytes32 {
     ghost exact = { bytes32_exact };
 }
 
-impl Record for CvecBytes64 {
+impl Record for Bytes64 {
     const WIDTH: usize = 64;
 
     ghost WIDTH = { 64 };
@@ -164,16 +166,16 @@ impl Record for CvecBytes64 {
         self.back.put(&mut out[32..]);
     }
 
-    fn take(bytes: &[u8]) -> Option<CvecBytes64> {
-        let front = CvecBytes32::take(&bytes[..32])?;
-        let back = CvecBytes32::take(&bytes[32..])?;
-        Some(CvecBytes64 { front, back })
+    fn take(bytes: &[u8]) -> Option<Bytes64> {
+        let front = Bytes32::take(&bytes[..32])?;
+        let back = Bytes32::take(&bytes[32..])?;
+        Some(Bytes64 { front, back })
     }
 
-    fn blank() -> CvecBytes64 {
-        CvecBytes64 {
-            front: CvecBytes32::blank(),
-            back: CvecBytes32::blank(),
+    fn blank() -> Bytes64 {
+        Bytes64 {
+            front: Bytes32::blank(),
+            back: Bytes32::blank(),
         }
     }
 

@@ -1,8 +1,8 @@
 use Rattle.std.proofs.Common.{◌≡◌, length, sym, ap, ◌∙◌, arith}
 use Rattle.std.proofs.lemmas.List.{length-take, take_rest}
-use Rattle.cvec_c.specs.ByteRecords.{parts64, bytes32}
-use Rattle.cvec_c.proofs.ByteRecords.{both_read}
-use Rattle.cvec_c.proofs.byte_records.CvecBytes64Record.take.Goals as goal
+use Rattle.record_core.specs.ByteRecords.{parts64, bytes32}
+use Rattle.record_core.proofs.ByteRecords.{both_read}
+use Rattle.record_core.proofs.byte_records.Bytes64Record.take.Goals as goal
 
 pub slice_bounds-take-end : goal.slice_bounds-take-end
 slice_bounds-take-end c = let long : length c.args.bytes.now ≡ 64 = c.requires in omega (arith, length-take 32 c.args.bytes.now, long)
