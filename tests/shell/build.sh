@@ -66,7 +66,7 @@ the_program_is_built_once() (
     with_toolchain
     [ "$status" -eq 0 ]
     [ "$(cat "$out")" = 'made with word' ]
-    tells_only 'cvec: proves and builds the program, which takes about half an hour the first time'
+    tells_only 'cvec: proves and builds the program, which takes 35 to 40 minutes the first time'
     with_toolchain
     answers 0 'made with word\n'
 )
