@@ -9,6 +9,7 @@ mod directory;
 mod files;
 mod filling;
 mod growths;
+mod joined;
 mod lent;
 mod limits;
 mod looks;
