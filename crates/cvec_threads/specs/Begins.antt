@@ -14,10 +14,10 @@ abbrev pub HasFile : ℕ → Option End → Type 0
 HasFile width (Some file) = (width_of file ≡ width) × OfAny (λ _ _ _. HasRead []) file
 HasFile width None = ⊥
 
--- the one handle had a file and has who commits, and the other has the phase, with so many seats
-abbrev pub HasBegun : Option Format → ℕ → Option End → Option End → Option End → Type 0
-HasBegun made seats (Some old) (Some new) (Some phase) = AllAt (λ _ _ _. Begins made seats) phase old new
-HasBegun made seats old new phase = ⊥
+-- the one handle had a file and has who commits, and the other has the phase, with so much room and so many seats
+abbrev pub HasBegun : Option Format → ℕ → ℕ → Option End → Option End → Option End → Type 0
+HasBegun made growths seats (Some old) (Some new) (Some phase) = AllAt (λ _ _ _. Begins made growths seats) phase old new
+HasBegun made growths seats old new phase = ⊥
 
 -- why it isn't so: the file is refused, and what is left of it
 abbrev pub IsNotBegun : ℕ → Option End → Option End → Type 0

@@ -4,10 +4,10 @@ use Rattle.handle_core.specs.Vaults.{FoldsAll, SharesOut}
 use Rattle.handle_core.specs.Ends.{AllAt, AtAny}
 use Rattle.handle_core.specs.declared.session.End.{End}
 
--- the one handle had a vault and has who commits, and the other has the phase, with so many seats
-abbrev pub HasPhase : ℕ → Option End → Option End → Option End → Type 0
-HasPhase seats (Some old) (Some new) (Some end) = AllAt (λ _ _ _. SharesOut seats) end old new
-HasPhase seats old new end = ⊥
+-- the one handle had a vault and has who commits, and the other has the phase, with so much room and so many seats
+abbrev pub HasPhase : ℕ → ℕ → Option End → Option End → Option End → Type 0
+HasPhase growths seats (Some old) (Some new) (Some end) = AllAt (λ _ _ _. SharesOut growths seats) end old new
+HasPhase growths seats old new end = ⊥
 
 -- all changes are folded, if there were some
 abbrev pub IsFolded : End → End → Type 0

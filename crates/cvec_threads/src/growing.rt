@@ -1,13 +1,16 @@
 //! What a thread calls by its own handle.
 
-ghost use Rattle.std.specs.Prelude.{◌≡◌, ◌≢◌};
-ghost use Rattle.handle_core.specs.Roles.{Sizes, Tells, RefusesLook, IsNoGrower};
+ghost use Rattle.std.specs.Prelude.{◌≡◌, ◌≢◌, None};
+ghost use Rattle.handle_core.specs.Roles.{Sizes, Tells, TellsPieces, RefusesLook, IsNoGrower};
 ghost use Rattle.handle_core.specs.Handles.{end_of, Refused};
 ghost use Rattle.handle_core.specs.Ends.{Becomes, AtAny};
 ghost use Rattle.cvec_threads.specs.Answers.{receipt_of, state_of};
+ghost use Rattle.cvec_threads.specs.Begins.{IsLeft};
+ghost use Rattle.cvec_threads.specs.Blocks.{HasBlock, IsNoBlock, HasGrownBy, IsNotGrownBy};
 
 use book_core::{MarkState, Receipt};
 use handle_core::{Handle, Refusal};
+use phase_core::Piece;
 use std::alloc::Global;
 
 /// Where a growth stands.
@@ -94,5 +97,96 @@ pub extern "C" fn cvec_phase_size(alloc: Global, grower: &mut Handle, size: &mut
             0
         }
         Err(refusal) => refusal.code(),
+    }
+}
+
+/// Tells where the records stand that the grower knows, piece by piece from position `from` on, in front of `out`: as many
+/// pieces as it has room for, or all. They stand there, as they are, until the phase has ended.
+#[unsafe(no_mangle)]
+pub extern "C" fn cvec_phase_pieces(
+    alloc: Global,
+    grower: &mut Handle,
+    from: u64,
+    out: &mut [Piece],
+    count: &mut u64,
+) -> u32
+    ensures told { result ≡ 0 → Becomes (AtAny (λ _ _ _. TellsPieces from out.old out.new count.new)) (end_of grower.old) (end_of grower.new) }
+    ensures refused { result ≢ 0 → Refused (λ refusal. AtAny (λ _ _ _. IsNoGrower refusal)) result (end_of grower.old) (end_of grower.new) × (out.new ≡ out.old) × (count.new ≡ count.old) }
+{
+    let Some(mut session) = grower.take(alloc) else {
+        return Refusal::NotSo.code();
+    };
+    let told = session.pieces(from, out);
+    grower.put(session);
+    match told {
+        Ok(found) => {
+            *count = found;
+            0
+        }
+        Err(refusal) => refusal.code(),
+    }
+}
+
+/// A block of so many blank records of the grower's vector, in a handle of its own: they stand at `records`, and the caller alone
+/// writes them there until they are published. What that handle had is given up.
+#[unsafe(no_mangle)]
+pub extern "C" fn cvec_phase_block(
+    alloc: Global,
+    grower: &mut Handle,
+    count: u64,
+    block: &mut Handle,
+    records: &mut *const u8,
+) -> u32
+    ensures grower { end_of grower.new ≡ end_of grower.old }
+    ensures block { result ≡ 0 → HasBlock count records.new (end_of grower.old) (end_of block.new) }
+    ensures refused { result ≢ 0 → IsNoBlock count result (end_of grower.old) × IsLeft (end_of block.old) (end_of block.new) × (records.new ≡ records.old) }
+{
+    let Some(session) = grower.take(alloc) else {
+        return Refusal::NotSo.code();
+    };
+    let lent = session.block(alloc, count);
+    grower.put(session);
+    match lent {
+        Ok((end, place)) => {
+            if block.fill(alloc, end) {
+                *records = place;
+                return 0;
+            }
+            Refusal::Memory.code()
+        }
+        Err(refusal) => refusal.code(),
+    }
+}
+
+/// Grows by the records that the block has now, which stay where they are: the block's handle has nothing then. Refused, it has
+/// the block as before.
+#[unsafe(no_mangle)]
+pub extern "C" fn cvec_phase_publish(
+    alloc: Global,
+    grower: &mut Handle,
+    block: &mut Handle,
+    receipt: &mut CvecReceipt,
+) -> u32
+    ensures grown { result ≡ 0 → HasGrownBy (receipt_of receipt.new) (end_of block.old) (end_of grower.old) (end_of grower.new) × (end_of block.new ≡ None) }
+    ensures refused { result ≢ 0 → IsNotGrownBy result (end_of block.old) (end_of grower.old) (end_of grower.new) × (end_of block.new ≡ end_of block.old) × (receipt.new ≡ receipt.old) }
+{
+    let Some(mut session) = grower.take(alloc) else {
+        return Refusal::NotSo.code();
+    };
+    let Some(mut lent) = block.take(alloc) else {
+        grower.put(session);
+        return Refusal::NotSo.code();
+    };
+    let grown = session.publish(&mut lent);
+    grower.put(session);
+    match grown {
+        Ok(grown) => {
+            *receipt = CvecReceipt::of(grown);
+            0
+        }
+        Err(refusal) => {
+            block.put(lent);
+            refusal.code()
+        }
     }
 }

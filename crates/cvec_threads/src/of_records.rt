@@ -1,8 +1,8 @@
 //! The calls that name records, of whichever type.
 
 ghost use Rattle.std.specs.Prelude.{◌≡◌, ◌≢◌};
-ghost use Rattle.handle_core.specs.Roles.{Grows, Reads, RefusesGrowth, IsNoGrower};
-ghost use Rattle.handle_core.specs.Vaults.{ReadsAll, Counts, Finds, IsNoVault, Changes, RefusesChange, Resizes, RefusesResize};
+ghost use Rattle.handle_core.specs.Roles.{Grows, Reads, Counts, Finds, RefusesGrowth, IsNoGrower};
+ghost use Rattle.handle_core.specs.Vaults.{ReadsAll, IsNoVault, Changes, RefusesChange, Resizes, RefusesResize};
 ghost use Rattle.handle_core.specs.Handles.{end_of, Refused};
 ghost use Rattle.handle_core.specs.Ends.{Becomes, At, RefusedAt};
 ghost use Rattle.cvec_threads.specs.Answers.{receipt_of};
@@ -61,6 +61,55 @@ pub(crate) fn read<R: Record + EndRecord<Role = Role<R>>>(
     }
 }
 
+/// How many of the records that the grower knows equal this one.
+pub(crate) fn count<R: Record + EndRecord<Role = Role<R>>>(
+    alloc: Global,
+    grower: &mut Handle,
+    sought: R,
+    count: &mut u64,
+) -> u32
+    ensures count { result ≡ 0 → Becomes (At R.role_of (Counts sought count.new)) (end_of grower.old) (end_of grower.new) }
+    ensures refused { result ≢ 0 → Refused (RefusedAt R.role_of IsNoGrower) result (end_of grower.old) (end_of grower.new) × (count.new ≡ count.old) }
+{
+    let Some(mut session) = grower.take(alloc) else {
+        return Refusal::NotSo.code();
+    };
+    let counted = session.count(sought);
+    grower.put(session);
+    match counted {
+        Ok(found) => {
+            *count = found;
+            0
+        }
+        Err(refusal) => refusal.code(),
+    }
+}
+
+/// The first position from `from` on whose record equals this one, or how many records it knows.
+pub(crate) fn find<R: Record + EndRecord<Role = Role<R>>>(
+    alloc: Global,
+    grower: &mut Handle,
+    sought: R,
+    from: u64,
+    place: &mut u64,
+) -> u32
+    ensures found { result ≡ 0 → Becomes (At R.role_of (Finds sought from place.new)) (end_of grower.old) (end_of grower.new) }
+    ensures refused { result ≢ 0 → Refused (RefusedAt R.role_of IsNoGrower) result (end_of grower.old) (end_of grower.new) × (place.new ≡ place.old) }
+{
+    let Some(mut session) = grower.take(alloc) else {
+        return Refusal::NotSo.code();
+    };
+    let found = session.find(sought, from);
+    grower.put(session);
+    match found {
+        Ok(first) => {
+            *place = first;
+            0
+        }
+        Err(refusal) => refusal.code(),
+    }
+}
+
 /// Copies records from position `from` on to the front of `out`, as far as both reach.
 pub(crate) fn read_all<R: Record + EndRecord<Role = Role<R>>>(
     alloc: Global,
@@ -80,55 +129,6 @@ pub(crate) fn read_all<R: Record + EndRecord<Role = Role<R>>>(
     match read {
         Ok(copied) => {
             *count = copied;
-            0
-        }
-        Err(refusal) => refusal.code(),
-    }
-}
-
-/// How many of the vault's records equal this one.
-pub(crate) fn count<R: Record + EndRecord<Role = Role<R>>>(
-    alloc: Global,
-    vault: &mut Handle,
-    sought: R,
-    count: &mut u64,
-) -> u32
-    ensures count { result ≡ 0 → Becomes (At R.role_of (Counts sought count.new)) (end_of vault.old) (end_of vault.new) }
-    ensures refused { result ≢ 0 → Refused (RefusedAt R.role_of IsNoVault) result (end_of vault.old) (end_of vault.new) × (count.new ≡ count.old) }
-{
-    let Some(mut session) = vault.take(alloc) else {
-        return Refusal::NotSo.code();
-    };
-    let counted = session.count(sought);
-    vault.put(session);
-    match counted {
-        Ok(found) => {
-            *count = found;
-            0
-        }
-        Err(refusal) => refusal.code(),
-    }
-}
-
-/// The first position from `from` on whose record equals this one, or how many records there are.
-pub(crate) fn find<R: Record + EndRecord<Role = Role<R>>>(
-    alloc: Global,
-    vault: &mut Handle,
-    sought: R,
-    from: u64,
-    place: &mut u64,
-) -> u32
-    ensures found { result ≡ 0 → Becomes (At R.role_of (Finds sought from place.new)) (end_of vault.old) (end_of vault.new) }
-    ensures refused { result ≢ 0 → Refused (RefusedAt R.role_of IsNoVault) result (end_of vault.old) (end_of vault.new) × (place.new ≡ place.old) }
-{
-    let Some(mut session) = vault.take(alloc) else {
-        return Refusal::NotSo.code();
-    };
-    let found = session.find(sought, from);
-    vault.put(session);
-    match found {
-        Ok(first) => {
-            *place = first;
             0
         }
         Err(refusal) => refusal.code(),

@@ -1,8 +1,8 @@
 //! The calls that name records of pair.
 
 ghost use Rattle.std.specs.Prelude.{◌≡◌, ◌≢◌};
-ghost use Rattle.handle_core.specs.Roles.{Grows, Reads, RefusesGrowth, IsNoGrower};
-ghost use Rattle.handle_core.specs.Vaults.{ReadsAll, Counts, Finds, IsNoVault, Changes, RefusesChange, Resizes, RefusesResize};
+ghost use Rattle.handle_core.specs.Roles.{Grows, Reads, Counts, Finds, RefusesGrowth, IsNoGrower};
+ghost use Rattle.handle_core.specs.Vaults.{ReadsAll, IsNoVault, Changes, RefusesChange, Resizes, RefusesResize};
 ghost use Rattle.handle_core.specs.Handles.{end_of, Refused};
 ghost use Rattle.handle_core.specs.Ends.{Becomes, At, RefusedAt, pair_role};
 ghost use Rattle.cvec_threads.specs.Answers.{receipt_of};
@@ -42,6 +42,35 @@ pub extern "C" fn cvec_phase_read_pair(
     of_records::read(alloc, grower, from, out, count)
 }
 
+/// How many of the records that the grower knows equal this one.
+#[unsafe(no_mangle)]
+pub extern "C" fn cvec_phase_count_pair(
+    alloc: Global,
+    grower: &mut Handle,
+    sought: &Pair,
+    count: &mut u64,
+) -> u32
+    ensures count { result ≡ 0 → Becomes (At pair_role (Counts sought.now count.new)) (end_of grower.old) (end_of grower.new) }
+    ensures refused { result ≢ 0 → Refused (RefusedAt pair_role IsNoGrower) result (end_of grower.old) (end_of grower.new) × (count.new ≡ count.old) }
+{
+    of_records::count(alloc, grower, *sought, count)
+}
+
+/// The first position from `from` on whose record equals this one, or how many records it knows.
+#[unsafe(no_mangle)]
+pub extern "C" fn cvec_phase_find_pair(
+    alloc: Global,
+    grower: &mut Handle,
+    sought: &Pair,
+    from: u64,
+    place: &mut u64,
+) -> u32
+    ensures found { result ≡ 0 → Becomes (At pair_role (Finds sought.now from place.new)) (end_of grower.old) (end_of grower.new) }
+    ensures refused { result ≢ 0 → Refused (RefusedAt pair_role IsNoGrower) result (end_of grower.old) (end_of grower.new) × (place.new ≡ place.old) }
+{
+    of_records::find(alloc, grower, *sought, from, place)
+}
+
 /// Copies records from position `from` on to the front of `out`, as far as both reach.
 #[unsafe(no_mangle)]
 pub extern "C" fn cvec_vault_read_pair(
@@ -55,35 +84,6 @@ pub extern "C" fn cvec_vault_read_pair(
     ensures refused { result ≢ 0 → Refused (RefusedAt pair_role IsNoVault) result (end_of vault.old) (end_of vault.new) × (out.new ≡ out.old) × (count.new ≡ count.old) }
 {
     of_records::read_all(alloc, vault, from, out, count)
-}
-
-/// How many of the vault's records equal this one.
-#[unsafe(no_mangle)]
-pub extern "C" fn cvec_vault_count_pair(
-    alloc: Global,
-    vault: &mut Handle,
-    sought: &Pair,
-    count: &mut u64,
-) -> u32
-    ensures count { result ≡ 0 → Becomes (At pair_role (Counts sought.now count.new)) (end_of vault.old) (end_of vault.new) }
-    ensures refused { result ≢ 0 → Refused (RefusedAt pair_role IsNoVault) result (end_of vault.old) (end_of vault.new) × (count.new ≡ count.old) }
-{
-    of_records::count(alloc, vault, *sought, count)
-}
-
-/// The first position from `from` on whose record equals this one, or how many records there are.
-#[unsafe(no_mangle)]
-pub extern "C" fn cvec_vault_find_pair(
-    alloc: Global,
-    vault: &mut Handle,
-    sought: &Pair,
-    from: u64,
-    place: &mut u64,
-) -> u32
-    ensures found { result ≡ 0 → Becomes (At pair_role (Finds sought.now from place.new)) (end_of vault.old) (end_of vault.new) }
-    ensures refused { result ≢ 0 → Refused (RefusedAt pair_role IsNoVault) result (end_of vault.old) (end_of vault.new) × (place.new ≡ place.old) }
-{
-    of_records::find(alloc, vault, *sought, from, place)
 }
 
 /// Writes the records over those from position `start` on, and lists the calls of the file that commit it.

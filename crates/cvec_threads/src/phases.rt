@@ -1,10 +1,9 @@
 //! How a vector begins, and how its handles are given up.
 
 ghost use Rattle.std.specs.Prelude.{◌≡◌, ◌≢◌, None, Some};
-ghost use Rattle.directory_core.specs.Limits.{growth_limit};
 ghost use Rattle.segment_core.specs.Shape.{version_of};
 ghost use Rattle.segment_core.specs.declared.format.Format.{Format};
-ghost use Rattle.book_core.specs.Beginning.{MayBegin};
+ghost use Rattle.book_core.specs.Beginning.{MayBeginWide};
 ghost use Rattle.handle_core.specs.Begins.{Feeds, RefusesFeeding, RefusesBeginning};
 ghost use Rattle.handle_core.specs.Roles.{RefusesSeat};
 ghost use Rattle.handle_core.specs.Handles.{end_of, Refused};
@@ -60,17 +59,18 @@ fn begin(
     alloc: Global,
     file: &mut Handle,
     made: Option<Format>,
+    growths: u64,
     seats: u16,
     phase: &mut Handle,
 ) -> u32
-    ensures begins { result ≡ 0 → HasBegun made seats (end_of file.old) (end_of file.new) (end_of phase.new) }
-    ensures may { result ≡ 0 → MayBegin growth_limit seats }
+    ensures begins { result ≡ 0 → HasBegun made growths seats (end_of file.old) (end_of file.new) (end_of phase.new) }
+    ensures may { result ≡ 0 → MayBeginWide growths seats }
     ensures refused { result ≢ 0 → IsNotBegun result (end_of file.old) (end_of file.new) × (end_of phase.new ≡ end_of phase.old) }
 {
     let Some(mut session) = file.take(alloc) else {
         return Refusal::NotSo.code();
     };
-    let begun = session.begin(alloc, made, seats);
+    let begun = session.begin(alloc, made, growths, seats);
     file.put(session);
     match begun {
         Ok(end) => {
@@ -82,7 +82,9 @@ fn begin(
     }
 }
 
-/// Begins a vector over a new file of version 1, or of version 2, with so many seats: from 1 to 64. The file's bytes are all read:
+/// Begins a vector over a new file of version 1, or of version 2, with room for so many growths in a phase, from 1 to 536,870,904,
+/// and so many seats: from 1 to 64. Where the system refuses the addresses for so much room, the phase has room for 1,048,568
+/// growths. The file's bytes are all read:
 /// none, or what a creation left that was stopped. Its handle has who commits then, who lists the calls of the file's making first,
 /// and the other the phase; what that one had is given up. Refused, the bytes are given up, but where there was no memory for the
 /// phase's end, or the version is another one.
@@ -91,11 +93,12 @@ pub extern "C" fn cvec_phase_create(
     alloc: Global,
     file: &mut Handle,
     version: u8,
+    growths: u64,
     seats: u16,
     phase: &mut Handle,
 ) -> u32
-    ensures begins { result ≡ 0 → (format : Format) × (version_of format ≡ version) × HasBegun (Some format) seats (end_of file.old) (end_of file.new) (end_of phase.new) }
-    ensures may { result ≡ 0 → MayBegin growth_limit seats }
+    ensures begins { result ≡ 0 → (format : Format) × (version_of format ≡ version) × HasBegun (Some format) growths seats (end_of file.old) (end_of file.new) (end_of phase.new) }
+    ensures may { result ≡ 0 → MayBeginWide growths seats }
     ensures refused { result ≢ 0 → IsNotCreated version result (end_of file.old) (end_of file.new) × (end_of phase.new ≡ end_of phase.old) }
 {
     let format = match version {
@@ -103,24 +106,25 @@ pub extern "C" fn cvec_phase_create(
         2 => Format::Two,
         _ => return Refusal::NotSo.code(),
     };
-    begin(alloc, file, Some(format), seats, phase)
+    begin(alloc, file, Some(format), growths, seats, phase)
 }
 
-/// Begins the vector of a file whose bytes are all read, with so many seats: from 1 to 64. The file's handle has who commits then,
+/// Begins the vector of a file whose bytes are all read, with so much room and so many seats, as over a new file. The file's handle has who commits then,
 /// and the other the phase; what that one had is given up. Refused, the bytes are given up, but where there was no memory for the
 /// phase's end.
 #[unsafe(no_mangle)]
 pub extern "C" fn cvec_phase_open(
     alloc: Global,
     file: &mut Handle,
+    growths: u64,
     seats: u16,
     phase: &mut Handle,
 ) -> u32
-    ensures begins { result ≡ 0 → HasBegun None seats (end_of file.old) (end_of file.new) (end_of phase.new) }
-    ensures may { result ≡ 0 → MayBegin growth_limit seats }
+    ensures begins { result ≡ 0 → HasBegun None growths seats (end_of file.old) (end_of file.new) (end_of phase.new) }
+    ensures may { result ≡ 0 → MayBeginWide growths seats }
     ensures refused { result ≢ 0 → IsNotBegun result (end_of file.old) (end_of file.new) × (end_of phase.new ≡ end_of phase.old) }
 {
-    begin(alloc, file, None, seats, phase)
+    begin(alloc, file, None, growths, seats, phase)
 }
 
 /// A seat for one more thread, into a handle of its own. What that handle had is given up.

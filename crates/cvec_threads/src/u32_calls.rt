@@ -1,8 +1,8 @@
 //! The calls that name records of u32.
 
 ghost use Rattle.std.specs.Prelude.{◌≡◌, ◌≢◌};
-ghost use Rattle.handle_core.specs.Roles.{Grows, Reads, RefusesGrowth, IsNoGrower};
-ghost use Rattle.handle_core.specs.Vaults.{ReadsAll, Counts, Finds, IsNoVault, Changes, RefusesChange, Resizes, RefusesResize};
+ghost use Rattle.handle_core.specs.Roles.{Grows, Reads, Counts, Finds, RefusesGrowth, IsNoGrower};
+ghost use Rattle.handle_core.specs.Vaults.{ReadsAll, IsNoVault, Changes, RefusesChange, Resizes, RefusesResize};
 ghost use Rattle.handle_core.specs.Handles.{end_of, Refused};
 ghost use Rattle.handle_core.specs.Ends.{Becomes, At, RefusedAt, u32_role};
 ghost use Rattle.cvec_threads.specs.Answers.{receipt_of};
@@ -41,6 +41,35 @@ pub extern "C" fn cvec_phase_read_u32(
     of_records::read(alloc, grower, from, out, count)
 }
 
+/// How many of the records that the grower knows equal this one.
+#[unsafe(no_mangle)]
+pub extern "C" fn cvec_phase_count_u32(
+    alloc: Global,
+    grower: &mut Handle,
+    sought: u32,
+    count: &mut u64,
+) -> u32
+    ensures count { result ≡ 0 → Becomes (At u32_role (Counts sought count.new)) (end_of grower.old) (end_of grower.new) }
+    ensures refused { result ≢ 0 → Refused (RefusedAt u32_role IsNoGrower) result (end_of grower.old) (end_of grower.new) × (count.new ≡ count.old) }
+{
+    of_records::count(alloc, grower, sought, count)
+}
+
+/// The first position from `from` on whose record equals this one, or how many records it knows.
+#[unsafe(no_mangle)]
+pub extern "C" fn cvec_phase_find_u32(
+    alloc: Global,
+    grower: &mut Handle,
+    sought: u32,
+    from: u64,
+    place: &mut u64,
+) -> u32
+    ensures found { result ≡ 0 → Becomes (At u32_role (Finds sought from place.new)) (end_of grower.old) (end_of grower.new) }
+    ensures refused { result ≢ 0 → Refused (RefusedAt u32_role IsNoGrower) result (end_of grower.old) (end_of grower.new) × (place.new ≡ place.old) }
+{
+    of_records::find(alloc, grower, sought, from, place)
+}
+
 /// Copies records from position `from` on to the front of `out`, as far as both reach.
 #[unsafe(no_mangle)]
 pub extern "C" fn cvec_vault_read_u32(
@@ -54,35 +83,6 @@ pub extern "C" fn cvec_vault_read_u32(
     ensures refused { result ≢ 0 → Refused (RefusedAt u32_role IsNoVault) result (end_of vault.old) (end_of vault.new) × (out.new ≡ out.old) × (count.new ≡ count.old) }
 {
     of_records::read_all(alloc, vault, from, out, count)
-}
-
-/// How many of the vault's records equal this one.
-#[unsafe(no_mangle)]
-pub extern "C" fn cvec_vault_count_u32(
-    alloc: Global,
-    vault: &mut Handle,
-    sought: u32,
-    count: &mut u64,
-) -> u32
-    ensures count { result ≡ 0 → Becomes (At u32_role (Counts sought count.new)) (end_of vault.old) (end_of vault.new) }
-    ensures refused { result ≢ 0 → Refused (RefusedAt u32_role IsNoVault) result (end_of vault.old) (end_of vault.new) × (count.new ≡ count.old) }
-{
-    of_records::count(alloc, vault, sought, count)
-}
-
-/// The first position from `from` on whose record equals this one, or how many records there are.
-#[unsafe(no_mangle)]
-pub extern "C" fn cvec_vault_find_u32(
-    alloc: Global,
-    vault: &mut Handle,
-    sought: u32,
-    from: u64,
-    place: &mut u64,
-) -> u32
-    ensures found { result ≡ 0 → Becomes (At u32_role (Finds sought from place.new)) (end_of vault.old) (end_of vault.new) }
-    ensures refused { result ≢ 0 → Refused (RefusedAt u32_role IsNoVault) result (end_of vault.old) (end_of vault.new) × (place.new ≡ place.old) }
-{
-    of_records::find(alloc, vault, sought, from, place)
 }
 
 /// Writes the records over those from position `start` on, and lists the calls of the file that commit it.

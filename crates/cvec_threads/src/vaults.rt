@@ -27,22 +27,23 @@ pub extern "C" fn cvec_phase_gather(alloc: Global, committer: &mut Handle) -> u3
     }
 }
 
-/// Threads have the vector again: the handle of the vault has who commits, and the other the phase, with so many seats. What
-/// that one had is given up.
+/// Threads have the vector again: the handle of the vault has who commits, and the other the phase, with room for so many growths
+/// and so many seats, as over a new file. What that one had is given up.
 #[unsafe(no_mangle)]
 pub extern "C" fn cvec_phase_share(
     alloc: Global,
     vault: &mut Handle,
+    growths: u64,
     seats: u16,
     phase: &mut Handle,
 ) -> u32
-    ensures shared { result ≡ 0 → HasPhase seats (end_of vault.old) (end_of vault.new) (end_of phase.new) }
-    ensures refused { result ≢ 0 → Refused (λ refusal. AtAny (λ _ _ _. RefusesSharing seats refusal)) result (end_of vault.old) (end_of vault.new) × (end_of phase.new ≡ end_of phase.old) }
+    ensures shared { result ≡ 0 → HasPhase growths seats (end_of vault.old) (end_of vault.new) (end_of phase.new) }
+    ensures refused { result ≢ 0 → Refused (λ refusal. AtAny (λ _ _ _. RefusesSharing growths seats refusal)) result (end_of vault.old) (end_of vault.new) × (end_of phase.new ≡ end_of phase.old) }
 {
     let Some(mut session) = vault.take(alloc) else {
         return Refusal::NotSo.code();
     };
-    let shared = session.share(alloc, seats);
+    let shared = session.share(alloc, growths, seats);
     vault.put(session);
     match shared {
         Ok(end) => {

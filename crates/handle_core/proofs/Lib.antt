@@ -1,3 +1,4 @@
 mod AsBox
 mod RoleLemmas
 mod Worked
+mod WorkedBlocks

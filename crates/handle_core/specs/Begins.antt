@@ -9,6 +9,7 @@ use Rattle.segment_core.specs.declared.format.Format.{Format}
 use Rattle.pen_core.specs.Births.{IsExisting}
 use Rattle.pen_core.specs.Opening.{IsOpened}
 use Rattle.book_core.specs.Lists.{opening_of}
+use Rattle.phase_core.specs.Room.{IsRoomFor}
 use Rattle.handle_core.specs.declared.refusal.Refusal.{Refusal}
 use Rattle.handle_core.specs.declared.refusal.Refusal.TheVariants.{Memory, NotSo}
 use Rattle.handle_core.specs.declared.session.Role.{Role}
@@ -31,29 +32,30 @@ module _ {R : Type 0} {record_of : Record.Ghosts R} {eq_of : PartialEq.Ghosts R}
   RefusesFeeding refusal (roles.File old) new = ⊥
   RefusesFeeding refusal old new = (refusal ≡ NotSo) × (new ≡ old)
 
-  -- the one has a phase with so many seats, the other who commits for it; no growth was made, and no record stands in it from
-  -- before; the bytes were no file yet, which is to have that version
-  abbrev pub BeginsEmpty : List ℕ → ℕ → ℕ → Role R record_of eq_of → Role R record_of eq_of → Type 0
-  BeginsEmpty bytes version seats (roles.Phase phase) (roles.Committer committer) =
-      (version_of committer.flusher.pen.shape.format ≡ version) × (length phase.seats.items ≡ seats)
+  -- the one has a phase with room for so many growths and so many seats, the other who commits for it; no growth was made, and no
+  -- record stands in it from before; the bytes were no file yet, which is to have that version
+  abbrev pub BeginsEmpty : List ℕ → ℕ → ℕ → ℕ → Role R record_of eq_of → Role R record_of eq_of → Type 0
+  BeginsEmpty bytes version growths seats (roles.Phase phase) (roles.Committer committer) =
+      (version_of committer.flusher.pen.shape.format ≡ version) × (length phase.seats.items ≡ seats) × IsRoomFor growths (arc_value phase.live).directory.room
       × ((arc_value phase.live).blocks ≡ []) × (KeepsSoFar committer.flusher.pen.disk.inner → IsExisting bytes → ⊥) × (arc_value committer.live ≡ arc_value phase.live)
       × (committer.flusher.settled ≡ 0) × (committer.flusher.pass.entries ≡ [])
-  BeginsEmpty bytes version seats phase committer = ⊥
+  BeginsEmpty bytes version growths seats phase committer = ⊥
 
   -- so over a file that holds these bytes: what stands in it from before are its records
-  abbrev pub BeginsOver : List ℕ → ℕ → Role R record_of eq_of → Role R record_of eq_of → Type 0
-  BeginsOver bytes seats (roles.Phase phase) (roles.Committer committer) =
-      (length phase.seats.items ≡ seats) × (KeepsSoFar committer.flusher.pen.disk.inner → IsOpened record_of.form bytes committer.flusher.pen (opening_of (arc_value phase.live)))
+  abbrev pub BeginsOver : List ℕ → ℕ → ℕ → Role R record_of eq_of → Role R record_of eq_of → Type 0
+  BeginsOver bytes growths seats (roles.Phase phase) (roles.Committer committer) =
+      (length phase.seats.items ≡ seats) × IsRoomFor growths (arc_value phase.live).directory.room
+      × (KeepsSoFar committer.flusher.pen.disk.inner → IsOpened record_of.form bytes committer.flusher.pen (opening_of (arc_value phase.live)))
       × (arc_value committer.live ≡ arc_value phase.live)
       × (committer.flusher.settled ≡ 0) × (committer.flusher.pass.entries ≡ [])
-  BeginsOver bytes seats phase committer = ⊥
+  BeginsOver bytes growths seats phase committer = ⊥
 
   -- The vector of the bytes that were read begins, or, of a format, the empty one in their place: the first of these ends has its
   -- phase, the last who commits.
-  abbrev pub Begins : Option Format → ℕ → Role R record_of eq_of → Role R record_of eq_of → Role R record_of eq_of → Type 0
-  Begins None seats phase (roles.File read) committer = BeginsOver read.items seats phase committer
-  Begins (Some format) seats phase (roles.File read) committer = BeginsEmpty read.items (version_of format) seats phase committer
-  Begins format seats phase old new = ⊥
+  abbrev pub Begins : Option Format → ℕ → ℕ → Role R record_of eq_of → Role R record_of eq_of → Role R record_of eq_of → Type 0
+  Begins None growths seats phase (roles.File read) committer = BeginsOver read.items growths seats phase committer
+  Begins (Some format) growths seats phase (roles.File read) committer = BeginsEmpty read.items (version_of format) growths seats phase committer
+  Begins format growths seats phase old new = ⊥
 
   -- The bytes are given up, as those over which no vector begins, or for whose vector there was no memory; or there was none for C's
   -- end of the phase, or it is another end, and is as it was.

@@ -1,5 +1,5 @@
 -- Ends by what records their vector has, and what a call makes of one.
-use Rattle.std.specs.Prelude.{◌≡◌, ℕ, Option, Some, None, MatchOption}
+use Rattle.std.specs.Prelude.{◌≡◌, ◌≢◌, ◌⊎◌, ℕ, Option, Some, None, MatchOption}
 use Rattle.std.specs.declared.cmp.PartialEq as PartialEq
 use Rattle.std.specs.contracts.prelude.U32PartialEq.TheImpl as u32_eq
 use Rattle.std.specs.contracts.prelude.U64PartialEq.TheImpl as u64_eq
@@ -58,6 +58,10 @@ AllAt P (ends.U64 end) (ends.U64 old) (ends.U64 new) = P _ _ _ end old new
 AllAt P (ends.Pair end) (ends.Pair old) (ends.Pair new) = P _ _ _ end old new
 AllAt P (ends.Flagged end) (ends.Flagged old) (ends.Flagged new) = P _ _ _ end old new
 AllAt P end old new = ⊥
+
+-- why a call of an end with another one is refused: so; or they have other records, and it is as it was
+abbrev pub RefusedWith : (Refusal → (R : Type 0) (record_of : Record.Ghosts R) (eq_of : PartialEq.Ghosts R) → Role R record_of eq_of → Role R record_of eq_of → Role R record_of eq_of → Type 0) → Refusal → End → End → End → Type 0
+RefusedWith P refusal end old new = AllAt (P refusal) end old new ⊎ ((refusal ≡ Width) × (width_of end ≢ width_of old) × (new ≡ old))
 
 -- ---- with these records alone
 

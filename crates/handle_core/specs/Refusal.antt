@@ -1,5 +1,7 @@
 -- The numbers that C has for why a call is refused.
 use Rattle.std.specs.Prelude.{ℕ}
+use Rattle.block_core.specs.declared.fault.FreshFault.{FreshFault}
+use Rattle.block_core.specs.declared.fault.FreshFault.TheVariants as blocks
 use Rattle.book_core.specs.declared.fault.GrowFault.{GrowFault}
 use Rattle.book_core.specs.declared.fault.GrowFault.TheVariants as faults
 use Rattle.pen_core.specs.declared.fault.PenFault.TheVariants as pens
@@ -38,6 +40,11 @@ code_of Full = 66
 code_of Busy = 67
 code_of Unfolded = 69
 code_of Unsettled = 70
+
+abbrev pub of_block : FreshFault → Refusal
+of_block blocks.Empty = Empty
+of_block blocks.TooLarge = TooLarge
+of_block blocks.Memory = Memory
 
 abbrev pub of_growth : GrowFault → Refusal
 of_growth faults.Closed = Full

@@ -1,21 +1,27 @@
 -- What a call makes of an end of a phase.
-use Rattle.std.specs.Prelude.{◌≡◌, ◌⊎◌, ℕ, ◌+◌, ◌<◌, ◌≤◌, List, [], ◌∷◌, ◌++◌, length, None}
+use Rattle.std.specs.Prelude.{◌≡◌, ◌⊎◌, ℕ, ◌+◌, ◌<◌, ◌≤◌, List, [], ◌∷◌, ◌++◌, length, replicate, None}
+use Rattle.std.specs.List.{count_by}
 use Rattle.std.specs.Arc.{arc_value}
+use denote.RawPtr.{Ptr}
 use Rattle.std.specs.declared.cmp.PartialEq as PartialEq
 use Rattle.record_core.specs.declared.record.Record as Record
 use Rattle.flush_core.specs.Flusher.{ToldIsLeft}
 use Rattle.disk_core.specs.Moments.{clock}
 use Rattle.disk_core.specs.FileDisk.{states_of, KeepsSoFar}
+use Rattle.block_core.specs.declared.fault.FreshFault.{FreshFault}
+use Rattle.block_core.specs.Length.{IsBlockRefusal}
 use Rattle.book_core.specs.declared.fault.GrowFault.{GrowFault}
 use Rattle.book_core.specs.declared.seat.Receipt.{Receipt}
 use Rattle.book_core.specs.declared.mark.MarkState.{MarkState}
-use Rattle.book_core.specs.Growing.{Grown, SeatLearns, SeatIsTold, IsCopiesRefusal, IsLookFault}
+use Rattle.book_core.specs.Growing.{Grown, SeatLearns, SeatIsTold, IsBookRefusal, IsCopiesRefusal, IsLookFault}
 use Rattle.book_core.specs.Beginning.{IsNewSeat}
 use Rattle.book_core.specs.Lists.{Seated}
 use Rattle.relay_core.specs.declared.call.Call.{Call}
 use Rattle.relay_core.specs.Listed.{LeadTo}
-use Rattle.phase_core.specs.Grower.{list_of, Copies}
+use Rattle.phase_core.specs.Grower.{list_of, Copies, IsFoundFrom, equals}
 use Rattle.phase_core.specs.Grower as growers
+use Rattle.phase_core.specs.Telling.{StandAt, TellsFrom}
+use Rattle.phase_core.specs.declared.piece.Piece.{Piece}
 use Rattle.phase_core.specs.Committing.{GoesOn, IsUnplanned}
 use Rattle.phase_core.specs.Committer.{calls_of}
 use Rattle.phase_core.specs.HostVault as vaults
@@ -23,7 +29,7 @@ use Rattle.phase_core.specs.declared.phase.Phase.{Phase}
 use Rattle.flush_core.specs.declared.fault.FlushFault.{FlushFault}
 use Rattle.handle_core.specs.declared.refusal.Refusal.{Refusal}
 use Rattle.handle_core.specs.declared.refusal.Refusal.TheVariants.{Memory, Broken, NotSo}
-use Rattle.handle_core.specs.Refusal.{of_growth, of_flush}
+use Rattle.handle_core.specs.Refusal.{of_block, of_growth, of_flush}
 use Rattle.handle_core.specs.declared.session.Role.{Role}
 use Rattle.handle_core.specs.declared.session.Role.TheVariants as roles
 
@@ -44,6 +50,30 @@ module _ {R : Type 0} {record_of : Record.Ghosts R} {eq_of : PartialEq.Ghosts R}
       × ((fault : GrowFault) × (refusal ≡ of_growth fault) × IsCopiesRefusal record_of.form.width (growers.phase_of old) new.seat (length records) fault)
   RefusesGrowth records refusal (roles.Grower old) new = ⊥
   RefusesGrowth records refusal old new = (refusal ≡ NotSo) × (new ≡ old)
+
+  -- it is a block of so many blank records, which stand there, for a grower
+  abbrev pub IsBlockOf : ℕ → Ptr → Role R record_of eq_of → Role R record_of eq_of → Type 0
+  IsBlockOf count place (roles.Grower grower) (roles.Block block) = (block ≡ replicate count record_of.blank_value) × StandAt block place
+  IsBlockOf count place end block = ⊥
+
+  -- why there is none: a growth of so many records can't be, or there was no memory for it; or it is no grower
+  abbrev pub RefusesBlock : ℕ → Refusal → Role R record_of eq_of → Type 0
+  RefusesBlock count refusal (roles.Grower grower) = (fault : FreshFault) × (refusal ≡ of_block fault) × IsBlockRefusal record_of.form.width count fault
+  RefusesBlock count refusal end = refusal ≡ NotSo
+
+  -- the grower made one growth of the records that the block had
+  abbrev pub Publishes : Receipt → Role R record_of eq_of → Role R record_of eq_of → Role R record_of eq_of → Type 0
+  Publishes receipt (roles.Block block) old new = Grows block receipt old new
+  Publishes receipt block old new = ⊥
+
+  -- Why it didn't: there was no room for the growth, or another came first, and the grower has learned what others grew; or the ends
+  -- are no block and grower, and the grower's is as it was.
+  abbrev pub RefusesPublishing : Refusal → Role R record_of eq_of → Role R record_of eq_of → Role R record_of eq_of → Type 0
+  RefusesPublishing refusal (roles.Block block) (roles.Grower old) (roles.Grower new) =
+      (growers.phase_of new ≡ growers.phase_of old) × SeatLearns old.seat new.seat
+      × ((fault : GrowFault) × (refusal ≡ of_growth fault) × IsBookRefusal (growers.phase_of old) new.seat (length block) fault)
+  RefusesPublishing refusal (roles.Block block) (roles.Grower old) new = ⊥
+  RefusesPublishing refusal block old new = (refusal ≡ NotSo) × (new ≡ old)
 
   -- a growth is none of the phase; or it is no grower, and is as it was
   abbrev pub RefusesLook : Refusal → Role R record_of eq_of → Role R record_of eq_of → Type 0
@@ -75,6 +105,21 @@ module _ {R : Type 0} {record_of : Record.Ghosts R} {eq_of : PartialEq.Ghosts R}
   Reads from before after count (roles.Grower old) (roles.Grower new) =
       (new ≡ old) × Copies (list_of old) from before after count × ((count ≡ 0) → (length (list_of old) ≤ from) ⊎ (length before ≡ 0))
   Reads from before after count old new = ⊥
+
+  -- of the records of its list from that position on so many pieces are told in front of the output
+  abbrev pub TellsPieces : ℕ → List Piece → List Piece → ℕ → Role R record_of eq_of → Role R record_of eq_of → Type 0
+  TellsPieces from before after count (roles.Grower old) (roles.Grower new) = (new ≡ old) × TellsFrom (list_of old) from before after count
+  TellsPieces from before after count old new = ⊥
+
+  -- so many of the records that it knows equal that one
+  abbrev pub Counts : R → ℕ → Role R record_of eq_of → Role R record_of eq_of → Type 0
+  Counts x count (roles.Grower old) new = (new ≡ roles.Grower old) × (count ≡ count_by (equals eq_of.eq x) (list_of old))
+  Counts x count old new = ⊥
+
+  -- that is the first position from there on whose record equals that one, or how many records it knows
+  abbrev pub Finds : R → ℕ → ℕ → Role R record_of eq_of → Role R record_of eq_of → Type 0
+  Finds x from place (roles.Grower old) new = (new ≡ roles.Grower old) × IsFoundFrom (list_of old) x from place
+  Finds x from place old new = ⊥
 
   -- ---- who commits
 

@@ -1,20 +1,18 @@
 -- What a call makes of a vault, and how an end becomes one.
 use Rattle.std.specs.Prelude.{◌≡◌, ◌⊎◌, ℕ, Bool, List, length, drop, Ok, Err}
-use Rattle.std.specs.List.{count_by}
 use Rattle.std.specs.declared.cmp.PartialEq as PartialEq
 use Rattle.record_core.specs.declared.record.Record as Record
 use Rattle.disk_core.specs.FileDisk.{states_of, KeepsSoFar}
-use Rattle.directory_core.specs.Limits.{growth_limit}
 use Rattle.pen_core.specs.declared.fault.PenFault.{PenFault}
 use Rattle.vault_core.specs.declared.fault.VaultFault.{VaultFault}
 use Rattle.vault_core.specs.declared.fault.VaultFault.TheVariants.{Pen}
-use Rattle.vault_core.specs.Sharing.{IsShareFault}
+use Rattle.vault_core.specs.Sharing.{IsWideShareFault}
 use Rattle.phase_core.specs.declared.ending.GatherFault.{GatherFault}
 use Rattle.phase_core.specs.Gathering.{Gathers, RefusesGather}
 use Rattle.phase_core.specs.Sharing.{Lends}
 use Rattle.phase_core.specs.Folding.{Folds, RefusesFold}
 use Rattle.phase_core.specs.Grower.{Copies}
-use Rattle.phase_core.specs.HostVault.{list_of, IsFoundFrom, equals}
+use Rattle.phase_core.specs.HostVault.{list_of}
 use Rattle.phase_core.specs.HostCommands.{IsChange, IsResize, IsClear}
 use Rattle.handle_core.specs.declared.refusal.Refusal.{Refusal}
 use Rattle.handle_core.specs.declared.refusal.Refusal.TheVariants.{Memory, NotSo}
@@ -36,19 +34,19 @@ module _ {R : Type 0} {record_of : Record.Ghosts R} {eq_of : PartialEq.Ghosts R}
   RefusesGathering refusal (roles.Committer old) new = ⊥
   RefusesGathering refusal old new = (refusal ≡ NotSo) × (new ≡ old)
 
-  -- the vault is lent to a phase with so many seats, the first of these ends, and to who commits
-  abbrev pub SharesOut : ℕ → Role R record_of eq_of → Role R record_of eq_of → Role R record_of eq_of → Type 0
-  SharesOut seats (roles.Phase phase) (roles.Vault old) (roles.Committer new) = Lends old.vault old.made seats phase new
-  SharesOut seats end old new = ⊥
+  -- the vault is lent to a phase with room for so many growths and so many seats, the first of these ends, and to who commits
+  abbrev pub SharesOut : ℕ → ℕ → Role R record_of eq_of → Role R record_of eq_of → Role R record_of eq_of → Type 0
+  SharesOut growths seats (roles.Phase phase) (roles.Vault old) (roles.Committer new) = Lends old.vault old.made growths seats phase new
+  SharesOut growths seats end old new = ⊥
 
   -- Why it isn't: it is as it was; or there was no memory for what the ends share, and none is left. Or it is another end, and is
   -- as it was.
-  abbrev pub RefusesSharing : ℕ → Refusal → Role R record_of eq_of → Role R record_of eq_of → Type 0
-  RefusesSharing seats refusal (roles.Vault old) (roles.Vault new) =
-      (new ≡ old) × ((refusal ≡ Memory) ⊎ ((fault : PenFault) × (refusal ≡ of_pen fault) × IsShareFault old.vault growth_limit seats (Pen fault)))
-  RefusesSharing seats refusal (roles.Vault old) roles.Nothing = refusal ≡ Memory
-  RefusesSharing seats refusal (roles.Vault old) new = ⊥
-  RefusesSharing seats refusal old new = (refusal ≡ NotSo) × (new ≡ old)
+  abbrev pub RefusesSharing : ℕ → ℕ → Refusal → Role R record_of eq_of → Role R record_of eq_of → Type 0
+  RefusesSharing growths seats refusal (roles.Vault old) (roles.Vault new) =
+      (new ≡ old) × ((refusal ≡ Memory) ⊎ ((fault : PenFault) × (refusal ≡ of_pen fault) × IsWideShareFault old.vault growths seats (Pen fault)))
+  RefusesSharing growths seats refusal (roles.Vault old) roles.Nothing = refusal ≡ Memory
+  RefusesSharing growths seats refusal (roles.Vault old) new = ⊥
+  RefusesSharing growths seats refusal old new = (refusal ≡ NotSo) × (new ≡ old)
 
   -- ---- what is asked of a vault
 
@@ -67,16 +65,6 @@ module _ {R : Type 0} {record_of : Record.Ghosts R} {eq_of : PartialEq.Ghosts R}
   ReadsAll from before after count (roles.Vault old) new =
       (new ≡ roles.Vault old) × Copies (list_of old) from before after count × ((count ≡ length before) ⊎ (count ≡ length (drop from (list_of old))))
   ReadsAll from before after count old new = ⊥
-
-  -- so many of its records equal that one
-  abbrev pub Counts : R → ℕ → Role R record_of eq_of → Role R record_of eq_of → Type 0
-  Counts x count (roles.Vault old) new = (new ≡ roles.Vault old) × (count ≡ count_by (equals eq_of.eq x) (list_of old))
-  Counts x count old new = ⊥
-
-  -- that is the first position from there on whose record equals that one, or how many records there are
-  abbrev pub Finds : R → ℕ → ℕ → Role R record_of eq_of → Role R record_of eq_of → Type 0
-  Finds x from place (roles.Vault old) new = (new ≡ roles.Vault old) × IsFoundFrom (list_of old) x from place
-  Finds x from place old new = ⊥
 
   -- ---- commands
 

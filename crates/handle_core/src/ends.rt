@@ -1,16 +1,16 @@
 //! The calls of an end that name no record, whatever records its vector has.
 
 ghost use Rattle.std.specs.Prelude.{◌≡◌, true, IfOk, IfErr, OnOk};
-ghost use Rattle.directory_core.specs.Limits.{growth_limit};
-ghost use Rattle.book_core.specs.Beginning.{MayBegin};
+ghost use Rattle.book_core.specs.Beginning.{MayBeginWide};
 ghost use Rattle.handle_core.specs.Begins.{Feeds, RefusesFeeding, Begins, RefusesBeginning};
-ghost use Rattle.handle_core.specs.Roles.{Seats, RefusesSeat, Tells, IsNoGrower, Sizes, RefusesLook, Plans, RefusesPlan, Lists, Settles, RefusesSettle};
+ghost use Rattle.handle_core.specs.Roles.{Seats, RefusesSeat, Tells, TellsPieces, IsNoGrower, Sizes, Publishes, IsBlockOf, RefusesBlock, RefusesPublishing, RefusesLook, Plans, RefusesPlan, Lists, Settles, RefusesSettle};
 ghost use Rattle.handle_core.specs.Vaults.{GathersIn, RefusesGathering, SharesOut, RefusesSharing, Measures, IsNoVault, Clears, RefusesClear, FoldsAll, RefusesFolding};
-ghost use Rattle.handle_core.specs.Ends.{AtAny, AllAt, OfAny};
+ghost use Rattle.handle_core.specs.Ends.{AtAny, AllAt, OfAny, RefusedWith};
 
 use crate::refusal::Refusal;
 use crate::session::{End, Role, Session};
-use book_core::MarkState;
+use book_core::{MarkState, Receipt};
+use phase_core::Piece;
 use relay_core::Call;
 use segment_core::Format;
 use std::alloc::Global;
@@ -30,20 +30,21 @@ impl Session {
     }
 
     /// Begins the vector of a file whose bytes are all read, or, of a format, an empty one over what a stopped creation left there,
-    /// for so many seats, from 1 to 64: the phase's end is answered, and it is who commits. Refused as a file is, or for want of
+    /// with room for so many growths and so many seats, from 1 to 64: the phase's end is answered, and it is who commits. Refused as a file is, or for want of
     /// memory. The bytes are given up then, but where there was none for the answered end.
     pub fn begin(
         &mut self,
         alloc: Global,
         made: Option<Format>,
+        growths: u64,
         seats: u16,
     ) -> Result<Box<Session>, Refusal>
-        ensures begins { IfOk result (λ phase. AllAt (λ _ _ _. Begins made seats) phase.value.end self.old.end self.new.end) }
-        ensures may { OnOk result (MayBegin growth_limit seats) }
+        ensures begins { IfOk result (λ phase. AllAt (λ _ _ _. Begins made growths seats) phase.value.end self.old.end self.new.end) }
+        ensures may { OnOk result (MayBeginWide growths seats) }
         ensures refused { IfErr result (λ refusal. AtAny (λ _ _ _. RefusesBeginning refusal) self.old.end self.new.end) }
     {
         let room = Box::new(alloc, Session::nothing()).ok();
-        let phase = self.begin_file(alloc, made, seats, room.is_some())?;
+        let phase = self.begin_file(alloc, made, growths, seats, room.is_some())?;
         match room {
             Some(mut end) => {
                 end.put(phase);
@@ -58,19 +59,22 @@ impl Session {
         &mut self,
         alloc: Global,
         made: Option<Format>,
+        growths: u64,
         seats: u16,
         has_room: bool,
     ) -> Result<End, Refusal>
-        ensures begins { IfOk result (λ phase. AllAt (λ _ _ _. Begins made seats) phase self.old.end self.new.end) }
-        ensures may { OnOk result (MayBegin growth_limit seats) }
+        ensures begins { IfOk result (λ phase. AllAt (λ _ _ _. Begins made growths seats) phase self.old.end self.new.end) }
+        ensures may { OnOk result (MayBeginWide growths seats) }
         ensures room { OnOk result (has_room ≡ true) }
         ensures refused { IfErr result (λ refusal. AtAny (λ _ _ _. RefusesBeginning refusal) self.old.end self.new.end) }
     {
         match &mut self.end {
-            End::U32(role) => Ok(End::U32(role.begin(alloc, made, seats, has_room)?)),
-            End::U64(role) => Ok(End::U64(role.begin(alloc, made, seats, has_room)?)),
-            End::Pair(role) => Ok(End::Pair(role.begin(alloc, made, seats, has_room)?)),
-            End::Flagged(role) => Ok(End::Flagged(role.begin(alloc, made, seats, has_room)?)),
+            End::U32(role) => Ok(End::U32(role.begin(alloc, made, growths, seats, has_room)?)),
+            End::U64(role) => Ok(End::U64(role.begin(alloc, made, growths, seats, has_room)?)),
+            End::Pair(role) => Ok(End::Pair(role.begin(alloc, made, growths, seats, has_room)?)),
+            End::Flagged(role) => Ok(End::Flagged(role.begin(
+                alloc, made, growths, seats, has_room,
+            )?)),
         }
     }
 
@@ -84,6 +88,46 @@ impl Session {
             End::U64(role) => Ok(End::U64(role.seat()?)),
             End::Pair(role) => Ok(End::Pair(role.seat()?)),
             End::Flagged(role) => Ok(End::Flagged(role.seat()?)),
+        }
+    }
+
+    /// The end of a block of so many blank records, for a grower, and where they stand. `Empty`; `TooLarge`; `Memory`.
+    pub fn block(&self, alloc: Global, count: u64) -> Result<(End, *const u8), Refusal>
+        ensures block { IfOk result (λ r. AtAny (λ _ _ _. IsBlockOf count r.1) self.now.end r.0) }
+        ensures refused { IfErr result (λ refusal. OfAny (λ _ _ _. RefusesBlock count refusal) self.now.end) }
+    {
+        match &self.end {
+            End::U32(role) => {
+                let (block, place) = role.block(alloc, count)?;
+                Ok((End::U32(block), place))
+            }
+            End::U64(role) => {
+                let (block, place) = role.block(alloc, count)?;
+                Ok((End::U64(block), place))
+            }
+            End::Pair(role) => {
+                let (block, place) = role.block(alloc, count)?;
+                Ok((End::Pair(block), place))
+            }
+            End::Flagged(role) => {
+                let (block, place) = role.block(alloc, count)?;
+                Ok((End::Flagged(block), place))
+            }
+        }
+    }
+
+    /// Grows by a block, which is to be given up then. `Width`, where it has other records; `Again`, where another growth came
+    /// first. Refused, the block is as it was.
+    pub fn publish(&mut self, block: &mut Session) -> Result<Receipt, Refusal>
+        ensures grown { IfOk result (λ receipt. AllAt (λ _ _ _. Publishes receipt) block.old.end self.old.end self.new.end) }
+        ensures refused { IfErr result (λ refusal. RefusedWith (λ refusal _ _ _. RefusesPublishing refusal) refusal block.old.end self.old.end self.new.end × (block.new.end ≡ block.old.end)) }
+    {
+        match (&mut self.end, &mut block.end) {
+            (End::U32(role), End::U32(block)) => role.publish(block),
+            (End::U64(role), End::U64(block)) => role.publish(block),
+            (End::Pair(role), End::Pair(block)) => role.publish(block),
+            (End::Flagged(role), End::Flagged(block)) => role.publish(block),
+            _ => Err(Refusal::Width),
         }
     }
 
@@ -110,6 +154,20 @@ impl Session {
             End::U64(role) => role.size(),
             End::Pair(role) => role.size(),
             End::Flagged(role) => role.size(),
+        }
+    }
+
+    /// Tells where the records stand that a grower knows, piece by piece from position `from` on, in front of `out`, and
+    /// answers how many pieces: as many as `out` has room for, or all.
+    pub fn pieces(&mut self, from: u64, out: &mut [Piece]) -> Result<u64, Refusal>
+        ensures told { IfOk result (λ count. AtAny (λ _ _ _. TellsPieces from out.old out.new count) self.old.end self.new.end) }
+        ensures refused { IfErr result (λ refusal. AtAny (λ _ _ _. IsNoGrower refusal) self.old.end self.new.end × (out.new ≡ out.old)) }
+    {
+        match &mut self.end {
+            End::U32(role) => role.pieces(from, out),
+            End::U64(role) => role.pieces(from, out),
+            End::Pair(role) => role.pieces(from, out),
+            End::Flagged(role) => role.pieces(from, out),
         }
     }
 
@@ -166,14 +224,19 @@ impl Session {
         }
     }
 
-    /// A vault is lent to a phase with so many seats, whose end is answered, and to who commits. Where there was no memory for
+    /// A vault is lent, with room for so many growths, to a phase with so many seats, whose end is answered, and to who commits. Where there was no memory for
     /// what these share, the handle has no end.
-    pub fn share(&mut self, alloc: Global, seats: u16) -> Result<Box<Session>, Refusal>
-        ensures shares { IfOk result (λ end. AllAt (λ _ _ _. SharesOut seats) end.value.end self.old.end self.new.end) }
-        ensures refused { IfErr result (λ refusal. AtAny (λ _ _ _. RefusesSharing seats refusal) self.old.end self.new.end) }
+    pub fn share(
+        &mut self,
+        alloc: Global,
+        growths: u64,
+        seats: u16,
+    ) -> Result<Box<Session>, Refusal>
+        ensures shares { IfOk result (λ end. AllAt (λ _ _ _. SharesOut growths seats) end.value.end self.old.end self.new.end) }
+        ensures refused { IfErr result (λ refusal. AtAny (λ _ _ _. RefusesSharing growths seats refusal) self.old.end self.new.end) }
     {
         let room = Box::new(alloc, Session::nothing()).ok();
-        let phase = self.share_out(alloc, seats, room.is_some())?;
+        let phase = self.share_out(alloc, growths, seats, room.is_some())?;
         match room {
             Some(mut end) => {
                 end.put(phase);
@@ -191,16 +254,22 @@ impl Session {
     }
 
     /// The same, with the phase's end by itself. `Memory` too where its caller has no room for that.
-    fn share_out(&mut self, alloc: Global, seats: u16, has_room: bool) -> Result<End, Refusal>
-        ensures shares { IfOk result (λ end. AllAt (λ _ _ _. SharesOut seats) end self.old.end self.new.end) }
+    fn share_out(
+        &mut self,
+        alloc: Global,
+        growths: u64,
+        seats: u16,
+        has_room: bool,
+    ) -> Result<End, Refusal>
+        ensures shares { IfOk result (λ end. AllAt (λ _ _ _. SharesOut growths seats) end self.old.end self.new.end) }
         ensures room { OnOk result (has_room ≡ true) }
-        ensures refused { IfErr result (λ refusal. AtAny (λ _ _ _. RefusesSharing seats refusal) self.old.end self.new.end) }
+        ensures refused { IfErr result (λ refusal. AtAny (λ _ _ _. RefusesSharing growths seats refusal) self.old.end self.new.end) }
     {
         match &mut self.end {
-            End::U32(role) => Ok(End::U32(role.share(alloc, seats, has_room)?)),
-            End::U64(role) => Ok(End::U64(role.share(alloc, seats, has_room)?)),
-            End::Pair(role) => Ok(End::Pair(role.share(alloc, seats, has_room)?)),
-            End::Flagged(role) => Ok(End::Flagged(role.share(alloc, seats, has_room)?)),
+            End::U32(role) => Ok(End::U32(role.share(alloc, growths, seats, has_room)?)),
+            End::U64(role) => Ok(End::U64(role.share(alloc, growths, seats, has_room)?)),
+            End::Pair(role) => Ok(End::Pair(role.share(alloc, growths, seats, has_room)?)),
+            End::Flagged(role) => Ok(End::Flagged(role.share(alloc, growths, seats, has_room)?)),
         }
     }
 

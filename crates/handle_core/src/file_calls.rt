@@ -1,8 +1,7 @@
 //! How a file is read, and how its vector begins.
 
 ghost use Rattle.std.specs.Prelude.{◌≡◌, [], true, IfOk, IfErr, OnOk, MatchOption};
-ghost use Rattle.directory_core.specs.Limits.{growth_limit};
-ghost use Rattle.book_core.specs.Beginning.{MayBegin};
+ghost use Rattle.book_core.specs.Beginning.{MayBeginWide};
 ghost use Rattle.handle_core.specs.Begins.{HasRead, Feeds, RefusesFeeding, Begins, RefusesBeginning};
 ghost use Rattle.handle_core.specs.Ends.{IsWidth, OfAny, width_of};
 
@@ -46,24 +45,25 @@ impl<R: Record> Role<R> {
     }
 
     /// Begins the vector of a file whose bytes are all read, or, of a format, an empty one over what a stopped creation left there,
-    /// for so many seats: the phase's end is answered, and it is who commits. `Memory` too where its caller has no room for that
+    /// with room for so many growths and so many seats: the phase's end is answered, and it is who commits. `Memory` too where its caller has no room for that
     /// end. Otherwise the bytes are given up where it is refused.
     pub(crate) fn begin(
         &mut self,
         alloc: Global,
         made: Option<Format>,
+        growths: u64,
         seats: u16,
         has_room: bool,
     ) -> Result<Role<R>, Refusal>
-        ensures begins { IfOk result (λ phase. Begins made seats phase self.old self.new) }
-        ensures may { OnOk result (MayBegin growth_limit seats) }
+        ensures begins { IfOk result (λ phase. Begins made growths seats phase self.old self.new) }
+        ensures may { OnOk result (MayBeginWide growths seats) }
         ensures room { OnOk result (has_room ≡ true) }
         ensures refused { IfErr result (λ refusal. RefusesBeginning refusal self.old self.new) }
     {
         match mem::replace(self, Role::Nothing) {
             Role::File(read) => {
                 if has_room {
-                    return self.begin_over(alloc, read, made, seats);
+                    return self.begin_over(alloc, read, made, growths, seats);
                 }
                 self.put(Role::File(read));
                 Err(Refusal::Memory)
@@ -81,14 +81,15 @@ impl<R: Record> Role<R> {
         alloc: Global,
         read: Vec<u8>,
         made: Option<Format>,
+        growths: u64,
         seats: u16,
     ) -> Result<Role<R>, Refusal>
         requires { self.old ≡ Role.Nothing }
-        ensures begins { IfOk result (λ phase. Begins made seats phase (Role.File read) self.new) }
-        ensures may { OnOk result (MayBegin growth_limit seats) }
+        ensures begins { IfOk result (λ phase. Begins made growths seats phase (Role.File read) self.new) }
+        ensures may { OnOk result (MayBeginWide growths seats) }
         ensures refused { IfErr result (λ refusal. RefusesBeginning refusal (Role.File read) self.new) }
     {
-        let (phase, committer) = ends_over(alloc, read, made, seats)?;
+        let (phase, committer) = ends_over(alloc, read, made, growths, seats)?;
         self.put(committer);
         Ok(phase)
     }
@@ -99,17 +100,18 @@ fn ends_over<R: Record>(
     alloc: Global,
     read: Vec<u8>,
     made: Option<Format>,
+    growths: u64,
     seats: u16,
 ) -> Result<(Role<R>, Role<R>), Refusal>
-    ensures begins { IfOk result (λ ends. Begins made seats ends.0 (Role.File read) ends.1) }
-    ensures may { OnOk result (MayBegin growth_limit seats) }
+    ensures begins { IfOk result (λ ends. Begins made growths seats ends.0 (Role.File read) ends.1) }
+    ensures may { OnOk result (MayBeginWide growths seats) }
 {
     match made {
-        Some(format) => match Phase::create(alloc, read, format, seats) {
+        Some(format) => match Phase::create(alloc, read, format, growths, seats) {
             Ok((phase, committer)) => Ok((Role::Phase(phase), Role::Committer(committer))),
             Err(fault) => Err(Refusal::of_begin(fault)),
         },
-        None => match Phase::open(alloc, read, seats) {
+        None => match Phase::open(alloc, read, growths, seats) {
             Ok((phase, committer)) => Ok((Role::Phase(phase), Role::Committer(committer))),
             Err(fault) => Err(Refusal::of_begin(fault)),
         },

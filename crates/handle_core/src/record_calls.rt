@@ -2,8 +2,8 @@
 //! `Width`, and the end is as it was.
 
 ghost use Rattle.std.specs.Prelude.{◌≡◌, IfOk, IfErr, OnOk};
-ghost use Rattle.handle_core.specs.Roles.{Grows, RefusesGrowth, Reads, IsNoGrower};
-ghost use Rattle.handle_core.specs.Vaults.{ReadsAll, Counts, Finds, IsNoVault, Changes, RefusesChange, Resizes, RefusesResize};
+ghost use Rattle.handle_core.specs.Roles.{Grows, RefusesGrowth, Reads, Counts, Finds, IsNoGrower};
+ghost use Rattle.handle_core.specs.Vaults.{ReadsAll, IsNoVault, Changes, RefusesChange, Resizes, RefusesResize};
 ghost use Rattle.handle_core.specs.Ends.{At, RefusedAt};
 
 use crate::end_record::EndRecord;
@@ -59,13 +59,13 @@ impl Session {
         }
     }
 
-    /// How many records of a vault equal this one.
+    /// How many of the records that a grower knows equal this one.
     pub fn count<R: Record + EndRecord<Role = Role<R>>>(
         &mut self,
         sought: R,
     ) -> Result<u64, Refusal>
         ensures count { IfOk result (λ count. At R.role_of (Counts sought count) self.old.end self.new.end) }
-        ensures refused { IfErr result (λ refusal. RefusedAt R.role_of IsNoVault refusal self.old.end self.new.end) }
+        ensures refused { IfErr result (λ refusal. RefusedAt R.role_of IsNoGrower refusal self.old.end self.new.end) }
     {
         match R::role(&mut self.end) {
             Some(role) => role.count(sought),
@@ -73,14 +73,14 @@ impl Session {
         }
     }
 
-    /// The first position from `from` on whose record equals this one, or how many records a vault has.
+    /// The first position from `from` on whose record equals this one, or how many records a grower knows.
     pub fn find<R: Record + EndRecord<Role = Role<R>>>(
         &mut self,
         sought: R,
         from: u64,
     ) -> Result<u64, Refusal>
         ensures found { IfOk result (λ place. At R.role_of (Finds sought from place) self.old.end self.new.end) }
-        ensures refused { IfErr result (λ refusal. RefusedAt R.role_of IsNoVault refusal self.old.end self.new.end) }
+        ensures refused { IfErr result (λ refusal. RefusedAt R.role_of IsNoGrower refusal self.old.end self.new.end) }
     {
         match R::role(&mut self.end) {
             Some(role) => role.find(sought, from),

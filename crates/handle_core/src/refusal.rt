@@ -1,8 +1,9 @@
 //! Why a call is refused, in numbers.
 
 ghost use Rattle.std.specs.Prelude.{◌≡◌, ◌<◌};
-ghost use Rattle.handle_core.specs.Refusal.{code_of, of_gather, of_growth, of_pen, of_vault};
+ghost use Rattle.handle_core.specs.Refusal.{code_of, of_block, of_gather, of_growth, of_pen, of_vault};
 
+use block_core::FreshFault;
 use book_core::GrowFault;
 use pen_core::PenFault;
 use phase_core::GatherFault;
@@ -117,6 +118,17 @@ impl Refusal {
             VaultFault::Pen(fault) => Refusal::of_pen(fault),
             VaultFault::Unsettled(_) => Refusal::Unsettled,
             VaultFault::WrongPhase => Refusal::Busy,
+        }
+    }
+
+    /// That of a block.
+    pub(crate) fn of_block(fault: FreshFault) -> Refusal
+        ensures { result ≡ of_block fault }
+    {
+        match fault {
+            FreshFault::Empty => Refusal::Empty,
+            FreshFault::TooLarge => Refusal::TooLarge,
+            FreshFault::Memory => Refusal::Memory,
         }
     }
 

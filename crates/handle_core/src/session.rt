@@ -2,6 +2,7 @@
 
 ghost use Rattle.std.specs.Prelude.{◌≡◌};
 
+use block_core::Fresh;
 use phase_core::{Committer, Grower, HostDisk, HostVault, Phase};
 use record_core::{Flagged, Pair, Record};
 use std::mem;
@@ -19,6 +20,8 @@ pub enum Role<R: Record> {
     Committer(Committer<R, HostDisk>),
     /// Who has the vector alone.
     Vault(HostVault<R, HostDisk>),
+    /// A block of records that C writes in place, before they are grown by.
+    Block(Fresh<R>),
     /// None: it was given up.
     Nothing,
 }

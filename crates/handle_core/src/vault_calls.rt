@@ -2,7 +2,7 @@
 
 ghost use Rattle.std.specs.Prelude.{◌≡◌, true, IfOk, IfErr, OnOk, MatchOption};
 ghost use Rattle.handle_core.specs.Refusal.{of_pen};
-ghost use Rattle.handle_core.specs.Vaults.{GathersIn, RefusesGathering, SharesOut, RefusesSharing, Measures, ReadsAll, Counts, Finds, IsNoVault, Changes, RefusesChange, Resizes, RefusesResize, Clears, RefusesClear, FoldsAll, RefusesFolding};
+ghost use Rattle.handle_core.specs.Vaults.{GathersIn, RefusesGathering, SharesOut, RefusesSharing, Measures, ReadsAll, IsNoVault, Changes, RefusesChange, Resizes, RefusesResize, Clears, RefusesClear, FoldsAll, RefusesFolding};
 
 use crate::refusal::Refusal;
 use crate::session::Role;
@@ -50,20 +50,21 @@ impl<R: Record> Role<R> {
         }
     }
 
-    /// A vault is lent to a phase with so many seats, whose end is answered, and to who commits. `Memory` too where its caller
-    /// has no room for that end. Where there was no memory for what these share, it is no end.
+    /// A vault is lent, with room for so many growths, to a phase with so many seats, whose end is answered, and to who commits.
+    /// `Memory` too where its caller has no room for that end. Where there was no memory for what these share, it is no end.
     pub(crate) fn share(
         &mut self,
         alloc: Global,
+        growths: u64,
         seats: u16,
         has_room: bool,
     ) -> Result<Role<R>, Refusal>
-        ensures shares { IfOk result (λ end. SharesOut seats end self.old self.new) }
+        ensures shares { IfOk result (λ end. SharesOut growths seats end self.old self.new) }
         ensures room { OnOk result (has_room ≡ true) }
-        ensures refused { IfErr result (λ refusal. RefusesSharing seats refusal self.old self.new) }
+        ensures refused { IfErr result (λ refusal. RefusesSharing growths seats refusal self.old self.new) }
     {
         match mem::replace(self, Role::Nothing) {
-            Role::Vault(vault) => self.share_vault(alloc, vault, seats, has_room),
+            Role::Vault(vault) => self.share_vault(alloc, vault, growths, seats, has_room),
             other => {
                 self.put(other);
                 Err(Refusal::NotSo)
@@ -76,19 +77,20 @@ impl<R: Record> Role<R> {
         &mut self,
         alloc: Global,
         vault: HostVault<R, HostDisk>,
+        growths: u64,
         seats: u16,
         has_room: bool,
     ) -> Result<Role<R>, Refusal>
         requires { self.old ≡ Role.Nothing }
-        ensures shares { IfOk result (λ end. SharesOut seats end (Role.Vault vault) self.new) }
+        ensures shares { IfOk result (λ end. SharesOut growths seats end (Role.Vault vault) self.new) }
         ensures room { OnOk result (has_room ≡ true) }
-        ensures refused { IfErr result (λ refusal. RefusesSharing seats refusal (Role.Vault vault) self.new) }
+        ensures refused { IfErr result (λ refusal. RefusesSharing growths seats refusal (Role.Vault vault) self.new) }
     {
         if !has_room {
             self.put(Role::Vault(vault));
             return Err(Refusal::Memory);
         }
-        match vault.share(alloc, seats) {
+        match vault.share(alloc, growths, seats) {
             Ok((phase, committer)) => {
                 self.put(Role::Committer(committer));
                 Ok(Role::Phase(phase))
@@ -130,28 +132,6 @@ impl<R: Record> Role<R> {
     {
         match self {
             Role::Vault(vault) => Ok(vault.read(from, out) as u64),
-            _ => Err(Refusal::NotSo),
-        }
-    }
-
-    /// How many records of a vault equal this one.
-    pub(crate) fn count(&self, sought: R) -> Result<u64, Refusal>
-        ensures count { IfOk result (λ count. Counts sought count self.now self.now) }
-        ensures refused { IfErr result (λ refusal. IsNoVault refusal self.now self.now) }
-    {
-        match self {
-            Role::Vault(vault) => Ok(vault.count(sought)),
-            _ => Err(Refusal::NotSo),
-        }
-    }
-
-    /// The first position from `from` on whose record equals this one, or how many records a vault has.
-    pub(crate) fn find(&self, sought: R, from: u64) -> Result<u64, Refusal>
-        ensures found { IfOk result (λ place. Finds sought from place self.now self.now) }
-        ensures refused { IfErr result (λ refusal. IsNoVault refusal self.now self.now) }
-    {
-        match self {
-            Role::Vault(vault) => Ok(vault.find(sought, from)),
             _ => Err(Refusal::NotSo),
         }
     }

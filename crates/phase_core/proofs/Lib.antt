@@ -2,6 +2,9 @@ mod LogLeft
 mod GoesOnLemmas
 mod WrittenLemmas
 mod PieceLemmas
+mod TellLemmas
+mod RoomLemmas
 mod GrowerSame
 mod PutNext
 mod Worked
+mod WorkedTelling

@@ -1,7 +1,8 @@
 -- Worked examples: what a read leaves, what a change writes, and where a record is found.
 use Rattle.std.proofs.Common.{◌≡◌, ◌⊎◌, ℕ, zero, suc, ◌+◌, ◌<◌, ◌≤◌, List, [], ◌∷◌, refl, inl, inr, ap, arith, slice_get, Option, None, Some}
 use Rattle.phase_core.specs.Grower.{Copies}
-use Rattle.phase_core.specs.HostVault.{AreWritten, IsFoundFrom}
+use Rattle.phase_core.specs.Grower.{IsFoundFrom}
+use Rattle.phase_core.specs.HostVault.{AreWritten}
 
 -- two records from position 1 on stand in front, and behind them what stood there
 two : Copies {R = ℕ} (5 ∷ 7 ∷ 11 ∷ []) 1 (1 ∷ 2 ∷ 3 ∷ []) (7 ∷ 11 ∷ 3 ∷ []) 2

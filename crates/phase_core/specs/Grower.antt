@@ -1,5 +1,5 @@
 -- A thread's own end of a phase.
-use Rattle.std.specs.Prelude.{◌≡◌, ℕ, ◌≤◌, List, ◌++◌, length, take, drop}
+use Rattle.std.specs.Prelude.{◌≡◌, ℕ, ◌<◌, ◌≤◌, Bool, List, ◌++◌, length, take, drop, slice_get, Some}
 use Rattle.std.specs.Arc.{arc_value}
 use Rattle.std.specs.declared.cmp.PartialEq as PartialEq
 use Rattle.record_core.specs.declared.record.Record as Record
@@ -19,3 +19,13 @@ module _ {R : Type 0} {record_of : Record.Ghosts R} {eq_of : PartialEq.Ghosts R}
 pub record Copies {R : Type 0} (list : List R) (from : ℕ) (old new : List R) (count : ℕ) : Type 0 where
   pub inside : (count ≤ length old) × (count ≤ length (drop from list))
   pub is : new ≡ take count (drop from list) ++ drop count old
+
+-- the records that equal x
+abbrev pub equals : {R : Type 0} → (R → R → Bool) → R → R → Bool
+equals eq x r = eq r x
+
+-- It stands there, and nowhere from that position on before; where it stands nowhere behind, it is the list's length.
+pub record IsFoundFrom {R : Type 0} (list : List R) (x : R) (from place : ℕ) : Type 0 where
+  pub within : place ≤ length list
+  pub here : place < length list → (from ≤ place) × (slice_get list place ≡ Some x)
+  pub first : (i : ℕ) → from ≤ i → i < place → slice_get list i ≡ Some x → ⊥

@@ -1,5 +1,5 @@
 -- A vault over a file whose calls a host makes.
-use Rattle.std.specs.Prelude.{◌≡◌, ◌⊎◌, ℕ, ◌+◌, ◌<◌, ◌≤◌, Bool, List, length, slice_get, Some}
+use Rattle.std.specs.Prelude.{◌≡◌, ◌⊎◌, ℕ, ◌+◌, ◌<◌, ◌≤◌, List, length, slice_get}
 use Rattle.disk_core.specs.declared.disk.Disk.{Ghosts}
 use Rattle.relay_core.specs.declared.call.Call.{Call}
 use Rattle.relay_core.specs.declared.relay_disk.RelayDisk.{RelayDisk}
@@ -25,13 +25,3 @@ pub record AreWritten {R : Type 0} (start : ℕ) (records old new : List R) : Ty
   pub same_length : length new ≡ length old
   pub inside : (k : ℕ) → k < length records → start + k < length old → slice_get new (start + k) ≡ slice_get records k
   pub outside : (i : ℕ) → (i < start) ⊎ (start + length records ≤ i) → slice_get new i ≡ slice_get old i
-
--- the records that equal x
-abbrev pub equals : {R : Type 0} → (R → R → Bool) → R → R → Bool
-equals eq x r = eq r x
-
--- It stands there, and nowhere from that position on before; where it stands nowhere behind, it is the list's length.
-pub record IsFoundFrom {R : Type 0} (list : List R) (x : R) (from place : ℕ) : Type 0 where
-  pub within : place ≤ length list
-  pub here : place < length list → (from ≤ place) × (slice_get list place ≡ Some x)
-  pub first : (i : ℕ) → from ≤ i → i < place → slice_get list i ≡ Some x → ⊥

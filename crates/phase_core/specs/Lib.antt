@@ -1,10 +1,12 @@
 pub mod Grower
+pub mod Telling
 pub mod Committing
 pub mod Listing
 pub mod Committer
 pub mod HostVault
 pub mod HostCommands
 pub mod Gathering
+pub mod Room
 pub mod Sharing
 pub mod Folding
 pub mod Host

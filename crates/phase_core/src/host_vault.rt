@@ -1,7 +1,6 @@
 //! A vault over a file whose calls a host makes.
 
 ghost use Rattle.std.specs.Prelude.{◌≡◌, ◌⊎◌, length, drop, IfOk, IfErr, IfSome, IsNone};
-ghost use Rattle.std.specs.List.{count_by};
 ghost use Rattle.disk_core.specs.Moments.{clock};
 ghost use Rattle.relay_core.specs.Listed.{LeadTo};
 ghost use Rattle.phase_core.specs.Grower.{Copies};
@@ -9,7 +8,7 @@ ghost use Rattle.phase_core.specs.Folding.{Folds, RefusesFold};
 
 use crate::folding::fold_whole;
 use crate::listing::list_from;
-use crate::searching::{count_equal, find_equal, read_from};
+use crate::searching::read_from;
 use crate::writing::Written;
 use disk_core::Disk;
 use record_core::Record;
@@ -25,7 +24,7 @@ pub struct HostVault<R: Record, D: Disk> {
 }
 
 impl<R: Record, D: Disk> HostVault<R, D> {
-    ghost use Rattle.phase_core.specs.HostVault.{list_of, disk_of, calls_of, IsFoundFrom, equals};
+    ghost use Rattle.phase_core.specs.HostVault.{list_of, disk_of, calls_of};
     ghost use Rattle.phase_core.specs.HostCommands.{IsChange, IsResize, IsClear};
 
     /// How many records it has.
@@ -41,20 +40,6 @@ impl<R: Record, D: Disk> HostVault<R, D> {
         ensures all { (result ≡ length out.old) ⊎ (result ≡ length (drop from (list_of self.now))) }
     {
         read_from(&self.vault, from, out)
-    }
-
-    /// How many of its records equal this one.
-    pub fn count(&self, sought: R) -> u64
-        ensures { result ≡ count_by (equals R.Eq.eq sought) (list_of self.now) }
-    {
-        count_equal(&self.vault, sought)
-    }
-
-    /// The first position from `from` on whose record equals this one. How many records it has, where none does.
-    pub fn find(&self, sought: R, from: u64) -> u64
-        ensures { IsFoundFrom (list_of self.now) sought from result }
-    {
-        find_equal(&self.vault, sought, from)
     }
 
     /// Writes the records over those from position `start` on, by one frame. With none nothing is written. Refused as

@@ -11,6 +11,7 @@ mod host_vault;
 mod lending;
 mod listing;
 mod phase;
+mod piece;
 mod searching;
 mod writing;
 
@@ -20,3 +21,4 @@ pub use grower::Grower;
 pub use host::HostDisk;
 pub use host_vault::HostVault;
 pub use phase::{BeginFault, Phase};
+pub use piece::{Piece, lend_block};

@@ -4,11 +4,11 @@ ghost use Rattle.std.specs.Prelude.{◌≡◌, [], ◌∷◌, ◌++◌, length, 
 ghost use Rattle.std.specs.Arc.{arc_value};
 ghost use Rattle.disk_core.specs.FileDisk.{KeepsSoFar};
 ghost use Rattle.segment_core.specs.Shape.{shape_of};
-ghost use Rattle.directory_core.specs.Limits.{growth_limit};
 ghost use Rattle.pen_core.specs.Births.{IsExisting};
 ghost use Rattle.pen_core.specs.Opening.{IsOpened};
 ghost use Rattle.book_core.specs.Lists.{opening_of};
-ghost use Rattle.book_core.specs.Beginning.{AreNewSeats, IsNewSeat, MayBegin};
+ghost use Rattle.book_core.specs.Beginning.{AreNewSeats, IsNewSeat, MayBeginWide};
+ghost use Rattle.phase_core.specs.Room.{IsRoomFor};
 
 use crate::committer::Committer;
 use crate::grower::Grower;
@@ -41,12 +41,14 @@ pub enum BeginFault {
 }
 
 impl<R: Record> Phase<R> {
-    /// A phase over a new file of that version, with so many seats: from 1 to 64. The file holds these bytes, none or what a
+    /// A phase over a new file of that version, with room for so many growths, from 1 to `PLACE_LIMIT`, and so many seats: from 1 to
+    /// 64. The file holds these bytes, none or what a
     /// creation left that was stopped: `Exists` where they are more. Who commits lists the calls of its making first.
     pub fn create(
         alloc: Global,
         bytes: Vec<u8>,
         format: Format,
+        growths: u64,
         seats: u16,
     ) -> Result<(Phase<R>, Committer<R, HostDisk>), BeginFault>
         ensures empty { IfOk result (λ r. (arc_value r.0.live).blocks ≡ []) }
@@ -54,31 +56,34 @@ impl<R: Record> Phase<R> {
         ensures one { IfOk result (λ r. arc_value r.1.live ≡ arc_value r.0.live) }
         ensures begins { IfOk result (λ r. (r.1.flusher.settled ≡ 0) × (r.1.flusher.pass.entries ≡ [])) }
         ensures shape { IfOk result (λ r. r.1.flusher.pen.shape ≡ shape_of format R.form) }
+        ensures room { IfOk result (λ r. IsRoomFor growths (arc_value r.0.live).directory.room) }
         ensures seats { IfOk result (λ r. length r.0.seats.items ≡ seats) }
-        ensures may { OnOk result (MayBegin growth_limit seats) }
+        ensures may { OnOk result (MayBeginWide growths seats) }
     {
         match Vault::create_as(alloc, host_disk::<HostFile>(alloc, bytes), format) {
-            Ok(vault) => lend_new(alloc, vault, seats),
+            Ok(vault) => lend_new(alloc, vault, growths, seats),
             Err((_, fault)) => Err(BeginFault::Pen(fault)),
         }
     }
 
-    /// A phase over a file that holds these bytes, with so many seats: from 1 to 64. What the file has stands in it from
+    /// A phase over a file that holds these bytes, with room for so many growths and so many seats, as of a new file. What the file has stands in it from
     /// before, and the bytes are given up. Who commits lists a sync first: what was read is durable from then on.
     pub fn open(
         alloc: Global,
         bytes: Vec<u8>,
+        growths: u64,
         seats: u16,
     ) -> Result<(Phase<R>, Committer<R, HostDisk>), BeginFault>
         ensures opened { IfOk result (λ r. KeepsSoFar r.1.flusher.pen.disk.inner
             → IsOpened R.form bytes.items r.1.flusher.pen (opening_of (arc_value r.0.live))) }
         ensures one { IfOk result (λ r. arc_value r.1.live ≡ arc_value r.0.live) }
         ensures begins { IfOk result (λ r. (r.1.flusher.settled ≡ 0) × (r.1.flusher.pass.entries ≡ [])) }
+        ensures room { IfOk result (λ r. IsRoomFor growths (arc_value r.0.live).directory.room) }
         ensures seats { IfOk result (λ r. length r.0.seats.items ≡ seats) }
-        ensures may { OnOk result (MayBegin growth_limit seats) }
+        ensures may { OnOk result (MayBeginWide growths seats) }
     {
         match Vault::open(alloc, host_disk::<HostFile>(alloc, bytes)) {
-            Ok(vault) => lend_new(alloc, vault, seats),
+            Ok(vault) => lend_new(alloc, vault, growths, seats),
             Err((_, fault)) => Err(BeginFault::Open(fault)),
         }
     }

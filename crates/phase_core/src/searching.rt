@@ -1,11 +1,12 @@
-//! Reads and searches of a vault by one thread.
+//! Reads of a vault, and searches of what a seat knows.
 
 ghost use Rattle.std.specs.Prelude.{◌≡◌, ◌⊎◌, ◌<◌, ◌≤◌, ◌^◌, length, drop, slice_get, Some};
 ghost use Rattle.std.specs.List.{count_by};
 ghost use Rattle.vault_core.specs.Vault.{list_of};
-ghost use Rattle.phase_core.specs.Grower.{Copies};
-ghost use Rattle.phase_core.specs.HostVault.{IsFoundFrom, equals};
+ghost use Rattle.book_core.specs.Lists.{IsSeatOf, seat_list};
+ghost use Rattle.phase_core.specs.Grower.{Copies, IsFoundFrom, equals};
 
+use book_core::{Live, Seat};
 use disk_core::Disk;
 use record_core::Record;
 use relay_core::RelayDisk;
@@ -66,36 +67,36 @@ fn place_in<R: Record>(records: &[R], sought: R) -> u64
     records.len() as u64
 }
 
-/// How many of its records equal this one.
-pub(crate) fn count_equal<R: Record, D: Disk>(vault: &Vault<R, RelayDisk<D>>, sought: R) -> u64
-    ensures { result ≡ count_by (equals R.Eq.eq sought) (list_of vault.now) }
+/// How many of the records that a seat knows equal this one.
+pub(crate) fn count_equal<R: Record>(live: &Live<R>, seat: &mut Seat<R>, sought: R) -> u64
+    requires of { IsSeatOf live.now seat.old }
+    ensures same { seat.new ≡ seat.old }
+    ensures count { result ≡ count_by (equals R.Eq.eq sought) (seat_list live.now seat.old) }
 {
-    let _len = vault.len();
+    let _size = live.size(seat);
+    let mut left = live.pieces_from(seat, 0);
     let mut count: u64 = 0;
-    let mut at: u64 = 0;
-    while let Some(piece) = vault.rest(at) {
+    while let Some(piece) = left.next_piece() {
         count += count_in(piece, sought);
-        at += piece.len() as u64;
     }
     count
 }
 
-/// The first position from `from` on whose record equals this one. How many records there are, where none does.
-pub(crate) fn find_equal<R: Record, D: Disk>(
-    vault: &Vault<R, RelayDisk<D>>,
-    sought: R,
-    from: u64,
-) -> u64
-    ensures { IsFoundFrom (list_of vault.now) sought from result }
+/// The first position from `from` on whose record equals this one. How many records the seat knows, where none does.
+pub(crate) fn find_equal<R: Record>(live: &Live<R>, seat: &mut Seat<R>, sought: R, from: u64) -> u64
+    requires of { IsSeatOf live.now seat.old }
+    ensures same { seat.new ≡ seat.old }
+    ensures found { IsFoundFrom (seat_list live.now seat.old) sought from result }
 {
-    let len = vault.len();
+    let size = live.size(seat);
+    let mut left = live.pieces_from(seat, from);
     let mut at = from;
-    while let Some(piece) = vault.rest(at) {
+    while let Some(piece) = left.next_piece() {
         let place = place_in(piece, sought);
         at += place;
         if place < piece.len() as u64 {
             return at;
         }
     }
-    len
+    size
 }

@@ -1,7 +1,7 @@
 use Rattle.std.proofs.Common.{◌≡◌, ◌+◌, ◌≤◌, ◌^◌, true, false, take, sym, ap, subst, ◌∙◌, rules, arith}
 use Rattle.std.proofs.lemmas.List.{length-take}
 use Rattle.std.proofs.lemmas.List.Sums.{count_by-le-length, count_by_more_yes, count_by_more_no}
-use Rattle.phase_core.specs.HostVault.{equals}
+use Rattle.phase_core.specs.Grower.{equals}
 use Rattle.phase_core.proofs.searching.count_in.Goals.{then-eq, else-eq}
 use Rattle.phase_core.proofs.searching.count_in.Goals as goal
 
