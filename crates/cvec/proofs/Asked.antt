@@ -1,13 +1,13 @@
 -- A command over a file never ends with usage.
 use Rattle.std.proofs.Common.{◌≡◌, ℕ, List, sym, subst, ◌∙◌, inl, inr, Result, Ok, Err}
 use Rattle.std.specs.Prelude.{Option}
+use Rattle.std.specs.declared.num.NonZeroU32.{NonZeroU32}
 use Rattle.record_core.specs.Bytes.{Encoding}
 use Rattle.text_core.specs.Text.{Spelling}
 use Rattle.files_core.specs.declared.ended.Ended.{Ended}
 use Rattle.files_core.specs.declared.ended.Ended.TheVariants.{Done, OutputFailed, Refused}
 use Rattle.files_core.specs.declared.fault.FileFault.{FileFault}
 use Rattle.segment_core.specs.declared.format.Format.{Format}
-use Rattle.beside_core.specs.declared.fault.LookFault.{LookFault}
 use Rattle.follow_core.specs.declared.ended.FollowEnd.{FollowEnd}
 use Rattle.follow_core.specs.declared.ended.FollowEnd.TheVariants as follow_ends
 use Rattle.follow_core.specs.declared.ended.LookEnd.{LookEnd}
@@ -23,8 +23,8 @@ use Rattle.sentences.specs.declared.complaint.Complaint.{Complaint}
 use Rattle.text_core.specs.declared.status.Status.{Status}
 use Rattle.text_core.specs.declared.status.Status.TheVariants as statuses
 use Rattle.filing_core.specs.Complaints.{Disk, IsLeftAlone, IsStatusOf}
-use Rattle.filing_core.specs.Beside.{Foreign, IsCopyStatus, IsFollowStatus, IsLookStatus}
-use Rattle.filing_core.specs.Commands.{IsCommandRun, IsEngineDone, IsFollowRun, IsNewFileRun, IsOverFile, IsReadingRun, IsServedAs}
+use Rattle.filing_core.specs.Beside.{Foreign, IsFollowStatus, IsLookStatus}
+use Rattle.filing_core.specs.Commands.{IsCommandRun, IsEngineDone, IsFollowRun, IsNewRun, IsOverFile, IsReadingRun, IsServedAs}
 use Rattle.cvec.specs.Runs.{IsComplaintRun, IsToldRun, IsTypedCommandRun}
 
 -- a command doesn't end so
@@ -44,12 +44,6 @@ no_usage_of_look : (end : LookEnd) (filed : Result Status Complaint) → IsLookS
 no_usage_of_look look_ends.Done filed is = subst IsNoUsage (sym is) tt
 no_usage_of_look look_ends.OutputFailed filed is = subst IsNoUsage (sym is) tt
 no_usage_of_look (look_ends.Refused fault) filed is = subst IsNoUsage (sym is) tt
-
-no_usage_of_copy : (end : Result Ended LookFault) (filed : Result Status Complaint) → IsCopyStatus end filed → IsNoUsage filed
-no_usage_of_copy (Ok Done) filed is = subst IsNoUsage (sym is) tt
-no_usage_of_copy (Ok OutputFailed) filed is = subst IsNoUsage (sym is) tt
-no_usage_of_copy (Ok (Refused fault)) filed is = subst IsNoUsage (sym is) tt
-no_usage_of_copy (Err fault) filed is = subst IsNoUsage (sym is) tt
 
 no_usage_of_follow : (end : FollowEnd) (filed : Result Status Complaint) → IsFollowStatus end filed → IsNoUsage filed
 no_usage_of_follow follow_ends.Ended filed is = subst IsNoUsage (sym is) tt
@@ -89,14 +83,10 @@ module _ {R : Type 0} (form : Encoding R) (old new : Option (List ℕ)) (filed :
   no_usage_served left growths (Ok all) (inr written) = subst IsNoUsage (sym written.0) tt
   no_usage_served left growths (Err fault) told = subst IsNoUsage (sym told.1) tt
 
-  no_usage_of_new : (format : Option Format) (IsMade : Disk → Disk → Disk → Disk → List ℕ → Type 0) (IsUnmade : Disk → Disk → Disk → Disk → FileFault → Type 0)
-      (IsMadeOf : (Format → List R → Type 0) → Disk → Disk → List ℕ → Type 0) (IsUnmadeOf : (Format → List R → Type 0) → Disk → Disk → FileFault → Type 0)
-      → IsNewFileRun form old new filed format IsMade IsUnmade IsMadeOf IsUnmadeOf → IsNoUsage filed
-  no_usage_of_new format IsMade IsUnmade IsMadeOf IsUnmadeOf (inl shut) = no_usage_alone old new filed _ shut
-  no_usage_of_new format IsMade IsUnmade IsMadeOf IsUnmadeOf (inr (inl shut)) = no_usage_alone old new filed _ shut
-  no_usage_of_new format IsMade IsUnmade IsMadeOf IsUnmadeOf (inr (inr (inl taken))) = subst IsNoUsage (sym taken.told) tt
-  no_usage_of_new format IsMade IsUnmade IsMadeOf IsUnmadeOf (inr (inr (inr (inl done)))) = no_usage_of_status _ done.ended filed done.told
-  no_usage_of_new format IsMade IsUnmade IsMadeOf IsUnmadeOf (inr (inr (inr (inr done)))) = no_usage_of_copy done.end filed done.told
+  no_usage_of_new : (line : ℕ → List ℕ) (format : Option Format) (block : Option NonZeroU32) (own : Format) (records : List R) → IsNewRun form old new filed line format block own records → IsNoUsage filed
+  no_usage_of_new line format block own records (inl unmade) = no_usage_alone old new filed _ unmade
+  no_usage_of_new line format block own records (inr (size, made, inl failed)) = subst IsNoUsage (sym failed) tt
+  no_usage_of_new line format block own records (inr (size, made, inr (done, written))) = subst IsNoUsage (sym done) tt
 
   no_usage_of_task : (spelling : Spelling R) (task : FileTask) (input : Option (List ℕ)) → IsCommandRun form spelling task input old new filed → IsNoUsage filed
   no_usage_of_task spelling (Create format over) input run = no_usage_over _ _ run
@@ -114,8 +104,11 @@ module _ {R : Type 0} (form : Encoding R) (old new : Option (List ℕ)) (filed :
   no_usage_of_task spelling (Resize len filler in_parts) input run = no_usage_over _ _ run
   no_usage_of_task spelling Clear input run = no_usage_over _ _ run
   no_usage_of_task spelling Fold input run = no_usage_over _ _ run
-  no_usage_of_task spelling (Upgrade name) input run = no_usage_of_new _ _ _ _ _ run
-  no_usage_of_task spelling (Copy name format block) input run = no_usage_of_new _ _ _ _ _ run
+  no_usage_of_task spelling (Upgrade name) input (inl unread) = no_usage_alone old new filed _ unread
+  no_usage_of_task spelling (Upgrade name) input (inr (own, records, read, inl (is, younger))) = no_usage_alone old new filed _ younger
+  no_usage_of_task spelling (Upgrade name) input (inr (own, records, read, inr (is, run))) = no_usage_of_new _ _ _ _ _ run
+  no_usage_of_task spelling (Copy name format block) input (inl unread) = no_usage_alone old new filed _ unread
+  no_usage_of_task spelling (Copy name format block) input (inr (own, records, read, run)) = no_usage_of_new _ _ _ _ _ run
   no_usage_of_task spelling (Serve clients) input (inl unserved) = no_usage_alone old new filed _ unserved
   no_usage_of_task spelling (Serve clients) input (inr (inl shut)) = no_usage_alone old new filed _ shut
   no_usage_of_task spelling (Serve clients) input (inr (inr served)) = no_usage_served served.left served.growths served.served served.told

@@ -6,8 +6,9 @@ mod program;
 
 use crate::floats::{floats_read, floats_written, with_bits, words_in_bits};
 use crate::program::{Outcome, System, read_request, run};
+use filing_core::{RefusalNote, standing_in};
 use float_core::FloatType;
-use sentences::Sentence;
+use sentences::{RefusedCall, Sentence, Standing};
 use std::alloc::Global;
 use std::env;
 use std::fs::{File, OpenOptions};
@@ -182,33 +183,51 @@ fn answer<I: Read, W: Write, E: Threads + Wait + Clock + Sync + Copy + Send + 's
     input: &mut I,
     output: &mut Noting<W>,
 ) -> Status {
+    let note = RefusalNote::new();
     let system = System {
         alloc: rt.alloc(),
         files: rt,
         progress: meter,
+        note: &note,
     };
     let mut bits = Vec::new(rt.alloc());
     let asked = asked_in_bits(rt.alloc(), words, &mut bits);
     let ended = run(&system, threads, asked, input, output);
     meter.end();
     tell_ended(rt, words, &ended, output.error());
+    tell_refusal(rt, &ended, note.refused());
     ended.status
 }
 
-/// Tells what standard error has to tell of an end.
+/// Tells what standard error has to tell of an output that failed, and of the words.
 fn tell_ended(rt: &HostRuntime, words: &[String], ended: &Outcome<'_>, error: Option<io::Error>) {
     match ended.status {
         Status::OutputFailed => tell_failed_write(rt, error),
         Status::Usage => tell_usage(rt, words),
         Status::Done | Status::Refused => {}
     }
+}
+
+/// Tells why a command over a file was refused, if it was.
+fn tell_refusal(rt: &HostRuntime, ended: &Outcome<'_>, refused: Option<RefusedCall>) {
     if let (Some(request), Some(complaint)) = (ended.asked, ended.complaint) {
         let sentence = Sentence {
             request,
             complaint,
             shown: ended.shown,
+            stands: standing_of(rt, &request),
+            refused,
         };
         let _ = eprintln!(rt; "cvec: {sentence}");
+    }
+}
+
+/// What stands in the file that the words name, if they name one.
+fn standing_of(rt: &HostRuntime, request: &Request<'_>) -> Standing {
+    match request {
+        Request::File(words) => standing_in(rt, words.file),
+        Request::Stat(words) => standing_in(rt, words.file),
+        Request::Input(..) | Request::Tell(_) => Standing::Bytes,
     }
 }
 
@@ -228,9 +247,12 @@ fn tell_usage(rt: &HostRuntime, words: &[String]) {
     let _ = write_usage(&mut rt.stderr(), &usage);
 }
 
-/// Tells why standard output can't be written.
+/// Tells why standard output can't be written, but where its reader has gone, who has what it wanted.
 fn tell_failed_write(rt: &HostRuntime, error: Option<io::Error>) {
-    if let Some(error) = error {
-        let _ = eprintln!(rt; "cvec: standard output: {error}");
+    match error {
+        Some(error) if error.kind() != ErrorKind::BrokenPipe => {
+            let _ = eprintln!(rt; "cvec: standard output: {error}");
+        }
+        _ => {}
     }
 }

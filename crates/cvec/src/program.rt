@@ -10,7 +10,7 @@ ghost use Rattle.filing_core.specs.Commands.{IsStatRun};
 ghost use Rattle.cvec.specs.Runs.{IsTaskRun, IsProgramRun, IsFileRun, IsAskedRun, IsTypedCommandRun, IsIdleRun, IsComplaintRun, IsTellRun, IsToldRun};
 
 use files_core::{Progress, refuse_file};
-use filing_core::{Filing, tell_stat};
+use filing_core::{Filing, RefusalNote, tell_stat};
 use image_core::{image, show};
 use lines_core::Excerpt;
 use load_core::Dealt;
@@ -38,6 +38,8 @@ pub struct System<'a, F, P> {
     pub files: &'a F,
     /// Who is told how far long work is.
     pub progress: &'a P,
+    /// Where it is noted why the system refused a call of a file.
+    pub note: &'a RefusalNote,
 }
 
 /// Does the task on records of one type.
@@ -175,6 +177,7 @@ fn run_file<
         file: words.file,
         wait: words.wait,
         progress: &progress,
+        note: system.note,
     };
     run_filing::<I, W, E, F, ToldUnless<'_, P>>(&filing, rt, words, reader, shown, writer)
 }
@@ -188,7 +191,7 @@ fn run_stat<W: Write, F: Files<File = File> + Clock + AllocGlobal, P: Progress>(
     ensures { IsStatRun words.now.form (W.contents writer.old) (W.contents writer.new) result }
 {
     let progress = ToldUnless::quiet(words.quiet, system.progress);
-    tell_stat::<W, F, ToldUnless<'_, P>>(system.files, &progress, words, writer)
+    tell_stat::<W, F, ToldUnless<'_, P>>(system.files, &progress, system.note, words, writer)
 }
 
 /// Writes what the program tells of itself.

@@ -1,22 +1,27 @@
--- A copy of what a file had at one moment.
-use Rattle.std.proofs.Common.{◌≡◌, ◌∙◌, ℕ, List, length, ap, sym, subst, Result, Ok}
-use Rattle.std.specs.Prelude.{Option}
-use Rattle.std.specs.declared.num.NonZeroU32.{NonZeroU32}
+-- What a file had that is copied.
+use Rattle.std.proofs.Common.{◌≡◌, ◌⊎◌, ◌∙◌, ℕ, List, ap, refl, subst, sym, inl, inr, false, Result, Ok, Err, MatchResult}
+use Rattle.std.specs.Prelude.{Option, OnOk}
+use Rattle.std.specs.Result.{IsErrAnd}
+use Rattle.std.specs.Io.KnownBytes.{Appends}
 use Rattle.record_core.specs.Bytes.{Encoding}
-use Rattle.disk_core.specs.State.{State}
+use Rattle.segment_core.specs.declared.format.Shape.{Shape}
+use Rattle.segment_core.specs.contracts.format.Format.{the_type}
 use Rattle.segment_core.specs.declared.format.Format.{Format}
 use Rattle.segment_core.specs.declared.format.Format.TheVariants.{One, Two}
-use Rattle.segment_core.specs.declared.format.Shape.{Shape}
 use Rattle.segment_core.specs.Frame.{Frame}
-use Rattle.pen_core.specs.declared.fault.PenFault.{PenFault}
-use Rattle.vault_core.specs.Upgrading.{IsCopied, IsGreatestPiece, IsPieceOfCopy, format_of_copy}
-use Rattle.vault_core.specs.Vault.{VaultOf, list_of}
-use Rattle.files_core.specs.Texts.{upgraded_line}
+use Rattle.segment_core.specs.Vector.{HasVector}
+use Rattle.pen_core.specs.PenOf.{PenOf}
+use Rattle.pen_core.specs.Opening.{IsOpened}
+use Rattle.vault_core.specs.Upgrading.{IsFileOfFormat}
 use Rattle.beside_core.specs.Bookmark.{LiesBehind}
 use Rattle.beside_core.specs.PensFile.{IsPensFile}
 use Rattle.beside_core.specs.declared.bookmark.Bookmark.{Bookmark}
 use Rattle.follow_core.specs.Beside.{AreRecordsLeft, WereOnce}
-use Rattle.filing_core.specs.Copying.{HadRecords, IsCopyOfLook, IsUpgradedBeside}
+use Rattle.text_core.specs.declared.status.Status.{Status}
+use Rattle.text_core.specs.declared.status.Status.TheVariants as statuses
+use Rattle.sentences.specs.declared.complaint.Complaint.{Complaint}
+use Rattle.filing_core.specs.Copying.{HadRecords}
+use denote.Enum.Bare.{sameb}
 
 -- the bookmark behind the records tells the version
 pub had_records : {R : Type 0} (form : Encoding R) (kept : Type 0) (held : ℕ → List ℕ) (from to synced : ℕ) (records : List R) (mark : Bookmark) (told : Shape) → told ≡ mark.shape
@@ -28,39 +33,28 @@ had_records form kept held from to synced records mark told is once = λ model s
       record { moment = were.moment; begun = were.begun; until = were.until; settled = were.settled; so = were.so.0 },
     )
 
--- a copy into the version that was asked for, or into that of the old file
-pub copy_of_look : {R N : Type 0} (form : Encoding R) (Had : Format → List R → Type 0) (keeps : N → Type 0) (states : N → List State) (faults : N → ℕ)
-    {asked : Option Format} {block : Option NonZeroU32} {records : List R} {disk : N} {result : Result (VaultOf R N) (N × PenFault)}
-    (own to : Format) (piece : ℕ) → to ≡ format_of_copy asked own → Had own records → IsPieceOfCopy block to form.width piece
-    → IsCopied to form keeps states faults piece records disk result → IsCopyOfLook form Had keeps states faults asked block records disk result
-copy_of_look form Had keeps states faults {block = block} {records = records} {disk = disk} {result = result} own to piece is had piece_is copied = record {
-  own = own;
-  had = had;
-  piece = piece;
-  piece_is = subst (λ f. IsPieceOfCopy block f form.width piece) is piece_is;
-  copied = subst (λ f. IsCopied f form keeps states faults piece records disk result) is copied;
-}
+-- the bytes that were opened are a file of the pen's version
+pub opened_file : {R D : Type 0} {form : Encoding R} {bytes : List ℕ} {pen : PenOf D} {records : List R} {format : Format} → IsOpened form bytes pen records
+    → format ≡ pen.shape.format → IsFileOfFormat format form bytes records
+opened_file {form = form} {bytes = bytes} {records = records} opened is =
+    (opened.found, subst (λ (f : Format). HasVector f form bytes opened.found records) (ap (λ s. s.format) (sym opened.shape_is) ∙ sym is) opened.vector)
 
--- the same of a vault, which has the records
-pub vault_of_look : {R N : Type 0} (form : Encoding R) (Had : Format → List R → Type 0) (keeps : N → Type 0) (states : N → List State) (faults : N → ℕ)
-    (asked : Option Format) (block : Option NonZeroU32) (records : List R) (disk : N) (vault : VaultOf R N)
-    (own to : Format) (piece : ℕ) → to ≡ format_of_copy asked own → Had own records → IsPieceOfCopy block to form.width piece
-    → IsCopied to form keeps states faults piece records disk (Ok vault) → IsCopyOfLook form Had keeps states faults asked block (list_of vault) disk (Ok vault)
-vault_of_look {R} form Had keeps states faults asked block records disk vault own to piece is had piece_is copied =
-    subst (λ (rs : List R). IsCopyOfLook form Had keeps states faults asked block rs disk (Ok vault)) (sym copied.list)
-    (copy_of_look form Had keeps states faults own to piece is had piece_is copied)
+-- a file that isn't of version 2 is of version 1
+pub is_one : (format : Format) → false ≡ sameb the_type format Two → format ≡ One
+is_one One other = refl
+is_one Two other = absurd cc
 
--- an upgrade of a file of version 1
-pub upgrade_of_look : {R N : Type 0} (form : Encoding R) (Had : Format → List R → Type 0) (keeps : N → Type 0) (states : N → List State) (faults : N → ℕ) (new left : N)
-    (text : List ℕ) (records : List R) (vault : VaultOf R N) (own : Format) (piece : ℕ) → own ≡ One → Had own records → IsGreatestPiece Two form.width piece
-    → IsCopied Two form keeps states faults piece records new (Ok vault) → vault.pen.disk ≡ left → text ≡ upgraded_line (length (list_of vault))
-    → IsUpgradedBeside form Had keeps states faults new left text
-upgrade_of_look {R} form Had keeps states faults new left text records vault own piece is had greatest copied disk_is told = record {
-  piece = piece;
-  greatest = greatest;
-  vault = vault;
-  had = subst (λ (rs : List R). Had One rs) (sym copied.list) (subst (λ (f : Format). Had f records) is had);
-  copied = subst (λ (rs : List R). IsCopied Two form keeps states faults piece rs new (Ok vault)) (sym copied.list) copied;
-  disk_is = disk_is;
-  told = told;
-}
+-- a complaint that `?` has handed on
+pub told_complaint : (filed : Result Status Complaint) (complaint : Complaint) → IsErrAnd filed (λ told. told ≡ complaint) → filed ≡ Err complaint
+told_complaint (Ok status) complaint is = absurd is
+told_complaint (Err told) complaint is = ap (λ (c : Complaint). Err c) is
+
+abbrev Filed : Status → Result Status Complaint
+Filed status = Ok status
+
+-- an answer was written, or output failed
+pub answered : {X E : Type 0} (old new : Option (List ℕ)) (text : List ℕ) (written : Result X E) (status : Status)
+    → MatchResult written (λ _. status ≡ statuses.Done) (λ _. status ≡ statuses.OutputFailed) → OnOk written (Appends old new text)
+    → (Filed status ≡ Filed statuses.OutputFailed) ⊎ ((Filed status ≡ Filed statuses.Done) × Appends old new text)
+answered old new text (Ok x) status told appends = inr (ap (λ (s : Status). Filed s) told, appends)
+answered old new text (Err e) status told appends = inl (ap (λ (s : Status). Filed s) told)

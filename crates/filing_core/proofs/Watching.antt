@@ -15,11 +15,7 @@ use Rattle.files_core.specs.declared.ended.Ended.TheVariants.{Done, OutputFailed
 use Rattle.files_core.specs.declared.fault.FileFault.{FileFault}
 use Rattle.files_core.specs.declared.fault.FileFault.TheVariants.{Word, Input, Open, Vault, Grower, Upgrade}
 use Rattle.files_core.specs.declared.watched.Watched.{Watched}
-use Rattle.files_core.specs.Ended.{EndsAs, WritesAnswer}
-use Rattle.files_core.specs.Upgraded.{HasCopied, IsCopyCommandFault, IsUpgraded, IsUpgradeRefusal}
-use Rattle.segment_core.specs.declared.format.Format.{Format}
-use Rattle.std.specs.declared.num.NonZeroU32.{NonZeroU32}
-use Rattle.std.specs.Prelude.{Option}
+use Rattle.files_core.specs.Ended.{EndsAs}
 use Rattle.files_core.specs.Folding.{IsFoldingFault, IsFoldCommandFault, IsNotFolded, KeepsList, NoneLive}
 use Rattle.files_core.specs.Opened.{IsOpenedOn, CommandOnlyReads}
 use Rattle.files_core.specs.Watched.{below}
@@ -141,55 +137,3 @@ module _ {R P : Type 0} (form : Encoding R) where
   folds_below disk left Done stays = λ keeps. list_below disk left (stays keeps)
   folds_below disk left OutputFailed stays = λ keeps. list_below disk left (stays keeps)
   folds_below disk left (Refused fault) why = fold_refusal_below disk left fault why
-
-  upgraded_below : (old left : Watched Disk P) (new left_new : Disk) (text : List ℕ)
-      → IsUpgraded form seen_keeps seen_states KeepsSoFar states_of faults_of old new left left_new text
-      → IsUpgraded form KeepsSoFar states_of KeepsSoFar states_of faults_of (below old) new (below left) left_new text
-  upgraded_below old left new left_new text u = record { piece = u.piece; greatest = u.greatest; vault = u.vault; file = u.file; copied = u.copied; disk_is = u.disk_is; told = u.told }
-
-  pub upgrades_below : (old left : Watched Disk P) (new left_new : Disk) (ended : Ended)
-      → EndsAs ((text : List ℕ) × IsUpgraded form seen_keeps seen_states KeepsSoFar states_of faults_of old new left left_new text)
-      (IsUpgradeRefusal form seen_keeps seen_states KeepsSoFar states_of faults_of old new left left_new) ended
-      → EndsAs ((text : List ℕ) × IsUpgraded form KeepsSoFar states_of KeepsSoFar states_of faults_of (below old) new (below left) left_new text)
-      (IsUpgradeRefusal form KeepsSoFar states_of KeepsSoFar states_of faults_of (below old) new (below left) left_new) ended
-  upgrades_below old left new left_new Done done = (done.0, upgraded_below old left new left_new done.0 done.1)
-  upgrades_below old left new left_new OutputFailed done = (done.0, upgraded_below old left new left_new done.0 done.1)
-  upgrades_below old left new left_new (Refused (Word word)) why = why
-  upgrades_below old left new left_new (Refused (Input refusal)) why = why
-  upgrades_below old left new left_new (Refused (Open fault)) why = why
-  upgrades_below old left new left_new (Refused (Vault fault)) why = why
-  upgrades_below old left new left_new (Refused (Grower stopped)) why = why
-  upgrades_below old left new left_new (Refused (Upgrade fault)) why = why
-
-  pub writes_upgraded_below : (before after : Option (List ℕ)) (old left : Watched Disk P) (new left_new : Disk) (ended : Ended)
-      → WritesAnswer before after (IsUpgraded form seen_keeps seen_states KeepsSoFar states_of faults_of old new left left_new) ended
-      → WritesAnswer before after (IsUpgraded form KeepsSoFar states_of KeepsSoFar states_of faults_of (below old) new (below left) left_new) ended
-  writes_upgraded_below before after old left new left_new Done writes = (writes.0, upgraded_below old left new left_new writes.0 writes.1, writes.2)
-  writes_upgraded_below before after old left new left_new OutputFailed writes = tt
-  writes_upgraded_below before after old left new left_new (Refused fault) writes = writes
-
-  copied_below : (format : Option Format) (block : Option NonZeroU32) (old left : Watched Disk P) (new left_new : Disk) (text : List ℕ)
-      → HasCopied form seen_keeps seen_states KeepsSoFar states_of faults_of old new left left_new format block text
-      → HasCopied form KeepsSoFar states_of KeepsSoFar states_of faults_of (below old) new (below left) left_new format block text
-  copied_below format block old left new left_new text c = record { vault = c.vault; copied = c.copied; disk_is = c.disk_is; told = c.told }
-
-  pub copies_below : (format : Option Format) (block : Option NonZeroU32) (old left : Watched Disk P) (new left_new : Disk) (ended : Ended)
-      → EndsAs ((text : List ℕ) × HasCopied form seen_keeps seen_states KeepsSoFar states_of faults_of old new left left_new format block text)
-      (IsCopyCommandFault form seen_keeps seen_states KeepsSoFar states_of faults_of old new left left_new format block) ended
-      → EndsAs ((text : List ℕ) × HasCopied form KeepsSoFar states_of KeepsSoFar states_of faults_of (below old) new (below left) left_new format block text)
-      (IsCopyCommandFault form KeepsSoFar states_of KeepsSoFar states_of faults_of (below old) new (below left) left_new format block) ended
-  copies_below format block old left new left_new Done done = (done.0, copied_below format block old left new left_new done.0 done.1)
-  copies_below format block old left new left_new OutputFailed done = (done.0, copied_below format block old left new left_new done.0 done.1)
-  copies_below format block old left new left_new (Refused (Word word)) why = why
-  copies_below format block old left new left_new (Refused (Input refusal)) why = why
-  copies_below format block old left new left_new (Refused (Open fault)) why = why
-  copies_below format block old left new left_new (Refused (Vault fault)) why = why
-  copies_below format block old left new left_new (Refused (Grower stopped)) why = why
-  copies_below format block old left new left_new (Refused (Upgrade fault)) why = why
-
-  pub writes_copied_below : (format : Option Format) (block : Option NonZeroU32) (before after : Option (List ℕ)) (old left : Watched Disk P) (new left_new : Disk) (ended : Ended)
-      → WritesAnswer before after (HasCopied form seen_keeps seen_states KeepsSoFar states_of faults_of old new left left_new format block) ended
-      → WritesAnswer before after (HasCopied form KeepsSoFar states_of KeepsSoFar states_of faults_of (below old) new (below left) left_new format block) ended
-  writes_copied_below format block before after old left new left_new Done writes = (writes.0, copied_below format block old left new left_new writes.0 writes.1, writes.2)
-  writes_copied_below format block before after old left new left_new OutputFailed writes = tt
-  writes_copied_below format block before after old left new left_new (Refused fault) writes = writes

@@ -84,13 +84,6 @@ IsLookStatus looks.Done filed = filed ≡ Ok statuses.Done
 IsLookStatus looks.OutputFailed filed = filed ≡ Ok statuses.OutputFailed
 IsLookStatus (looks.Refused fault) filed = filed ≡ Err (look_complaint fault)
 
--- a copy
-abbrev pub IsCopyStatus : Result Ended LookFault → Result Status Complaint → Type 0
-IsCopyStatus (Ok ends.Done) filed = filed ≡ Ok statuses.Done
-IsCopyStatus (Ok ends.OutputFailed) filed = filed ≡ Ok statuses.OutputFailed
-IsCopyStatus (Ok (ends.Refused fault)) filed = filed ≡ Err (complaints.Fault fault)
-IsCopyStatus (Err fault) filed = filed ≡ Err (copy_complaint fault)
-
 -- where the pause says that the file isn't the same one, its name leads elsewhere, or it has become shorter
 abbrev pub IsFollowStatus : FollowEnd → Result Status Complaint → Type 0
 IsFollowStatus follows.Ended filed = filed ≡ Ok statuses.Done

@@ -13,12 +13,14 @@ use Rattle.disk_core.specs.Moments.{LeavesOnly, clock}
 use Rattle.disk_core.specs.FileDisk.{KeepsSoFar, faults_of, states_of}
 use Rattle.disk_core.specs.declared.fault.DiskFault.{DiskFault}
 use Rattle.segment_core.specs.declared.format.Format.{Format}
-use Rattle.segment_core.specs.declared.format.Format.TheVariants.{Two}
-use Rattle.pen_core.specs.Opening.{OnlySyncs}
+use Rattle.segment_core.specs.declared.format.Format.TheVariants.{One, Two}
+use Rattle.pen_core.specs.Opening.{IsOpenRefusal, OnlySyncs, failed_openings}
+use Rattle.pen_core.specs.declared.fault.OpenFault.{OpenFault}
 use Rattle.pen_core.specs.declared.fault.PenFault.{PenFault}
 use Rattle.pen_core.specs.declared.fault.PenFault.TheVariants as pens
 use Rattle.vault_core.specs.Commands.{resized}
 use Rattle.vault_core.specs.Touched.{IsTouched}
+use Rattle.vault_core.specs.Upgrading.{IsCopied, IsFileOfFormat, IsPieceOfCopy, format_of_copy}
 use Rattle.vault_core.specs.Vault.{VaultOf}
 use Rattle.vault_core.specs.declared.fault.VaultFault.{VaultFault}
 use Rattle.vault_core.specs.declared.fault.VaultFault.TheVariants as vaults
@@ -40,8 +42,7 @@ use Rattle.files_core.specs.Listing.{IsWindowListed}
 use Rattle.load_core.specs.Loading.{IsLoaded, IsLoadRefusal}
 use Rattle.files_core.specs.Opened.{CommandOnlyReads}
 use Rattle.files_core.specs.Searching.{TellsCount, TellsFirst}
-use Rattle.files_core.specs.Texts.{appended_line, created_line, loaded_line, ok_line}
-use Rattle.files_core.specs.Upgraded.{HasCopied, IsCopyCommandFault, IsUpgraded, IsUpgradeRefusal, failed_upgrading}
+use Rattle.files_core.specs.Texts.{appended_line, copied_line, created_line, loaded_line, ok_line, upgraded_line}
 use Rattle.files_core.specs.Vacant.{IsVacantFor}
 use Rattle.files_core.specs.declared.appended.Appended.{Appended}
 use Rattle.files_core.specs.declared.asked.Window.{Window}
@@ -68,10 +69,9 @@ use Rattle.filing_core.specs.declared.searching.Sought.TheVariants as soughts
 use Rattle.beside_core.specs.declared.fault.LookFault.{LookFault}
 use Rattle.follow_core.specs.declared.ended.LookEnd.{LookEnd}
 use Rattle.follow_core.specs.declared.place.Place.{Place}
-use Rattle.filing_core.specs.Beside.{CheckedBeside, FollowsEvents, FollowsFrom, Foreign, HadOnce, IsCopyStatus, IsFollowDone, IsJustShared, IsLeftShared, IsLookDone, IsNoPlace, IsUnread, IsPlaceOr, ListedBeside, ReadsBeside, SoughtBeside, SummarizesBeside}
-use Rattle.filing_core.specs.Copying.{EndsBeside, HasCopiedBeside, IsCopyBesideFault, IsUpgradedBeside, IsUpgradeBesideFault, WritesBeside}
+use Rattle.filing_core.specs.Beside.{CheckedBeside, FollowsEvents, FollowsFrom, Foreign, HadOnce, IsFollowDone, IsJustShared, IsLeftShared, IsLookDone, IsNoPlace, IsUnread, IsPlaceOr, ListedBeside, ReadsBeside, SoughtBeside, SummarizesBeside, copy_complaint}
 use Rattle.filing_core.specs.Asked.{IsWindow, IsNoWindow, IsNoRecord, AreSetRecords, IsNoSetting, IsNoResizing, AreInputGrowths, IsNoInput}
-use Rattle.filing_core.specs.Complaints.{Disk, IsJustOpened, IsComplaintOf, IsAppendComplaint, IsServeComplaint, IsStatusOf, IsStatStatus, IsRefusedBefore, IsLeftAlone, IsLeftUnopened, IsUnserved}
+use Rattle.filing_core.specs.Complaints.{Disk, IsJustOpened, IsComplaintOf, IsAppendComplaint, IsServeComplaint, IsStatusOf, IsStatStatus, IsRefusedBefore, IsLeftAlone, IsLeftUnopened, IsUnopened, IsUnserved}
 
 -- of a server that has ended
 abbrev pub served_line : ℕ → List ℕ
@@ -118,6 +118,76 @@ module _ {R : Type 0} (form : Encoding R) where
   -- `upgrade` or `copy` may not make its new file
   abbrev pub IsNewTaken : Option Format → FileFault → Type 0
   IsNewTaken format fault = (cause : PenFault) × (fault ≡ Unupgraded (upgrades.New (vaults.Pen cause))) × IsOccupied format cause
+
+-- ---- FILE and NEW of `copy` and `upgrade`
+
+module _ {R : Type 0} (form : Encoding R) where
+  -- FILE has this version and these records: it was read under a lock.
+  pub record IsReadLocked (own : Format) (records : List R) : Type 0 where
+    pub disk : Disk
+    pub left : Disk
+    pub opened : IsJustOpened disk
+    pub file : KeepsSoFar left → IsFileOfFormat own form (bytes_of (states_of disk)) records
+    pub stays : KeepsSoFar left → OnlySyncs (states_of disk) (states_of left)
+    pub no_fault : faults_of left ≡ faults_of disk
+
+  -- Or it had them at one moment of the look: it was read beside the command that has it.
+  pub record IsReadOnce (own : Format) (records : List R) : Type 0 where
+    pub file : Foreign
+    pub left : Foreign
+    pub opened : IsJustShared file
+    pub stays : IsLeftShared file left
+    pub had : HadOnce form file left own records
+
+  abbrev pub IsOldRead : Format → List R → Type 0
+  IsOldRead own records = IsReadLocked own records ⊎ IsReadOnce own records
+
+  -- It was locked, and its bytes are no such file, or a call of it failed.
+  pub record IsUnreadLocked (complaint : Complaint) : Type 0 where
+    pub disk : Disk
+    pub left : Disk
+    pub fault : OpenFault
+    pub opened : IsJustOpened disk
+    pub why : KeepsSoFar left → IsOpenRefusal form (bytes_of (states_of disk)) fault
+    pub stays : KeepsSoFar left → OnlySyncs (states_of disk) (states_of left)
+    pub faults_are : faults_of left ≡ faults_of disk + failed_openings fault
+    pub told : IsComplaintOf form left (Unupgraded (upgrades.Old fault)) complaint
+
+  -- Or the look at it was refused.
+  pub record IsUnreadOnce (complaint : Complaint) : Type 0 where
+    pub file : Foreign
+    pub left : Foreign
+    pub fault : LookFault
+    pub opened : IsJustShared file
+    pub stays : IsLeftShared file left
+    pub why : IsUnread form file left fault
+    pub told : complaint ≡ copy_complaint fault
+
+  -- FILE wasn't opened, or not read.
+  abbrev pub IsOldUnread : Complaint → Type 0
+  IsOldUnread complaint = IsUnopened roles.File complaint ⊎ (IsUnreadLocked complaint ⊎ IsUnreadOnce complaint)
+
+  -- What came of copying the records of a file of that version into NEW, where nothing else stood.
+  pub record IsNewFile (format : Option Format) (block : Option NonZeroU32) (own : Format) (records : List R) (result : Result (VaultOf R Disk) (Disk × PenFault)) : Type 0 where
+    pub made : Disk
+    pub asked : Disk
+    pub opened : IsJustOpened made
+    pub vacant : MayBeMadeOn form format false made asked
+    pub piece : ℕ
+    pub piece_is : IsPieceOfCopy block (format_of_copy format own) form.width piece
+    pub copied : IsCopied (format_of_copy format own) form KeepsSoFar states_of faults_of piece records asked result
+
+  -- NEW has all of them.
+  pub record IsNewMade (format : Option Format) (block : Option NonZeroU32) (own : Format) (records : List R) (size : ℕ) : Type 0 where
+    pub vault : VaultOf R Disk
+    pub file : IsNewFile format block own records (Ok vault)
+    pub size_is : size ≡ length records
+
+  -- NEW wasn't opened or made, or its place is taken, or the records weren't copied.
+  abbrev pub IsNewUnmade : Option Format → Option NonZeroU32 → Format → List R → Complaint → Type 0
+  IsNewUnmade format block own records complaint = IsUnopened roles.New complaint
+      ⊎ (((fault : FileFault) × (complaint ≡ complaints.Fault fault) × IsNewTaken form format fault)
+      ⊎ ((left : Disk) × (fault : PenFault) × (complaint ≡ complaints.Fault (Unupgraded (upgrades.New (vaults.Pen fault)))) × IsNewFile format block own records (Err (left, fault))))
 
 module _ {R : Type 0} (form : Encoding R) (old new : Option (List ℕ)) (filed : Result Status Complaint) where
   -- The words or the input were refused, for such a reason; or the file wasn't opened; or the engine ended so over it.
@@ -224,59 +294,24 @@ module _ {R : Type 0} (form : Encoding R) (old new : Option (List ℕ)) (filed :
       × EndsAs (IsCreated form KeepsSoFar states_of faults_of format asked left) (IsCreateRefusal form KeepsSoFar states_of faults_of format asked left) ended
       × WritesText old new created_line ended)
 
-  -- An engine made a new file, of this version or of either, from the old one, where nothing else stood: so, or it is so refused.
-  pub record HasMadeNew (format : Option Format) (IsMade : Disk → Disk → Disk → Disk → List ℕ → Type 0) (IsUnmade : Disk → Disk → Disk → Disk → FileFault → Type 0) : Type 0 where
-    pub disk : Disk
-    pub made : Disk
-    pub asked : Disk
-    pub left : Disk
-    pub left_new : Disk
-    pub ended : Ended
-    pub opened : IsJustOpened disk × IsJustOpened made
-    pub vacant : MayBeMadeOn form format false made asked
-    pub stays : KeepsSoFar left → OnlySyncs (states_of disk) (states_of left)
-    pub faults_are : faults_of left ≡ faults_of disk + failed_upgrading ended
-    pub engine : EndsAs ((text : List ℕ) × IsMade disk asked left left_new text) (IsUnmade disk asked left left_new) ended
-    pub writes : WritesAnswer old new (IsMade disk asked left left_new) ended
-    pub told : IsStatusOf (IsComplaintOf form left) ended filed
+  -- The records of a file of that version stand in NEW, as this line tells; or they don't.
+  abbrev pub IsNewRun : (ℕ → List ℕ) → Option Format → Option NonZeroU32 → Format → List R → Type 0
+  IsNewRun line format block own records =
+      IsLeftAlone old new filed (IsNewUnmade form format block own records)
+      ⊎ ((size : ℕ) × IsNewMade form format block own records size × ((filed ≡ Ok statuses.OutputFailed) ⊎ ((filed ≡ Ok statuses.Done) × Appends old new (line size))))
 
-  -- The same beside the command that has the old file: by what it had at one moment.
-  pub record HasMadeBeside (format : Option Format) (IsMade : (Format → List R → Type 0) → Disk → Disk → List ℕ → Type 0) (IsUnmade : (Format → List R → Type 0) → Disk → Disk → FileFault → Type 0) : Type 0 where
-    pub file : Foreign
-    pub made : Disk
-    pub asked : Disk
-    pub left : Foreign
-    pub left_new : Disk
-    pub end : Result Ended LookFault
-    pub opened : IsJustShared file × IsJustOpened made
-    pub vacant : MayBeMadeOn form format false made asked
-    pub stays : IsLeftShared file left
-    pub engine : EndsBeside ((text : List ℕ) × IsMade (HadOnce form file left) asked left_new text) (IsUnmade (HadOnce form file left) asked left_new)
-        (λ fault. IsUnread form file left fault × (left_new ≡ asked)) end
-    pub writes : WritesBeside old new (IsMade (HadOnce form file left) asked left_new) end
-    pub told : IsCopyStatus end filed
-
-  -- A file wasn't opened, or the place of the new one is taken; or it was made, or not, of the old one under a lock, or beside the
-  -- command that has it.
-  abbrev pub IsNewFileRun : Option Format → (Disk → Disk → Disk → Disk → List ℕ → Type 0) → (Disk → Disk → Disk → Disk → FileFault → Type 0)
-      → ((Format → List R → Type 0) → Disk → Disk → List ℕ → Type 0) → ((Format → List R → Type 0) → Disk → Disk → FileFault → Type 0) → Type 0
-  IsNewFileRun format IsMade IsUnmade IsMadeOf IsUnmadeOf = IsLeftUnopened old new filed roles.File
-      ⊎ (IsLeftUnopened old new filed roles.New ⊎ (IsRefusedBefore old new filed (IsNewTaken form format)
-      ⊎ (HasMadeNew format IsMade IsUnmade ⊎ HasMadeBeside format IsMadeOf IsUnmadeOf)))
-
-  -- `upgrade`: the vector of the old file stands in the new one
-  abbrev pub IsUpgradeRun : Type 0
-  IsUpgradeRun = IsNewFileRun (Some Two) (IsUpgraded form KeepsSoFar states_of KeepsSoFar states_of faults_of)
-      (IsUpgradeRefusal form KeepsSoFar states_of KeepsSoFar states_of faults_of)
-      (λ Had. IsUpgradedBeside form Had KeepsSoFar states_of faults_of) (λ Had. IsUpgradeBesideFault form Had KeepsSoFar states_of faults_of)
-
-  -- `copy`: the same, of this version or of that of the old one, in growths of so many records or of the most
+  -- `copy`: FILE is read first, and what is refused of it comes before all that is of NEW. The new file has this version or that of the
+  -- old one, and growths of so many records or of the most.
   abbrev pub IsCopyRun : Option Format → Option NonZeroU32 → Type 0
-  IsCopyRun format block = IsNewFileRun format
-      (λ disk asked left left_new. HasCopied form KeepsSoFar states_of KeepsSoFar states_of faults_of disk asked left left_new format block)
-      (λ disk asked left left_new. IsCopyCommandFault form KeepsSoFar states_of KeepsSoFar states_of faults_of disk asked left left_new format block)
-      (λ Had asked left_new. HasCopiedBeside form Had KeepsSoFar states_of faults_of asked left_new format block)
-      (λ Had asked left_new. IsCopyBesideFault form Had KeepsSoFar states_of faults_of asked left_new format block)
+  IsCopyRun format block = IsLeftAlone old new filed (IsOldUnread form)
+      ⊎ ((own : Format) × (records : List R) × IsOldRead form own records × IsNewRun copied_line format block own records)
+
+  -- `upgrade`: the same of a file of version 1 into one of version 2. One of version 2 is refused before NEW is asked for.
+  abbrev pub IsUpgradeRun : Type 0
+  IsUpgradeRun = IsLeftAlone old new filed (IsOldUnread form)
+      ⊎ ((own : Format) × (records : List R) × IsOldRead form own records
+      × (((own ≡ Two) × IsLeftAlone old new filed (λ complaint. complaint ≡ complaints.Fault (Unupgraded upgrades.NotOld)))
+      ⊎ ((own ≡ One) × IsNewRun upgraded_line (Some Two) None own records)))
 
   -- how `serve` ends whose engine gave that disk back, ended so, and settled so many growths
   abbrev pub IsServedAs : Disk → ℕ → Result (Unit {0}) ServeFault → Type 0

@@ -1,7 +1,6 @@
 -- Why a command over a file is refused, and what is told of it.
 use Rattle.std.specs.Prelude.{◌≡◌, ◌∷◌, [], ℕ, List, Option, Some, None, Result, Ok, Err}
 use Rattle.std.specs.Io.KnownBytes.{Keeps}
-use Rattle.std.specs.declared.fs.File.{File}
 use Rattle.record_core.specs.Bytes.{Encoding}
 use Rattle.disk_core.specs.File.{opened}
 use Rattle.disk_core.specs.FileDisk.{KeepsSoFar, faults_of, states_of, truth_of}
@@ -32,10 +31,11 @@ use Rattle.sentences.specs.declared.complaint.Complaint.{Complaint}
 use Rattle.sentences.specs.declared.complaint.Complaint.TheVariants as complaints
 use Rattle.sentences.specs.declared.role.Role.{Role}
 use Rattle.sentences.specs.declared.role.Role.TheVariants as roles
+use Rattle.filing_core.specs.declared.noting.NotedFile.{NotedFile}
 
--- a file of the system, as a disk
+-- a file of the system, as a disk; its refused calls are noted
 abbrev pub Disk : Type 0
-Disk = FileDisk File
+Disk = FileDisk NotedFile
 
 -- no call of the disk was made yet
 pub record IsJustOpened (disk : Disk) : Type 0 where

@@ -7,7 +7,9 @@ ghost use Rattle.disk_core.specs.SharedFile.{now_of, HasKept};
 ghost use Rattle.filing_core.specs.Beside.{IsJustReadable};
 ghost use Rattle.filing_core.specs.Complaints.{IsJustOpened, IsUnopened};
 
+use crate::noting::{NotedDisk, NotedFile, RefusalNote};
 use disk_core::{FileDisk, SharedFile};
+use segment_core::EMPTY_FILE_LEN;
 use sentences::{Complaint, Role};
 use std::fs::{self, File, Metadata, OpenFile, OpenOptions, TryLockError};
 use std::io::ErrorKind;
@@ -50,11 +52,19 @@ impl Access {
     }
 }
 
-/// A file as a disk, with a lock that others of this program heed as long as this stands.
+/// A locked file. Others of this program heed the lock as long as this stands.
 #[derive(Drop)]
-pub struct Opened {
-    pub disk: FileDisk,
-    pub lock: File,
+pub struct LockedFile {
+    pub file: File,
+    /// It was made with this lock.
+    pub is_new: bool,
+}
+
+/// A file as a disk, with its lock.
+#[derive(Drop)]
+pub struct Opened<'a> {
+    pub disk: NotedDisk<'a>,
+    pub lock: LockedFile,
 }
 
 /// The error of what is neither a plain file nor a folder: it names what that is.
@@ -91,22 +101,44 @@ pub fn open_to_read<F: Files<File = File>>(files: &F, path: &str) -> io::Result<
 }
 
 /// Opens the file at this path to be written too, and makes it, where it may, if there is none.
-fn open_to_write<F: Files<File = File>>(files: &F, path: &str, access: Access) -> io::Result<File> {
+fn open_to_write<F: Files<File = File>>(
+    files: &F,
+    path: &str,
+    access: Access,
+) -> io::Result<LockedFile> {
     match is_folder(files, path) {
-        Err(error) if error.kind() == ErrorKind::Unsupported => Err(error),
-        _ => OpenOptions::new()
-            .read(true)
-            .write(true)
-            .create(!matches!(access, Access::Writes))
-            .mode(access.mode())
-            .open(files, path),
+        Err(error) if error.kind() == ErrorKind::Unsupported => return Err(error),
+        _ => {}
     }
+    let makes = !matches!(access, Access::Writes);
+    let mut options = OpenOptions::new();
+    options.read(true).write(true).mode(access.mode());
+    if makes {
+        match options.create_new(true).open(files, path) {
+            Ok(file) => return Ok(LockedFile { file, is_new: true }),
+            Err(error) if error.kind() == ErrorKind::AlreadyExists => {}
+            Err(error) => return Err(error),
+        }
+    }
+    // Where a link leads to no file, that is made.
+    let file = options.create_new(false).create(makes).open(files, path)?;
+    Ok(LockedFile {
+        file,
+        is_new: false,
+    })
 }
 
-/// Opens the file at this path for what is done with it.
-fn open_for<F: Files<File = File>>(files: &F, path: &str, access: Access) -> io::Result<File> {
+/// Opens the file at this path for what is done with it. It isn't locked yet.
+fn open_for<F: Files<File = File>>(
+    files: &F,
+    path: &str,
+    access: Access,
+) -> io::Result<LockedFile> {
     match access {
-        Access::Reads => open_to_read(files, path),
+        Access::Reads => Ok(LockedFile {
+            file: open_to_read(files, path)?,
+            is_new: false,
+        }),
         Access::Writes | Access::Makes { .. } => open_to_write(files, path, access),
     }
 }
@@ -137,8 +169,8 @@ impl Unlocked {
 }
 
 /// Who has the file that couldn't be locked: those who only read share it. It is closed, and so is a lock that was got.
-fn holder_of(file: File) -> Unlocked {
-    match file.try_lock_shared() {
+fn holder_of(lock: LockedFile) -> Unlocked {
+    match lock.file.try_lock_shared() {
         Ok(()) => Unlocked::Read,
         Err(TryLockError::WouldBlock) => Unlocked::Written,
         Err(TryLockError::Error(error)) => Unlocked::Failed(error),
@@ -200,21 +232,38 @@ pub fn keep_name<F: Files<File = File> + AllocGlobal>(files: &F, path: &str) -> 
     Ok(())
 }
 
+/// Whether an open file has no more than what a stopped creation leaves. Where the system doesn't tell, it may have.
+fn is_unborn(file: &File) -> bool {
+    let mut gate = [0];
+    let is_closed = file.read_at(&mut gate, 0).is_ok() && gate[0] == 0;
+    is_closed && matches!(known_of(file), Ok(known) if known.len() <= EMPTY_FILE_LEN as u64)
+}
+
+/// Takes a file away that was made for a command, where its name still leads to it. One in which another command made a vector,
+/// before this one had the lock, stays. Another that waits for the lock opens the name anew.
+pub fn withdraw<F: Files<File = File>>(files: &F, path: &str, lock: &LockedFile) {
+    let is_ours = lock.is_new && is_unborn(&lock.file);
+    if is_ours && matches!(leads_to(files, path, &lock.file), Ok(true)) {
+        let _ = fs::remove_file(files, path);
+    }
+}
+
 /// The locked file, if it has the name: what is written to one without a name would be lost.
 fn named<F: Files<File = File> + AllocGlobal>(
     files: &F,
     path: &str,
     access: Access,
-    file: File,
-) -> Result<File, Unlocked> {
+    lock: LockedFile,
+) -> Result<LockedFile, Unlocked> {
     if matches!(access, Access::Makes { .. }) {
         // It may be new.
         if let Err(error) = keep_name(files, path) {
+            withdraw(files, path, &lock);
             return Err(Unlocked::Failed(error));
         }
     }
-    match leads_to(files, path, &file) {
-        Ok(true) => Ok(file),
+    match leads_to(files, path, &lock.file) {
+        Ok(true) => Ok(lock),
         Ok(false) => Err(Unlocked::Replaced),
         Err(error) => Err(Unlocked::Failed(error)),
     }
@@ -225,18 +274,18 @@ fn lock<F: Files<File = File> + AllocGlobal>(
     files: &F,
     path: &str,
     access: Access,
-) -> Result<File, Unlocked> {
-    let file = match open_for(files, path, access) {
-        Ok(file) => file,
+) -> Result<LockedFile, Unlocked> {
+    let lock = match open_for(files, path, access) {
+        Ok(lock) => lock,
         Err(error) => return Err(Unlocked::Failed(error)),
     };
     let locked = match access {
-        Access::Reads => file.try_lock_shared(),
-        Access::Writes | Access::Makes { .. } => file.try_lock(),
+        Access::Reads => lock.file.try_lock_shared(),
+        Access::Writes | Access::Makes { .. } => lock.file.try_lock(),
     };
     match locked {
-        Ok(()) => named(files, path, access, file),
-        Err(TryLockError::WouldBlock) => Err(holder_of(file)),
+        Ok(()) => named(files, path, access, lock),
+        Err(TryLockError::WouldBlock) => Err(holder_of(lock)),
         Err(TryLockError::Error(error)) => Err(Unlocked::Failed(error)),
     }
 }
@@ -269,7 +318,7 @@ pub fn lock_within<F: Files<File = File> + Clock + AllocGlobal>(
     access: Access,
     role: Role,
     seconds: u64,
-) -> Result<File, Complaint>
+) -> Result<LockedFile, Complaint>
     ensures { IfErr result (IsUnopened role) }
 {
     let for_writer = seconds.saturating_mul(NAPS);
@@ -278,7 +327,7 @@ pub fn lock_within<F: Files<File = File> + Clock + AllocGlobal>(
     for slept in 0..for_readers {
         let naps = naps_since(files, begun, slept);
         match lock(files, path, access) {
-            Ok(file) => return Ok(file),
+            Ok(lock) => return Ok(lock),
             Err(Unlocked::Read | Unlocked::Replaced) if naps < for_readers => {}
             Err(Unlocked::Written) if naps < for_writer => {}
             Err(unlocked) => return Err(unlocked.complaint(role)),
@@ -286,7 +335,7 @@ pub fn lock_within<F: Files<File = File> + Clock + AllocGlobal>(
         thread::sleep(files, Duration::from_millis(NAP));
     }
     match lock(files, path, access) {
-        Ok(file) => Ok(file),
+        Ok(lock) => Ok(lock),
         Err(unlocked) => Err(unlocked.complaint(role)),
     }
 }
@@ -301,18 +350,22 @@ fn disk_over<F: FileExt + OpenFile + Drop>(file: F) -> FileDisk<F>
 }
 
 /// A disk over a file that is locked, so it is that one whatever its name leads to by now.
-fn locked_disk(lock: &File) -> io::Result<FileDisk>
+fn locked_disk<'a>(file: &File, note: &'a RefusalNote) -> io::Result<NotedDisk<'a>>
     ensures { IfOk result IsJustOpened }
 {
-    Ok(disk_over(lock.try_clone()?))
+    Ok(disk_over(NotedFile::new(file.try_clone()?, note)))
 }
 
 /// A locked file as a disk, with its lock.
-pub fn under_lock(lock: File, role: Role) -> Result<Opened, Complaint>
+pub fn under_lock<'a>(
+    lock: LockedFile,
+    note: &'a RefusalNote,
+    role: Role,
+) -> Result<Opened<'a>, Complaint>
     ensures opened { IfOk result (λ opened. IsJustOpened opened.disk) }
     ensures shut { IfErr result (IsUnopened role) }
 {
-    match locked_disk(&lock) {
+    match locked_disk(&lock.file, note) {
         Ok(disk) => Ok(Opened { disk, lock }),
         Err(error) => Err(Complaint::NotOpened(role, error)),
     }
@@ -320,18 +373,19 @@ pub fn under_lock(lock: File, role: Role) -> Result<Opened, Complaint>
 
 /// Locks and opens the file at this path. Nothing is read, and nothing written. Refused where it can't be opened or made, and
 /// where another command has it and keeps it for so many seconds; FILE, where others only read it, for `READERS_WAIT` at least.
-pub fn open<F: Files<File = File> + Clock + AllocGlobal>(
+pub fn open<'a, F: Files<File = File> + Clock + AllocGlobal>(
     files: &F,
+    note: &'a RefusalNote,
     path: &str,
     access: Access,
     role: Role,
     seconds: u64,
-) -> Result<Opened, Complaint>
+) -> Result<Opened<'a>, Complaint>
     ensures opened { IfOk result (λ opened. IsJustOpened opened.disk) }
     ensures shut { IfErr result (IsUnopened role) }
 {
     let lock = lock_within(files, path, access, role, seconds)?;
-    under_lock(lock, role)
+    under_lock(lock, note, role)
 }
 
 /// An open file that another process may write meanwhile. What it holds isn't told.
@@ -344,9 +398,9 @@ pub fn shared<F: FileExt + OpenFile + Drop>(file: F) -> SharedFile<F>
 
 /// A file that is read.
 #[derive(Drop)]
-pub enum Readable {
+pub enum Readable<'a> {
     /// Under a lock, so that nobody writes it.
-    Locked(Opened),
+    Locked(Opened<'a>),
     /// Beside the command that has it.
     Beside(SharedFile),
 }
@@ -363,16 +417,6 @@ fn mode_of<F: Files<File = File>>(files: &F, path: &str) -> u32 {
     }
 }
 
-/// Refused where FILE can't be opened to be read: before another file is made for it.
-pub fn check_readable<F: Files<File = File>>(files: &F, path: &str) -> Result<(), Complaint>
-    ensures { IfErr result (IsUnopened Role.File) }
-{
-    match open_to_read(files, path) {
-        Ok(_) => Ok(()),
-        Err(error) => Err(Complaint::NotOpened(Role::File, error)),
-    }
-}
-
 /// Whether both paths lead to one file.
 fn lead_to_one<F: Files<File = File>>(files: &F, path: &str, other: &str) -> bool {
     match (fs::metadata(files, path), fs::metadata(files, other)) {
@@ -383,12 +427,13 @@ fn lead_to_one<F: Files<File = File>>(files: &F, path: &str, other: &str) -> boo
 
 /// Opens the file at this path that is to have a copy of FILE, at the other one, and makes it where there is none: with the
 /// permissions of FILE. Refused also where it is FILE itself, whose lock this command would wait for in vain.
-pub fn open_for_copy<F: Files<File = File> + Clock + AllocGlobal>(
+pub fn open_for_copy<'a, F: Files<File = File> + Clock + AllocGlobal>(
     files: &F,
+    note: &'a RefusalNote,
     path: &str,
     of: &str,
     seconds: u64,
-) -> Result<Opened, Complaint>
+) -> Result<Opened<'a>, Complaint>
     ensures opened { IfOk result (λ opened. IsJustOpened opened.disk) }
     ensures shut { IfErr result (IsUnopened Role.New) }
 {
@@ -396,17 +441,25 @@ pub fn open_for_copy<F: Files<File = File> + Clock + AllocGlobal>(
         return Err(Complaint::NotOpened(Role::New, ErrorKind::AlreadyExists.into()));
     }
     let mode = mode_of(files, of);
-    open(files, path, Access::Makes { mode }, Role::New, seconds)
+    open(
+        files,
+        note,
+        path,
+        Access::Makes { mode },
+        Role::New,
+        seconds,
+    )
 }
 
 /// Opens the file at this path to be read: beside another command, where one writes it. Refused where it can't be opened.
-pub fn open_beside<F: Files<File = File> + Clock + AllocGlobal>(
+pub fn open_beside<'a, F: Files<File = File> + Clock + AllocGlobal>(
     files: &F,
+    note: &'a RefusalNote,
     path: &str,
-) -> Result<Readable, Complaint>
+) -> Result<Readable<'a>, Complaint>
     ensures { MatchResult result IsJustReadable (IsUnopened Role.File) }
 {
-    match open(files, path, Access::Reads, Role::File, 0) {
+    match open(files, note, path, Access::Reads, Role::File, 0) {
         Ok(opened) => Ok(Readable::Locked(opened)),
         Err(Complaint::InUse(_)) => match open_to_read(files, path) {
             Ok(file) => Ok(Readable::Beside(shared(file))),

@@ -1,11 +1,11 @@
 //! How a command ends that has read a file beside its writer.
 
 ghost use Rattle.std.specs.Prelude.{◌≡◌};
-ghost use Rattle.filing_core.specs.Beside.{IsCopyStatus, IsLookStatus, IsFollowStatus, copy_complaint, look_complaint, loss_fault};
+ghost use Rattle.filing_core.specs.Beside.{IsLookStatus, IsFollowStatus, copy_complaint, look_complaint, loss_fault};
 
 use crate::polling::Polling;
 use beside_core::{LookFault, Loss};
-use files_core::{Ended, FileFault};
+use files_core::FileFault;
 use follow_core::{FollowEnd, LookEnd};
 use pen_core::{OpenFault, PenFault};
 use segment_core::ScanFault;
@@ -43,7 +43,7 @@ pub fn status_of_look(end: LookEnd) -> Result<Status, Complaint>
 }
 
 /// The same of FILE, where a new one is made of it.
-fn complaint_of_copy(fault: LookFault) -> Complaint
+pub fn complaint_of_copy(fault: LookFault) -> Complaint
     ensures { result ≡ copy_complaint fault }
 {
     match fault {
@@ -57,18 +57,6 @@ fn complaint_of_copy(fault: LookFault) -> Complaint
             ScanFault::Memory,
         )))),
         LookFault::TooFar | LookFault::NoRecord(_) => complaint_of(fault),
-    }
-}
-
-/// How `copy` or `upgrade` ended whose engine ended so: by its work, or because the look was refused.
-pub fn status_of_copy(ended: Result<Ended, LookFault>) -> Result<Status, Complaint>
-    ensures { IsCopyStatus ended result }
-{
-    match ended {
-        Ok(Ended::Done) => Ok(Status::Done),
-        Ok(Ended::OutputFailed) => Ok(Status::OutputFailed),
-        Ok(Ended::Refused(fault)) => Err(Complaint::Fault(fault)),
-        Err(fault) => Err(complaint_of_copy(fault)),
     }
 }
 

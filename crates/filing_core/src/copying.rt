@@ -1,21 +1,49 @@
-//! The engines of `copy` and `upgrade` beside the writer of the old file.
+//! What `copy` and `upgrade` read of the old file, and how its records come into the new one.
 
-ghost use Rattle.std.specs.Prelude.{◌≡◌, ◌≤◌, ◌^◌, ℕ, List, length, IfOk, MatchResult};
-ghost use Rattle.filing_core.specs.Copying.{EndsBeside, HadRecords, HasCopiedBeside, IsCopyBesideFault, IsUpgradedBeside, IsUpgradeBesideFault, MayBeUnread, WritesBeside};
+ghost use Rattle.std.specs.Prelude.{◌≡◌, ◌+◌, ◌≤◌, ◌^◌, ℕ, List, length, IfOk, IfErr, MatchResult};
+ghost use Rattle.disk_core.specs.Calls.{bytes_of};
+ghost use Rattle.pen_core.specs.Opening.{IsOpenRefusal, OnlySyncs, failed_openings};
+ghost use Rattle.vault_core.specs.Upgrading.{IsCopied, IsFileOfFormat, IsPieceOfCopy, format_of_copy};
+ghost use Rattle.filing_core.specs.Copying.{HadRecords, MayBeUnread};
 
 use beside_core::LookFault;
 use disk_core::{Disk, Shared};
-use files_core::{Ended, FileFault, write_copied, write_upgraded};
 use follow_core::read_vector;
+use pen_core::{OpenFault, Pen, PenFault};
 use record_core::{RECORD_LIMIT, Record};
 use segment_core::Format;
 use std::alloc::Global;
-use std::io::Write;
 use std::num::NonZeroU32;
-use vault_core::{UpgradeFault, VaultFault, copied_to, format_of, piece_of};
+use vault_core::{Vault, copied_to, format_of, piece_of};
 
-/// The version of the file, and its records at one moment of the call.
-fn read_file<R: Record, S: Shared>(
+/// The disk of a file that was opened, the file's version, and its records. Refused as `Pen::open` is.
+pub fn read_old<R: Record, D: Disk>(
+    alloc: Global,
+    disk: D,
+) -> Result<(D, Format, Vec<R>), (D, OpenFault)>
+    ensures read { IfOk result (λ r. D.keeps r.0 → IsFileOfFormat r.1 R.form (bytes_of (D.states disk)) r.2.items) }
+    ensures few { IfOk result (λ r. length r.2.items ≤ 2 ^ 32) }
+    ensures refused { IfErr result (λ r. D.keeps r.0 → IsOpenRefusal R.form (bytes_of (D.states disk)) r.1) }
+    ensures stays { MatchResult result
+        (λ r. D.keeps r.0 → OnlySyncs (D.states disk) (D.states r.0))
+        (λ r. D.keeps r.0 → OnlySyncs (D.states disk) (D.states r.0)) }
+    ensures faults { MatchResult result
+        (λ r. D.faults r.0 ≡ D.faults disk)
+        (λ r. D.faults r.0 ≡ D.faults disk + failed_openings r.1) }
+{
+    match Pen::open::<R>(alloc, disk) {
+        Ok((pen, records)) => {
+            // No vector has more records than a file.
+            let _size = pen.len();
+            let format = pen.format();
+            Ok((pen.into_disk(), format, records))
+        }
+        Err((disk, fault)) => Err((disk, fault)),
+    }
+}
+
+/// The version of a file that is read beside its writer, and its records at one moment of the call.
+pub fn read_beside<R: Record, S: Shared>(
     alloc: Global,
     file: &mut S,
 ) -> Result<(Format, Vec<R>), LookFault>
@@ -37,78 +65,21 @@ fn read_file<R: Record, S: Shared>(
     Ok((mark.shape().format, records))
 }
 
-/// Copies the vector that the file has at one moment of the call into a new file on the disk, as `copy_file` does, and writes
-/// the same. Gives back the new disk. Refused with the fault of the look, where the file couldn't be read: then no call of
-/// the disk was made.
-pub fn copy_beside<R: Record, S: Shared, N: Disk, W: Write>(
+/// Copies the records of a file of that version into a new file on a disk, of the version that is asked for or the same, in
+/// growths of so many records or of the most. Refused as `copied_to` is.
+pub fn copy_to<R: Record, D: Disk>(
     alloc: Global,
-    file: &mut S,
-    new: N,
+    own: Format,
+    records: Vec<R>,
+    disk: D,
     format: Option<Format>,
     block: Option<NonZeroU32>,
-    writer: &mut W,
-) -> (N, Result<Ended, LookFault>)
-    ensures copied { EndsBeside
-        ((text : List ℕ) × HasCopiedBeside R.form (HadRecords R.form (S.keeps file.new) (S.held file.old) (S.now file.old) (S.now file.new) (S.synced file.new)) N.keeps N.states N.faults new result.0 format block text)
-        (IsCopyBesideFault R.form (HadRecords R.form (S.keeps file.new) (S.held file.old) (S.now file.old) (S.now file.new) (S.synced file.new)) N.keeps N.states N.faults new result.0 format block)
-        (λ fault. MayBeUnread R.form (S.keeps file.new) (S.held file.old) (S.now file.old) (S.now file.new) fault × (result.0 ≡ new)) result.1 }
-    ensures writes { WritesBeside (W.contents writer.old) (W.contents writer.new)
-        (HasCopiedBeside R.form (HadRecords R.form (S.keeps file.new) (S.held file.old) (S.now file.old) (S.now file.new) (S.synced file.new)) N.keeps N.states N.faults new result.0 format block) result.1 }
-    ensures same { S.held file.new ≡ S.held file.old }
-    ensures model { S.keeps file.new → S.keeps file.old }
+) -> Result<Vault<R, D>, (D, PenFault)>
+    requires few { length records.items ≤ 2 ^ 32 }
+    ensures { (piece : ℕ) × IsPieceOfCopy block (format_of_copy format own) R.form.width piece
+        × IsCopied (format_of_copy format own) R.form D.keeps D.states D.faults piece records.items disk result }
 {
-    let (own, records) = match read_file::<R, S>(alloc, file) {
-        Ok(found) => found,
-        Err(fault) => return (new, Err(fault)),
-    };
     let format = format_of(format, own);
     let piece = piece_of::<R>(block, format);
-    match copied_to(alloc, records, new, format, piece) {
-        Ok(vault) => {
-            let written = write_copied(writer, vault.len());
-            (vault.into_disk(), Ok(Ended::told(written)))
-        }
-        Err((new, fault)) => {
-            let fault = UpgradeFault::New(VaultFault::Pen(fault));
-            (new, Ok(Ended::Refused(FileFault::Upgrade(fault))))
-        }
-    }
-}
-
-/// The same of a file of version 1 into one of version 2, as `upgrade_file` does, in the longest growths that it takes.
-/// Refused also as `NotOld`: then too no call of the disk was made.
-pub fn upgrade_beside<R: Record, S: Shared, N: Disk, W: Write>(
-    alloc: Global,
-    file: &mut S,
-    new: N,
-    writer: &mut W,
-) -> (N, Result<Ended, LookFault>)
-    ensures upgraded { EndsBeside
-        ((text : List ℕ) × IsUpgradedBeside R.form (HadRecords R.form (S.keeps file.new) (S.held file.old) (S.now file.old) (S.now file.new) (S.synced file.new)) N.keeps N.states N.faults new result.0 text)
-        (IsUpgradeBesideFault R.form (HadRecords R.form (S.keeps file.new) (S.held file.old) (S.now file.old) (S.now file.new) (S.synced file.new)) N.keeps N.states N.faults new result.0)
-        (λ fault. MayBeUnread R.form (S.keeps file.new) (S.held file.old) (S.now file.old) (S.now file.new) fault × (result.0 ≡ new)) result.1 }
-    ensures writes { WritesBeside (W.contents writer.old) (W.contents writer.new)
-        (IsUpgradedBeside R.form (HadRecords R.form (S.keeps file.new) (S.held file.old) (S.now file.old) (S.now file.new) (S.synced file.new)) N.keeps N.states N.faults new result.0) result.1 }
-    ensures same { S.held file.new ≡ S.held file.old }
-    ensures model { S.keeps file.new → S.keeps file.old }
-{
-    let (own, records) = match read_file::<R, S>(alloc, file) {
-        Ok(found) => found,
-        Err(fault) => return (new, Err(fault)),
-    };
-    if own == Format::Two {
-        let fault = FileFault::Upgrade(UpgradeFault::NotOld);
-        return (new, Ok(Ended::Refused(fault)));
-    }
-    let piece = piece_of::<R>(None, Format::Two);
-    match copied_to(alloc, records, new, Format::Two, piece) {
-        Ok(vault) => {
-            let written = write_upgraded(writer, vault.len());
-            (vault.into_disk(), Ok(Ended::told(written)))
-        }
-        Err((new, fault)) => {
-            let fault = UpgradeFault::New(VaultFault::Pen(fault));
-            (new, Ok(Ended::Refused(FileFault::Upgrade(fault))))
-        }
-    }
+    copied_to(alloc, records, disk, format, piece)
 }

@@ -1,17 +1,21 @@
 //! `create`: where nothing else stands, or over whatever does.
 
-ghost use Rattle.std.specs.Prelude.{◌≡◌, ◌⊎◌, true, MatchResult};
+ghost use Rattle.std.specs.Prelude.{◌≡◌, ◌⊎◌, false, true, MatchResult};
 ghost use Rattle.files_core.specs.Creating.{IsCreated, IsCreateRefusal};
 ghost use Rattle.files_core.specs.Ended.{WritesText};
 ghost use Rattle.files_core.specs.Texts.{created_line};
+ghost use Rattle.filing_core.specs.Complaints.{IsJustOpened};
 ghost use Rattle.filing_core.specs.Commands.{IsCreateRun};
 
-use crate::access::{Access, ORDINARY, Opened, keep_name, lock_within, under_lock};
+use crate::access::{
+    Access, LockedFile, ORDINARY, Opened, keep_name, lock_within, under_lock, withdraw,
+};
 use crate::ending::status_on;
 use crate::filing::Filing;
+use crate::noting::NotedDisk;
 use crate::place::takeable;
 use crate::replacing::Replacement;
-use disk_core::{Disk, FileDisk};
+use disk_core::Disk;
 use files_core::{Ended, FileFault, Progress, create};
 use record_core::Record;
 use segment_core::Format;
@@ -51,21 +55,62 @@ fn tell_made<W: Write>(writer: &mut W, made: Result<(), FileFault>) -> Ended
 }
 
 impl<'a, F: Files<File = File> + Clock + AllocGlobal, P: Progress + Sync> Filing<'a, F, P> {
+    /// How a creation ended. Where it was refused, and the file was made for it, that is taken away.
+    fn leave(
+        &self,
+        lock: &LockedFile,
+        filed: Result<Status, Complaint>,
+    ) -> Result<Status, Complaint>
+        ensures { result ≡ filed }
+    {
+        if filed.is_err() {
+            withdraw(self.files, self.file, lock);
+        }
+        filed
+    }
+
+    /// Makes a vector on the disk of a file that was opened, where nothing else stands.
+    fn create_on<R: TextRecord, W: Write>(
+        &self,
+        disk: NotedDisk<'_>,
+        format: Format,
+        writer: &mut W,
+    ) -> Result<Status, Complaint>
+        ensures { IsJustOpened disk.entry → IsCreateRun R.form (W.contents writer.old) (W.contents writer.new) result format false }
+    {
+        let disk = takeable::<R>(disk, format)?;
+        let (disk, ended) = create::<R, NotedDisk<'_>, W>(self.alloc, disk, format, writer);
+        status_on::<R>(self.alloc, disk, ended)
+    }
+
+    /// Makes a vector on the disk of a file that was emptied.
+    fn create_anew<R: TextRecord, W: Write>(
+        &self,
+        disk: NotedDisk<'_>,
+        format: Format,
+        writer: &mut W,
+    ) -> Result<Status, Complaint>
+        ensures { IsJustOpened disk.entry → IsCreateRun R.form (W.contents writer.old) (W.contents writer.new) result format true }
+    {
+        let (disk, ended) = create::<R, NotedDisk<'_>, W>(self.alloc, disk, format, writer);
+        status_on::<R>(self.alloc, disk, ended)
+    }
+
     /// Makes a vector in the locked file, which is emptied first.
     fn create_in<R: TextRecord, W: Write>(
         &self,
-        lock: File,
+        lock: LockedFile,
         format: Format,
         writer: &mut W,
     ) -> Result<Status, Complaint>
         ensures { IsCreateRun R.form (W.contents writer.old) (W.contents writer.new) result format true }
     {
-        if let Err(error) = lock.set_len(0) {
+        if let Err(error) = lock.file.set_len(0) {
             return Err(Complaint::NotOpened(Role::File, error));
         }
-        let Opened { disk, lock: _lock } = under_lock(lock, Role::File)?;
-        let (disk, ended) = create::<R, FileDisk, W>(self.alloc, disk, format, writer);
-        status_on::<R>(self.alloc, disk, ended)
+        let Opened { disk, lock } = under_lock(lock, self.note, Role::File)?;
+        let filed = self.create_anew::<R, W>(disk, format, writer);
+        self.leave(&lock, filed)
     }
 
     /// Makes a vector in the place of whatever stands there: in a new file, where that may take the place, so that readers
@@ -78,15 +123,16 @@ impl<'a, F: Files<File = File> + Clock + AllocGlobal, P: Progress + Sync> Filing
         ensures { IsCreateRun R.form (W.contents writer.old) (W.contents writer.new) result format true }
     {
         let lock = lock_within(self.files, self.file, MAKES, Role::File, self.wait)?;
-        let Some(Replacement { opened, names }) = Replacement::of(self.files, self.file, &lock)
-        else {
+        let Some(Replacement { opened, names }) = Replacement::of(
+            self.files, self.note, self.file, &lock.file,
+        ) else {
             return self.create_in::<R, W>(lock, format, writer);
         };
         let Opened {
             disk,
             lock: _new_lock,
         } = opened;
-        let (disk, made) = make::<R, FileDisk>(self.alloc, disk, format);
+        let (disk, made) = make::<R, NotedDisk<'_>>(self.alloc, disk, format);
         if made.is_err() {
             names.withdraw(self.files);
         } else if let Err(error) = keep_name(self.files, self.file) {
@@ -112,9 +158,8 @@ impl<'a, F: Files<File = File> + Clock + AllocGlobal, P: Progress + Sync> Filing
         if over {
             return self.create_over::<R, W>(format, writer);
         }
-        let Opened { disk, lock: _lock } = self.open(MAKES)?;
-        let made = takeable::<R>(disk, format)?;
-        let (disk, ended) = create::<R, FileDisk, W>(self.alloc, made, format, writer);
-        status_on::<R>(self.alloc, disk, ended)
+        let Opened { disk, lock } = self.open(MAKES)?;
+        let filed = self.create_on::<R, W>(disk, format, writer);
+        self.leave(&lock, filed)
     }
 }

@@ -1,18 +1,18 @@
 //! How a command over a file ends, by how its engine did.
 
-ghost use Rattle.std.specs.Prelude.{◌≡◌};
+ghost use Rattle.std.specs.Prelude.{◌≡◌, MatchResult};
 ghost use Rattle.filing_core.specs.Complaints.{IsAppendComplaint, IsComplaintOf, IsStatusOf, damage_of};
 ghost use Rattle.filing_core.specs.Commands.{IsServedAs};
 
+use crate::noting::NotedDisk;
 use crate::serving::{fault_of, write_served};
-use disk_core::FileDisk;
 use files_core::{Appended, Ended, FileFault, sound_front};
 use pen_core::OpenFault;
 use segment_core::ScanFault;
 use sentences::Complaint;
 use serve_core::{ServeFault, Served};
 use std::alloc::Global;
-use std::io::Write;
+use std::io::{self, Write};
 use text_core::{Status, TextRecord};
 use vault_core::UpgradeFault;
 
@@ -29,14 +29,18 @@ fn damage_of(fault: FileFault) -> Option<u64>
 }
 
 /// The complaint of a command whose engine gave its disk back with this fault: of a damaged file with what is sound of it.
-fn complaint_of<R: TextRecord>(alloc: Global, disk: FileDisk, fault: FileFault) -> Complaint
-    ensures { IsComplaintOf R.form disk fault result }
+pub fn complaint_of<R: TextRecord>(
+    alloc: Global,
+    disk: NotedDisk<'_>,
+    fault: FileFault,
+) -> Complaint
+    ensures { IsComplaintOf R.form disk.entry fault result }
 {
     let mut disk = disk;
     let Some(at) = damage_of(fault) else {
         return Complaint::Fault(fault);
     };
-    match sound_front::<R, FileDisk>(alloc, &mut disk, at) {
+    match sound_front::<R, NotedDisk<'_>>(alloc, &mut disk, at) {
         Ok(sound) => Complaint::Damaged(sound, fault),
         Err(_) => Complaint::Fault(fault),
     }
@@ -45,10 +49,10 @@ fn complaint_of<R: TextRecord>(alloc: Global, disk: FileDisk, fault: FileFault) 
 /// How a command ended whose engine gave its disk back so.
 pub fn status_on<R: TextRecord>(
     alloc: Global,
-    disk: FileDisk,
+    disk: NotedDisk<'_>,
     ended: Ended,
 ) -> Result<Status, Complaint>
-    ensures { IsStatusOf (IsComplaintOf R.form disk) ended result }
+    ensures { IsStatusOf (IsComplaintOf R.form disk.entry) ended result }
 {
     match ended {
         Ended::Done => Ok(Status::Done),
@@ -57,14 +61,24 @@ pub fn status_on<R: TextRecord>(
     }
 }
 
+/// How a command ended that has done its work, and written its answer so.
+pub fn status_of_answer(written: io::Result<()>) -> Status
+    ensures { MatchResult written (λ _. result ≡ Status.Done) (λ _. result ≡ Status.OutputFailed) }
+{
+    match written {
+        Ok(()) => Status::Done,
+        Err(_) => Status::OutputFailed,
+    }
+}
+
 /// How `append` or `load` ended whose engine gave its disk back so.
 pub fn status_of_append<R: TextRecord>(
     alloc: Global,
-    disk: FileDisk,
+    disk: NotedDisk<'_>,
     appended: Appended,
     ended: Ended,
 ) -> Result<Status, Complaint>
-    ensures { IsStatusOf (IsAppendComplaint R.form appended disk) ended result }
+    ensures { IsStatusOf (IsAppendComplaint R.form appended disk.entry) ended result }
 {
     match ended {
         Ended::Done => Ok(Status::Done),
@@ -79,12 +93,12 @@ pub fn status_of_append<R: TextRecord>(
 /// How `serve` ended whose engine gave its disk back so, and its answer.
 pub fn status_of_serve<R: TextRecord, W: Write>(
     alloc: Global,
-    disk: FileDisk,
+    disk: NotedDisk<'_>,
     served: Served,
     ended: Result<(), ServeFault>,
     writer: &mut W,
 ) -> Result<Status, Complaint>
-    ensures { IsServedAs R.form (W.contents writer.old) (W.contents writer.new) result disk served.growths ended }
+    ensures { IsServedAs R.form (W.contents writer.old) (W.contents writer.new) result disk.entry served.growths ended }
 {
     match ended {
         Ok(()) => match write_served(served.growths, writer) {

@@ -12,11 +12,11 @@ ghost use Rattle.filing_core.specs.Shown.{IsCommandShown, IsInputShown, IsSetSho
 use crate::access::{Access, Opened, open};
 use crate::counting::CountingGate;
 use crate::ending::{status_of_append, status_of_serve, status_on};
+use crate::noting::{NotedDisk, RefusalNote};
 use crate::polling::looks_of;
 use crate::searching::Sought;
 use crate::serving::pipes_of;
 use crate::setting::{bytes_of_word, setting_of};
-use disk_core::FileDisk;
 use files_core::{
     OpensToWrite, Progress, Watched, clear, fold, read_resizing, resize, resize_in_parts, set,
 };
@@ -45,19 +45,28 @@ pub struct Filing<'a, F, P> {
     /// For how many seconds another command is waited for that has the file.
     pub wait: u64,
     pub progress: &'a P,
+    /// Where it is noted why the system refused a call of its files.
+    pub note: &'a RefusalNote,
 }
 
 impl<'a, F: Files<File = File> + Clock + AllocGlobal, P: Progress + Sync> Filing<'a, F, P> {
-    pub(crate) fn open(&self, access: Access) -> Result<Opened, Complaint>
+    pub(crate) fn open(&self, access: Access) -> Result<Opened<'a>, Complaint>
         ensures opened { IfOk result (λ opened. IsJustOpened opened.disk) }
         ensures shut { IfErr result (IsUnopened Role.File) }
     {
-        open(self.files, self.file, access, Role::File, self.wait)
+        open(
+            self.files,
+            self.note,
+            self.file,
+            access,
+            Role::File,
+            self.wait,
+        )
     }
 
     /// The disk of a file that is read as a whole, told of as it is.
-    pub(crate) fn watched(&self, disk: FileDisk) -> Watched<'_, FileDisk, P>
-        ensures { below result ≡ disk }
+    pub(crate) fn watched<'n>(&self, disk: NotedDisk<'n>) -> Watched<'_, NotedDisk<'n>, P>
+        ensures { below result ≡ disk.entry }
     {
         Watched::new(disk, self.progress)
     }
@@ -76,7 +85,7 @@ impl<'a, F: Files<File = File> + Clock + AllocGlobal, P: Progress + Sync> Filing
         let growths = read_growth_lines::<R, I>(self.alloc, reader, shown)?;
         let Opened { disk, lock: _lock } = self.open(Access::Writes)?;
         let gate = CountingGate::new(self.progress, growths.count() as u64);
-        let (disk, appended, ended) = load::<R, S, FileDisk, W, CountingGate<'_, P>, E>(
+        let (disk, appended, ended) = load::<R, S, NotedDisk<'_>, W, CountingGate<'_, P>, E>(
             rt, self.alloc, disk, growths, seats, &gate, writer,
         );
         status_of_append::<R>(self.alloc, disk, appended, ended)
@@ -94,7 +103,7 @@ impl<'a, F: Files<File = File> + Clock + AllocGlobal, P: Progress + Sync> Filing
         ensures shown { IfSome shown.new (IsLineBehind R.spelling (non_zero_u32_get block) (I.remaining reader.old)) }
     {
         let Opened { disk, lock: _lock } = self.open(Access::Writes)?;
-        let (disk, appended, ended) = append::<R, FileDisk, I, W, P>(
+        let (disk, appended, ended) = append::<R, NotedDisk<'_>, I, W, P>(
             self.alloc,
             disk,
             reader,
@@ -121,7 +130,7 @@ impl<'a, F: Files<File = File> + Clock + AllocGlobal, P: Progress + Sync> Filing
         let word = bytes_of_word(records);
         let setting = setting_of::<R, I>(self.alloc, start.as_bytes(), word, reader, shown)?;
         let Opened { disk, lock: _lock } = self.open(Access::Writes)?;
-        let (disk, ended) = set::<R, FileDisk, W>(self.alloc, disk, &setting, writer);
+        let (disk, ended) = set::<R, NotedDisk<'_>, W>(self.alloc, disk, &setting, writer);
         status_on::<R>(self.alloc, disk, ended)
     }
 
@@ -137,9 +146,9 @@ impl<'a, F: Files<File = File> + Clock + AllocGlobal, P: Progress + Sync> Filing
         let resizing = read_resizing::<R>(len.as_bytes(), record.as_bytes())?;
         let Opened { disk, lock: _lock } = self.open(Access::Writes)?;
         let (disk, ended) = if in_parts {
-            resize_in_parts::<R, FileDisk, W>(self.alloc, disk, &resizing, writer)
+            resize_in_parts::<R, NotedDisk<'_>, W>(self.alloc, disk, &resizing, writer)
         } else {
-            resize::<R, FileDisk, W>(self.alloc, disk, &resizing, writer)
+            resize::<R, NotedDisk<'_>, W>(self.alloc, disk, &resizing, writer)
         };
         status_on::<R>(self.alloc, disk, ended)
     }
@@ -148,7 +157,7 @@ impl<'a, F: Files<File = File> + Clock + AllocGlobal, P: Progress + Sync> Filing
         ensures { IsClearRun R.form (W.contents writer.old) (W.contents writer.new) result }
     {
         let Opened { disk, lock: _lock } = self.open(Access::Writes)?;
-        let (disk, ended) = clear::<R, FileDisk, W>(self.alloc, disk, writer);
+        let (disk, ended) = clear::<R, NotedDisk<'_>, W>(self.alloc, disk, writer);
         status_on::<R>(self.alloc, disk, ended)
     }
 
@@ -157,7 +166,7 @@ impl<'a, F: Files<File = File> + Clock + AllocGlobal, P: Progress + Sync> Filing
     {
         let Opened { disk, lock: _lock } = self.open(Access::Writes)?;
         let disk = self.watched(disk);
-        let (disk, ended) = fold::<R, Watched<'_, FileDisk, P>, W>(self.alloc, disk, writer);
+        let (disk, ended) = fold::<R, Watched<'_, NotedDisk<'_>, P>, W>(self.alloc, disk, writer);
         status_on::<R>(self.alloc, disk.into_disk(), ended)
     }
 
@@ -171,7 +180,7 @@ impl<'a, F: Files<File = File> + Clock + AllocGlobal, P: Progress + Sync> Filing
     {
         let pipes = pipes_of(self.alloc, self.files, clients)?;
         let Opened { disk, lock: _lock } = self.open(Access::Writes)?;
-        let (disk, served, ended) = serve::<R, FileDisk, File, File, E>(
+        let (disk, served, ended) = serve::<R, NotedDisk<'_>, File, File, E>(
             rt, self.alloc, disk, pipes,
         );
         status_of_serve::<R, W>(self.alloc, disk, served, ended, writer)

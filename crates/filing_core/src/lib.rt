@@ -15,6 +15,7 @@ mod ending;
 mod filing;
 mod following;
 mod making;
+mod noting;
 mod place;
 mod polling;
 mod reading;
@@ -26,4 +27,6 @@ mod setting;
 mod telling;
 
 pub use filing::Filing;
+pub use noting::RefusalNote;
+pub use place::standing_in;
 pub use telling::tell_stat;

@@ -1,151 +1,142 @@
-//! `copy` and `upgrade`: the new file is locked, and then the old one read, under a lock that others who read share, or beside
-//! the command that has it. That lock is let go before anything is written to the new one.
+//! `copy` and `upgrade`: the old file is read first, under a lock that others who read share, or beside the command that has it.
+//! That lock is let go, and only then the new file is opened, locked and written.
 
-ghost use Rattle.std.specs.Prelude.{Some, false};
-ghost use Rattle.disk_core.specs.FileDisk.{KeepsSoFar, faults_of, states_of};
-ghost use Rattle.segment_core.specs.declared.format.Format.TheVariants.{Two};
-ghost use Rattle.files_core.specs.Upgraded.{HasCopied, IsCopyCommandFault, IsUpgraded, IsUpgradeRefusal};
+ghost use Rattle.std.specs.Prelude.{◌≡◌, ◌≤◌, ◌^◌, List, length, IfOk, MatchResult};
 ghost use Rattle.filing_core.specs.Beside.{IsJustShared};
-ghost use Rattle.filing_core.specs.Complaints.{Disk, IsJustOpened};
-ghost use Rattle.filing_core.specs.Commands.{HasMadeBeside, HasMadeNew, IsCopyRun, IsUpgradeRun, MayBeMadeOn};
-ghost use Rattle.filing_core.specs.Copying.{HasCopiedBeside, IsCopyBesideFault, IsUpgradedBeside, IsUpgradeBesideFault};
+ghost use Rattle.filing_core.specs.Complaints.{IsJustOpened};
+ghost use Rattle.filing_core.specs.Commands.{IsCopyRun, IsNewMade, IsNewUnmade, IsOldRead, IsOldUnread, IsUpgradeRun};
 
-use crate::access::{Opened, Readable, check_readable, open_beside, open_for_copy, vector_len};
-use crate::beside::status_of_copy;
-use crate::copying::{copy_beside, upgrade_beside};
-use crate::ending::status_on;
+use crate::access::{
+    LockedFile, Opened, Readable, open_beside, open_for_copy, vector_len, withdraw,
+};
+use crate::beside::complaint_of_copy;
+use crate::copying::{copy_to, read_beside, read_old};
+use crate::ending::{complaint_of, status_of_answer};
 use crate::filing::Filing;
-use crate::place::{new_place, take_back, take_back_read};
-use crate::releasing::{ReadLock, ReleasingDisk};
-use disk_core::{FileDisk, SharedFile};
-use files_core::{Progress, Watched, copy_file, upgrade_file};
+use crate::noting::NotedDisk;
+use crate::place::{new_place, take_back};
+use disk_core::SharedFile;
+use files_core::{FileFault, Progress, Watched, write_copied, write_upgraded};
 use segment_core::Format;
-use sentences::{Complaint, Role};
+use sentences::Complaint;
 use std::fs::File;
 use std::io::Write;
 use std::num::NonZeroU32;
 use std::rt::Files;
 use std::time::Clock;
 use text_core::{Status, TextRecord};
+use vault_core::{UpgradeFault, VaultFault};
+
+/// A new file that has all records that were copied.
+#[derive(Drop)]
+struct NewFile {
+    /// How many.
+    size: u64,
+    /// It stands until its command has answered.
+    lock: LockedFile,
+}
 
 impl<'a, F: Files<File = File> + Clock + AllocGlobal, P: Progress + Sync> Filing<'a, F, P> {
-    fn copy_locked<R: TextRecord, W: Write>(
-        &self,
-        old: Opened,
-        new: Opened,
-        format: Option<Format>,
-        piece: Option<NonZeroU32>,
-        writer: &mut W,
-    ) -> Result<Status, Complaint>
-        ensures { IsJustOpened old.disk → (made : Disk) → IsJustOpened made → MayBeMadeOn R.form format false made new.disk
-            → HasMadeNew R.form (W.contents writer.old) (W.contents writer.new) result format
-            (λ disk asked left left_new. HasCopied R.form KeepsSoFar states_of KeepsSoFar states_of faults_of disk asked left left_new format piece)
-            (λ disk asked left left_new. IsCopyCommandFault R.form KeepsSoFar states_of KeepsSoFar states_of faults_of disk asked left left_new format piece) }
+    /// The version of FILE, which is locked, and its records.
+    fn read_locked<R: TextRecord>(&self, opened: Opened<'_>) -> Result<(Format, Vec<R>), Complaint>
+        ensures read { IsJustOpened opened.entry.disk → MatchResult result (λ found. IsOldRead R.form found.0 found.1.items) (IsOldUnread R.form) }
+        ensures few { IfOk result (λ found. length found.1.items ≤ 2 ^ 32) }
     {
-        let before = vector_len(&new.lock);
-        let Opened { disk, lock } = old;
-        let new_disk = ReleasingDisk::new(new.disk, ReadLock::of(lock));
-        let (old, _new, ended) = copy_file::<
-            R,
-            Watched<'_, FileDisk, P>,
-            ReleasingDisk<FileDisk>,
-            W,
-        >(
-            self.alloc,
-            self.watched(disk),
-            new_disk,
-            format,
-            piece,
-            writer,
-        );
-        take_back(&new.lock, before, ended);
-        status_on::<R>(self.alloc, old.into_disk(), ended)
+        let Opened { disk, lock: _lock } = opened;
+        match read_old::<R, Watched<'_, NotedDisk<'_>, P>>(self.alloc, self.watched(disk)) {
+            Ok((_disk, format, records)) => Ok((format, records)),
+            Err((disk, fault)) => {
+                let fault = FileFault::Upgrade(UpgradeFault::Old(fault));
+                Err(complaint_of::<R>(self.alloc, disk.into_disk(), fault))
+            }
+        }
     }
 
-    fn copy_shared<R: TextRecord, W: Write>(
-        &self,
-        file: SharedFile,
-        new: Opened,
-        format: Option<Format>,
-        piece: Option<NonZeroU32>,
-        writer: &mut W,
-    ) -> Result<Status, Complaint>
-        ensures { IsJustShared file → (made : Disk) → IsJustOpened made → MayBeMadeOn R.form format false made new.disk
-            → HasMadeBeside R.form (W.contents writer.old) (W.contents writer.new) result format
-            (λ Had asked left_new. HasCopiedBeside R.form Had KeepsSoFar states_of faults_of asked left_new format piece)
-            (λ Had asked left_new. IsCopyBesideFault R.form Had KeepsSoFar states_of faults_of asked left_new format piece) }
+    /// The same of FILE beside the command that has it.
+    fn read_shared<R: TextRecord>(&self, file: SharedFile) -> Result<(Format, Vec<R>), Complaint>
+        ensures read { IsJustShared file → MatchResult result (λ found. IsOldRead R.form found.0 found.1.items) (IsOldUnread R.form) }
+        ensures few { IfOk result (λ found. length found.1.items ≤ 2 ^ 32) }
     {
         let mut file = file;
-        let Opened { disk, lock } = new;
-        let before = vector_len(&lock);
-        let (_new, ended) = copy_beside::<R, SharedFile, FileDisk, W>(
-            self.alloc, &mut file, disk, format, piece, writer,
-        );
-        take_back_read(&lock, before, ended);
-        status_of_copy(ended)
+        match read_beside::<R, SharedFile>(self.alloc, &mut file) {
+            Ok(found) => Ok(found),
+            Err(fault) => Err(complaint_of_copy(fault)),
+        }
+    }
+
+    /// The version of FILE, and its records. Behind this it is locked no more.
+    fn read_file<R: TextRecord>(&self) -> Result<(Format, Vec<R>), Complaint>
+        ensures read { MatchResult result (λ found. IsOldRead R.form found.0 found.1.items) (IsOldUnread R.form) }
+        ensures few { IfOk result (λ found. length found.1.items ≤ 2 ^ 32) }
+    {
+        match open_beside(self.files, self.note, self.file) {
+            Ok(Readable::Locked(opened)) => self.read_locked::<R>(opened),
+            Ok(Readable::Beside(file)) => self.read_shared::<R>(file),
+            Err(complaint) => Err(complaint),
+        }
+    }
+
+    /// Copies the records of FILE, which has that version, into a new file that was opened, and answers how many.
+    fn copy_into<R: TextRecord>(
+        &self,
+        disk: NotedDisk<'_>,
+        lock: &LockedFile,
+        own: Format,
+        records: Vec<R>,
+        format: Option<Format>,
+        block: Option<NonZeroU32>,
+    ) -> Result<u64, Complaint>
+        requires few { length records.items ≤ 2 ^ 32 }
+        ensures { IsJustOpened disk.entry → MatchResult result (IsNewMade R.form format block own records.items) (IsNewUnmade R.form format block own records.items) }
+    {
+        let disk = new_place::<R>(disk, format)?;
+        let before = vector_len(&lock.file);
+        match copy_to::<R, NotedDisk<'_>>(self.alloc, own, records, disk, format, block) {
+            Ok(vault) => Ok(vault.len()),
+            Err((_disk, fault)) => {
+                take_back(&lock.file, before, fault);
+                let fault = UpgradeFault::New(VaultFault::Pen(fault));
+                Err(Complaint::Fault(FileFault::Upgrade(fault)))
+            }
+        }
+    }
+
+    /// Makes the new file at this path of the records of FILE, which has that version.
+    fn make_new<R: TextRecord>(
+        &self,
+        path: &str,
+        own: Format,
+        records: Vec<R>,
+        format: Option<Format>,
+        block: Option<NonZeroU32>,
+    ) -> Result<NewFile, Complaint>
+        requires few { length records.items ≤ 2 ^ 32 }
+        ensures { MatchResult result (λ new. IsNewMade R.form format block own records.items new.size) (IsNewUnmade R.form format block own records.items) }
+    {
+        let Opened { disk, lock } = open_for_copy(
+            self.files, self.note, path, self.file, self.wait,
+        )?;
+        match self.copy_into::<R>(disk, &lock, own, records, format, block) {
+            Ok(size) => Ok(NewFile { size, lock }),
+            Err(complaint) => {
+                withdraw(self.files, path, &lock);
+                Err(complaint)
+            }
+        }
     }
 
     pub fn copy<R: TextRecord, W: Write>(
         &self,
         new: &str,
         format: Option<Format>,
-        piece: Option<NonZeroU32>,
+        block: Option<NonZeroU32>,
         writer: &mut W,
     ) -> Result<Status, Complaint>
-        ensures { IsCopyRun R.form (W.contents writer.old) (W.contents writer.new) result format piece }
+        ensures { IsCopyRun R.form (W.contents writer.old) (W.contents writer.new) result format block }
     {
-        check_readable(self.files, self.file)?;
-        let Opened { disk, lock } = open_for_copy(self.files, new, self.file, self.wait)?;
-        let disk = new_place::<R>(disk, format)?;
-        let new = Opened { disk, lock };
-        match open_beside(self.files, self.file)? {
-            Readable::Locked(old) => self.copy_locked::<R, W>(old, new, format, piece, writer),
-            Readable::Beside(file) => self.copy_shared::<R, W>(file, new, format, piece, writer),
-        }
-    }
-
-    fn upgrade_locked<R: TextRecord, W: Write>(
-        &self,
-        old: Opened,
-        new: Opened,
-        writer: &mut W,
-    ) -> Result<Status, Complaint>
-        ensures { IsJustOpened old.disk → (made : Disk) → IsJustOpened made → MayBeMadeOn R.form (Some Two) false made new.disk
-            → HasMadeNew R.form (W.contents writer.old) (W.contents writer.new) result (Some Two)
-            (IsUpgraded R.form KeepsSoFar states_of KeepsSoFar states_of faults_of) (IsUpgradeRefusal R.form KeepsSoFar states_of KeepsSoFar states_of faults_of) }
-    {
-        let before = vector_len(&new.lock);
-        let Opened { disk, lock } = old;
-        let old = self.watched(disk);
-        let new_disk = ReleasingDisk::new(new.disk, ReadLock::of(lock));
-        let (old, _new, ended) = upgrade_file::<
-            R,
-            Watched<'_, FileDisk, P>,
-            ReleasingDisk<FileDisk>,
-            W,
-        >(self.alloc, old, new_disk, writer);
-        take_back(&new.lock, before, ended);
-        status_on::<R>(self.alloc, old.into_disk(), ended)
-    }
-
-    fn upgrade_shared<R: TextRecord, W: Write>(
-        &self,
-        file: SharedFile,
-        new: Opened,
-        writer: &mut W,
-    ) -> Result<Status, Complaint>
-        ensures { IsJustShared file → (made : Disk) → IsJustOpened made → MayBeMadeOn R.form (Some Two) false made new.disk
-            → HasMadeBeside R.form (W.contents writer.old) (W.contents writer.new) result (Some Two)
-            (λ Had. IsUpgradedBeside R.form Had KeepsSoFar states_of faults_of) (λ Had. IsUpgradeBesideFault R.form Had KeepsSoFar states_of faults_of) }
-    {
-        let mut file = file;
-        let Opened { disk, lock } = new;
-        let before = vector_len(&lock);
-        let (_new, ended) = upgrade_beside::<R, SharedFile, FileDisk, W>(
-            self.alloc, &mut file, disk, writer,
-        );
-        take_back_read(&lock, before, ended);
-        status_of_copy(ended)
+        let (own, records) = self.read_file::<R>()?;
+        let new = self.make_new::<R>(new, own, records, format, block)?;
+        Ok(status_of_answer(write_copied(writer, new.size)))
     }
 
     pub fn upgrade<R: TextRecord, W: Write>(
@@ -155,13 +146,11 @@ impl<'a, F: Files<File = File> + Clock + AllocGlobal, P: Progress + Sync> Filing
     ) -> Result<Status, Complaint>
         ensures { IsUpgradeRun R.form (W.contents writer.old) (W.contents writer.new) result }
     {
-        check_readable(self.files, self.file)?;
-        let Opened { disk, lock } = open_for_copy(self.files, new, self.file, self.wait)?;
-        let disk = new_place::<R>(disk, Some(Format::Two))?;
-        let new = Opened { disk, lock };
-        match open_beside(self.files, self.file)? {
-            Readable::Locked(old) => self.upgrade_locked::<R, W>(old, new, writer),
-            Readable::Beside(file) => self.upgrade_shared::<R, W>(file, new, writer),
+        let (own, records) = self.read_file::<R>()?;
+        if own == Format::Two {
+            return Err(Complaint::Fault(FileFault::Upgrade(UpgradeFault::NotOld)));
         }
+        let new = self.make_new::<R>(new, own, records, Some(Format::Two), None)?;
+        Ok(status_of_answer(write_upgraded(writer, new.size)))
     }
 }

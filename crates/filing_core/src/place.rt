@@ -1,26 +1,54 @@
-//! Where a new file may be made, and what a copy that was refused leaves there.
+//! What stands in a file, where a new one may be made, and what a copy that was refused leaves there.
 
 ghost use Rattle.std.specs.Prelude.{false, Some, IfOk, IfErr};
 ghost use Rattle.filing_core.specs.Complaints.{IsJustOpened};
 ghost use Rattle.filing_core.specs.Commands.{IsNewTaken, IsPlaceTaken, IsOccupied, MayBeMadeOn};
 
-use beside_core::LookFault;
-use disk_core::FileDisk;
-use files_core::{Ended, FileFault, is_vacant};
+use crate::access::{known_of, open_to_read};
+use crate::noting::NotedDisk;
+use files_core::{FileFault, is_vacant};
 use pen_core::PenFault;
-use segment_core::Format;
+use segment_core::{Format, empty_file};
+use sentences::Standing;
 use std::fs::File;
+use std::os::unix::fs::FileExt;
+use std::rt::Files;
 use text_core::TextRecord;
 use vault_core::{UpgradeFault, VaultFault};
 
+/// The bytes in front of a file's version: the gate, and what tells that it is a segment file.
+const FRONT_LEN: usize = 8;
+
+/// What stands in the file at this path, by its first bytes.
+pub fn standing_in<F: Files<File = File>>(files: &F, path: &str) -> Standing {
+    let Ok(file) = open_to_read(files, path) else {
+        return Standing::Bytes;
+    };
+    let mut front = [0; FRONT_LEN];
+    match known_of(&file) {
+        Ok(known) if known.len() == 0 => Standing::Nothing,
+        Ok(_) if file.read_exact_at(&mut front, 0).is_ok() => {
+            if empty_file(Format::One, 1).starts_with(&front) {
+                Standing::Vector
+            } else {
+                Standing::Bytes
+            }
+        }
+        _ => Standing::Bytes,
+    }
+}
+
 /// The disk, where nothing stands on it but what a stopped creation of such a file leaves, or where no version is said of one
 /// of either.
-fn vacant<R: TextRecord>(disk: FileDisk, format: Option<Format>) -> Result<FileDisk, PenFault>
-    ensures vacant { IfOk result (MayBeMadeOn R.form format false disk) }
-    ensures taken { IsJustOpened disk → IfErr result (IsOccupied R.form format) }
+fn vacant<'a, R: TextRecord>(
+    disk: NotedDisk<'a>,
+    format: Option<Format>,
+) -> Result<NotedDisk<'a>, PenFault>
+    ensures vacant { IfOk result (MayBeMadeOn R.form format false disk.entry) }
+    ensures taken { IsJustOpened disk.entry → IfErr result (IsOccupied R.form format) }
 {
     let mut disk = disk;
-    match is_vacant::<R, FileDisk>(&mut disk, format) {
+    match is_vacant::<R, NotedDisk<'_>>(&mut disk, format) {
         Ok(true) => Ok(disk),
         Ok(false) => Err(PenFault::Exists),
         Err(fault) => Err(PenFault::Disk(fault)),
@@ -28,9 +56,12 @@ fn vacant<R: TextRecord>(disk: FileDisk, format: Option<Format>) -> Result<FileD
 }
 
 /// The disk, where `create` may make such a file on it: nothing else stands there.
-pub fn takeable<R: TextRecord>(disk: FileDisk, format: Format) -> Result<FileDisk, FileFault>
-    ensures vacant { IfOk result (MayBeMadeOn R.form (Some format) false disk) }
-    ensures taken { IsJustOpened disk → IfErr result (IsPlaceTaken R.form format false) }
+pub fn takeable<'a, R: TextRecord>(
+    disk: NotedDisk<'a>,
+    format: Format,
+) -> Result<NotedDisk<'a>, FileFault>
+    ensures vacant { IfOk result (MayBeMadeOn R.form (Some format) false disk.entry) }
+    ensures taken { IsJustOpened disk.entry → IfErr result (IsPlaceTaken R.form format false) }
 {
     match vacant::<R>(disk, Some(format)) {
         Ok(disk) => Ok(disk),
@@ -39,12 +70,12 @@ pub fn takeable<R: TextRecord>(disk: FileDisk, format: Format) -> Result<FileDis
 }
 
 /// The disk, where a new file of this version, or where none is said of either, may be made on it.
-pub fn new_place<R: TextRecord>(
-    disk: FileDisk,
+pub fn new_place<'a, R: TextRecord>(
+    disk: NotedDisk<'a>,
     format: Option<Format>,
-) -> Result<FileDisk, FileFault>
-    ensures vacant { IfOk result (MayBeMadeOn R.form format false disk) }
-    ensures taken { IsJustOpened disk → IfErr result (IsNewTaken R.form format) }
+) -> Result<NotedDisk<'a>, FileFault>
+    ensures vacant { IfOk result (MayBeMadeOn R.form format false disk.entry) }
+    ensures taken { IsJustOpened disk.entry → IfErr result (IsNewTaken R.form format) }
 {
     match vacant::<R>(disk, format) {
         Ok(disk) => Ok(disk),
@@ -54,20 +85,8 @@ pub fn new_place<R: TextRecord>(
 
 /// Takes away what a copy that was refused has written of its new file: that would look like a vector. A vector of so many bytes
 /// that stood there before is left. Where the system doesn't take it away, it stays, and the next one refuses to write over it.
-pub fn take_back(file: &File, before: u64, ended: Ended) {
-    match ended {
-        Ended::Refused(FileFault::Upgrade(UpgradeFault::New(VaultFault::Pen(PenFault::Exists)))) =>
-            {}
-        Ended::Refused(FileFault::Upgrade(UpgradeFault::New(_))) => {
-            let _ = file.set_len(before);
-        }
-        _ => {}
-    }
-}
-
-/// The same of a copy whose old file was read beside its writer: where that was refused nothing is written.
-pub fn take_back_read(file: &File, before: u64, ended: Result<Ended, LookFault>) {
-    if let Ok(ended) = ended {
-        take_back(file, before, ended);
+pub fn take_back(file: &File, before: u64, fault: PenFault) {
+    if !matches!(fault, PenFault::Exists) {
+        let _ = file.set_len(before);
     }
 }

@@ -13,10 +13,11 @@ use crate::access::{Opened, Readable, open_beside};
 use crate::beside::status_of_look;
 use crate::ending::status_on;
 use crate::filing::Filing;
+use crate::noting::NotedDisk;
 use crate::releasing::{ReadLock, ReleasingWriter};
 use crate::searching::{Sought, search, search_beside};
 use crate::setting::bytes_of_word;
-use disk_core::{FileDisk, SharedFile};
+use disk_core::SharedFile;
 use files_core::{
     FileFault, OpensToWrite, Progress, Watched, Window, check, list, read_record, read_window,
 };
@@ -40,15 +41,15 @@ pub fn window_of(from: Option<&str>, count: Option<&str>) -> Result<Window, File
 impl<'a, F: Files<File = File> + Clock + AllocGlobal, P: Progress + Sync> Filing<'a, F, P> {
     fn check_locked<R: TextRecord + OpensToWrite, W: Write>(
         &self,
-        opened: Opened,
+        opened: Opened<'_>,
         writer: &mut W,
     ) -> Result<Status, Complaint>
-        ensures { IsJustOpened opened.disk → IsEngineDone result (IsComplaintOf R.form) (Reads R.form (W.contents writer.old) (W.contents writer.new) result (IsChecked R.form)) }
+        ensures { IsJustOpened opened.entry.disk → IsEngineDone result (IsComplaintOf R.form) (Reads R.form (W.contents writer.old) (W.contents writer.new) result (IsChecked R.form)) }
     {
         let Opened { disk, lock } = opened;
         let disk = self.watched(disk);
-        let mut writer = ReleasingWriter::new(writer, ReadLock::of(lock));
-        let (disk, ended) = check::<R, Watched<'_, FileDisk, P>, ReleasingWriter<'_, W>>(
+        let mut writer = ReleasingWriter::new(writer, ReadLock::of(lock.file));
+        let (disk, ended) = check::<R, Watched<'_, NotedDisk<'_>, P>, ReleasingWriter<'_, W>>(
             self.alloc,
             disk,
             &mut writer,
@@ -73,7 +74,7 @@ impl<'a, F: Files<File = File> + Clock + AllocGlobal, P: Progress + Sync> Filing
     ) -> Result<Status, Complaint>
         ensures { IsCheckRun R.form (W.contents writer.old) (W.contents writer.new) result }
     {
-        match open_beside(self.files, self.file)? {
+        match open_beside(self.files, self.note, self.file)? {
             Readable::Locked(opened) => self.check_locked::<R, W>(opened, writer),
             Readable::Beside(file) => self.check_shared::<R, W>(file, writer),
         }
@@ -81,15 +82,15 @@ impl<'a, F: Files<File = File> + Clock + AllocGlobal, P: Progress + Sync> Filing
 
     fn list_locked<R: TextRecord + OpensToWrite, W: Write>(
         &self,
-        opened: Opened,
+        opened: Opened<'_>,
         window: &Window,
         writer: &mut W,
     ) -> Result<Status, Complaint>
-        ensures { IsJustOpened opened.disk → IsEngineDone result (IsComplaintOf R.form) (Reads R.form (W.contents writer.old) (W.contents writer.new) result (IsWindowListed R.form R.spelling.text_of window.now)) }
+        ensures { IsJustOpened opened.entry.disk → IsEngineDone result (IsComplaintOf R.form) (Reads R.form (W.contents writer.old) (W.contents writer.new) result (IsWindowListed R.form R.spelling.text_of window.now)) }
     {
         let Opened { disk, lock } = opened;
-        let mut writer = ReleasingWriter::new(writer, ReadLock::of(lock));
-        let (disk, ended) = list::<R, Watched<'_, FileDisk, P>, ReleasingWriter<'_, W>, P>(
+        let mut writer = ReleasingWriter::new(writer, ReadLock::of(lock.file));
+        let (disk, ended) = list::<R, Watched<'_, NotedDisk<'_>, P>, ReleasingWriter<'_, W>, P>(
             self.alloc,
             self.watched(disk),
             window,
@@ -126,7 +127,7 @@ impl<'a, F: Files<File = File> + Clock + AllocGlobal, P: Progress + Sync> Filing
         ensures { IsListRun R.form (W.contents writer.old) (W.contents writer.new) result R.spelling (option_copied from.entry) (option_copied count.entry) }
     {
         let window = window_of(from, count)?;
-        let readable = open_beside(self.files, self.file)?;
+        let readable = open_beside(self.files, self.note, self.file)?;
         match readable {
             Readable::Locked(opened) => self.list_locked::<R, W>(opened, &window, writer),
             Readable::Beside(file) => self.list_shared::<R, W>(file, &window, writer),
@@ -136,17 +137,17 @@ impl<'a, F: Files<File = File> + Clock + AllocGlobal, P: Progress + Sync> Filing
     fn search_locked<R: TextRecord + OpensToWrite, W: Write, E: Threads + Sync>(
         &self,
         rt: &E,
-        opened: Opened,
+        opened: Opened<'_>,
         sought: Sought,
         wanted: R,
         writer: &mut W,
     ) -> Result<Status, Complaint>
-        ensures { IsJustOpened opened.disk → IsEngineDone result (IsComplaintOf R.form) (Reads R.form (W.contents writer.old) (W.contents writer.new) result (TellsSought R.form sought wanted)) }
+        ensures { IsJustOpened opened.entry.disk → IsEngineDone result (IsComplaintOf R.form) (Reads R.form (W.contents writer.old) (W.contents writer.new) result (TellsSought R.form sought wanted)) }
     {
         let Opened { disk, lock } = opened;
         let disk = self.watched(disk);
-        let mut writer = ReleasingWriter::new(writer, ReadLock::of(lock));
-        let (disk, ended) = search::<R, Watched<'_, FileDisk, P>, ReleasingWriter<'_, W>, E>(
+        let mut writer = ReleasingWriter::new(writer, ReadLock::of(lock.file));
+        let (disk, ended) = search::<R, Watched<'_, NotedDisk<'_>, P>, ReleasingWriter<'_, W>, E>(
             rt,
             self.alloc,
             sought,
@@ -183,7 +184,7 @@ impl<'a, F: Files<File = File> + Clock + AllocGlobal, P: Progress + Sync> Filing
         ensures { IsSearchRun R.form (W.contents writer.old) (W.contents writer.new) result R.spelling sought «record».now }
     {
         let wanted = read_record::<R>(record.as_bytes())?;
-        let readable = open_beside(self.files, self.file)?;
+        let readable = open_beside(self.files, self.note, self.file)?;
         match readable {
             Readable::Locked(opened) => {
                 self.search_locked::<R, W, E>(rt, opened, sought, wanted, writer)

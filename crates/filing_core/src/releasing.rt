@@ -2,7 +2,6 @@
 
 ghost use Rattle.std.specs.Prelude.{◌≡◌};
 
-use disk_core::{Disk, DiskFault};
 use std::fs::File;
 use std::io::{self, Write};
 
@@ -61,57 +60,5 @@ impl<W: Write> Write for ReleasingWriter<'_, W> {
     fn write_all(&mut self, buf: &[u8]) -> io::Result<()> {
         self.lock.let_go();
         self.inner.write_all(buf)
-    }
-}
-
-/// A disk over another, which lets the lock of a file go at its first call: what is written to it has been read from that file.
-/// All that is said of it is said of the disk below.
-#[derive(Drop)]
-pub struct ReleasingDisk<D> {
-    inner: D,
-    lock: ReadLock,
-}
-
-impl<D> ReleasingDisk<D> {
-    ghost use Rattle.filing_core.specs.Releasing.{under};
-
-    pub fn new(disk: D, lock: ReadLock) -> ReleasingDisk<D>
-        ensures { under result ≡ disk }
-    {
-        ReleasingDisk { inner: disk, lock }
-    }
-}
-
-impl<D: Disk> Disk for ReleasingDisk<D> {
-    ghost use Rattle.filing_core.specs.Releasing.{under};
-
-    ghost states = { λ disk. D.states (under disk) };
-
-    ghost faults = { λ disk. D.faults (under disk) };
-
-    ghost keeps = { λ disk. D.keeps (under disk) };
-
-    ghost reads_an_image = { λ disk model. D.reads_an_image (under disk) model };
-
-    ghost reads_bytes = { λ disk model. D.reads_bytes (under disk) model };
-
-    fn len(&mut self) -> Result<u64, DiskFault> {
-        self.lock.let_go();
-        self.inner.len()
-    }
-
-    fn read_at(&mut self, at: u64, out: &mut [u8]) -> Result<(), DiskFault> {
-        self.lock.let_go();
-        self.inner.read_at(at, out)
-    }
-
-    fn write_at(&mut self, at: u64, bytes: &[u8]) -> Result<(), DiskFault> {
-        self.lock.let_go();
-        self.inner.write_at(at, bytes)
-    }
-
-    fn sync(&mut self) -> Result<(), DiskFault> {
-        self.lock.let_go();
-        self.inner.sync()
     }
 }

@@ -3,7 +3,8 @@
 ghost use Rattle.std.specs.Prelude.{IfSome};
 ghost use Rattle.filing_core.specs.Complaints.{IsJustOpened};
 
-use crate::access::{OWNERS, Opened, known_of, under_lock};
+use crate::access::{LockedFile, OWNERS, Opened, known_of, under_lock};
+use crate::noting::RefusalNote;
 use sentences::Role;
 use std::fs::{self, File, Metadata, OpenOptions, Permissions};
 use std::io::{self, ErrorKind};
@@ -84,19 +85,20 @@ fn resemble(new: &File, old: &Metadata) -> io::Result<()> {
 
 /// A new file that stands beside another, to take its place once it is a vector.
 #[derive(Drop)]
-pub struct Replacement {
-    pub opened: Opened,
+pub struct Replacement<'a> {
+    pub opened: Opened<'a>,
     pub names: Names,
 }
 
-impl Replacement {
+impl<'a> Replacement<'a> {
     /// A new file, locked, for the place of the one at this path, which is locked too. `None`: no other file can be the same in
     /// all but its bytes.
     pub fn of<F: Files<File = File> + AllocGlobal>(
         files: &F,
+        note: &'a RefusalNote,
         path: &str,
         old: &File,
-    ) -> Option<Replacement>
+    ) -> Option<Replacement<'a>>
         ensures { IfSome result (λ new. IsJustOpened new.opened.disk) }
     {
         let old = known_of(old).ok()?;
@@ -106,7 +108,11 @@ impl Replacement {
         let names = Names::beside(files, path, &old).ok()?;
         let new = names.make(files).ok()?;
         if resemble(&new, &old).is_ok() {
-            if let Ok(opened) = under_lock(new, Role::File) {
+            let lock = LockedFile {
+                file: new,
+                is_new: true,
+            };
+            if let Ok(opened) = under_lock(lock, note, Role::File) {
                 return Some(Replacement { opened, names });
             }
         }

@@ -7,8 +7,9 @@ ghost use Rattle.filing_core.specs.Complaints.{IsJustOpened, IsStatStatus, stat_
 
 use crate::access::{Opened, Readable, open_beside};
 use crate::beside::status_of_look;
+use crate::noting::{NotedDisk, RefusalNote};
 use crate::releasing::{ReadLock, ReleasingWriter};
-use disk_core::{FileDisk, SharedFile};
+use disk_core::SharedFile;
 use files_core::{FileFault, Progress, Watched};
 use follow_core::stat_beside;
 use pen_core::OpenFault;
@@ -49,17 +50,17 @@ fn status_of(ended: StatEnded) -> Result<Status, Complaint>
 
 /// Writes what the file has that is locked.
 fn stat_locked<W: Write, P: Progress>(
-    opened: Opened,
+    opened: Opened<'_>,
     progress: &P,
     form: Form,
     writer: &mut W,
 ) -> Result<Status, Complaint>
-    ensures { IsJustOpened opened.disk → HasToldStat form (W.contents writer.old) (W.contents writer.new) result }
+    ensures { IsJustOpened opened.entry.disk → HasToldStat form (W.contents writer.old) (W.contents writer.new) result }
 {
     let Opened { disk, lock } = opened;
     let disk = Watched::new(disk, progress);
-    let mut writer = ReleasingWriter::new(writer, ReadLock::of(lock));
-    let (_disk, ended) = stat::<Watched<'_, FileDisk, P>, ReleasingWriter<'_, W>>(
+    let mut writer = ReleasingWriter::new(writer, ReadLock::of(lock.file));
+    let (_disk, ended) = stat::<Watched<'_, NotedDisk<'_>, P>, ReleasingWriter<'_, W>>(
         disk,
         form,
         &mut writer,
@@ -85,12 +86,13 @@ fn stat_shared<W: Write>(
 pub fn tell_stat<W: Write, F: Files<File = File> + Clock + AllocGlobal, P: Progress>(
     files: &F,
     progress: &P,
+    note: &RefusalNote,
     words: &StatWords<'_>,
     writer: &mut W,
 ) -> Result<Status, Complaint>
     ensures { IsStatRun words.now.form (W.contents writer.old) (W.contents writer.new) result }
 {
-    match open_beside(files, words.file)? {
+    match open_beside(files, note, words.file)? {
         Readable::Locked(opened) => stat_locked(opened, progress, words.form, writer),
         Readable::Beside(file) => stat_shared(files.alloc(), file, words.form, writer),
     }

@@ -1,20 +1,11 @@
 //! What is wrong with the bytes of a file, or with the disk that they are on, and what to do next.
 
-use disk_core::DiskFault;
+use crate::calls::{RefusedCall, write_call};
+use crate::standing::Standing;
 use pen_core::OpenFault;
 use segment_core::ScanFault;
 use std::fmt::{self, Formatter};
 use words_core::RecordType;
-
-/// What to do about a fault of the disk.
-pub fn about_disk(fault: DiskFault) -> &'static str {
-    match fault {
-        DiskFault::Length => "the system didn't tell the file's length",
-        DiskFault::Read => "the system didn't read it",
-        DiskFault::Write => "the system didn't write it: the device may be full",
-        DiskFault::Sync => "the system didn't put it on the device",
-    }
-}
 
 /// What is wrong with the width of a file's records, by the type that was given, if one was.
 fn write_width<W: fmt::Write>(
@@ -35,20 +26,23 @@ fn write_width<W: fmt::Write>(
     )
 }
 
-/// What to do about a file in which no vector was made, by the type that was given, if one was.
+/// What to do about a file in which no vector was made, by the type that was given, if one was. No other is made over bytes that
+/// may be somebody's.
 fn write_unborn<W: fmt::Write>(
     f: &mut Formatter<W>,
     name: &str,
     record_type: Option<RecordType>,
+    stands: Standing,
 ) -> fmt::Result {
-    let Some(record_type) = record_type else {
-        return f.write_str("no vector was made in this file; `cvec create` makes one");
-    };
-    let of_type = record_type.word();
-    write!(
-        f,
-        "no vector was made in this file; `cvec create {of_type} {name}` makes one"
-    )
+    f.write_str("no vector was made in this file")?;
+    match (stands, record_type) {
+        (Standing::Nothing, Some(record_type)) => {
+            let of_type = record_type.word();
+            write!(f, "; `cvec create {of_type} {name}` makes one")
+        }
+        (Standing::Nothing, None) => f.write_str("; `cvec create` makes one"),
+        _ => f.write_str(", which has other bytes; it is as it was"),
+    }
 }
 
 /// What is wrong with the bytes of a file, where no number tells of it.
@@ -65,9 +59,10 @@ fn write_wrong_bytes<W: fmt::Write>(
     name: &str,
     record_type: Option<RecordType>,
     fault: ScanFault,
+    stands: Standing,
 ) -> fmt::Result {
     match fault {
-        ScanFault::Unborn => write_unborn(f, name, record_type),
+        ScanFault::Unborn => write_unborn(f, name, record_type, stands),
         ScanFault::Version(version) => write!(
             f,
             "it has version {version}, and this program reads 1 and 2; it is as it was"
@@ -87,9 +82,10 @@ fn write_scan<W: fmt::Write>(
     name: &str,
     record_type: Option<RecordType>,
     fault: ScanFault,
+    stands: Standing,
 ) -> fmt::Result {
     write!(f, "{name}: ")?;
-    write_wrong_bytes(f, name, record_type, fault)
+    write_wrong_bytes(f, name, record_type, fault, stands)
 }
 
 pub fn write_open<W: fmt::Write>(
@@ -97,12 +93,15 @@ pub fn write_open<W: fmt::Write>(
     name: &str,
     record_type: Option<RecordType>,
     fault: OpenFault,
+    stands: Standing,
+    refused: Option<RefusedCall>,
 ) -> fmt::Result {
     match fault {
-        OpenFault::Scan(fault) => write_scan(f, name, record_type, fault),
-        OpenFault::Disk(fault) => {
-            let about = about_disk(fault);
-            write!(f, "{name}: {about}; nothing was written")
+        OpenFault::Scan(fault) => write_scan(f, name, record_type, fault, stands),
+        OpenFault::Disk(call) => {
+            write!(f, "{name}: ")?;
+            write_call(f, call, refused)?;
+            f.write_str("; nothing was written")
         }
     }
 }

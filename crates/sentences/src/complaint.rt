@@ -4,12 +4,17 @@ ghost use Rattle.std.specs.Prelude.{◌≡◌};
 
 use crate::beside::{BesideFault, write_beside};
 use crate::bytes::write_open;
+use crate::calls::{RefusedCall, call_behind, mending};
 use crate::input::{write_input, write_word};
-use crate::role::{Role, name_of, only_reads, write_in_use, write_not_opened};
-use crate::vault::{about_new, write_commit_fault, write_resize_fault, write_stopped, write_vault};
+use crate::role::{Purpose, Role, name_of, purpose_of, write_in_use, write_not_opened};
+use crate::standing::Standing;
+use crate::vault::{
+    write_commit_fault, write_create_fault, write_new, write_resize_fault, write_stopped,
+    write_vault,
+};
 use files_core::{Appended, FileFault};
 use lines_core::Excerpt;
-use pen_core::PenFault;
+use pen_core::{OpenFault, PenFault};
 use std::fmt::{self, Display, Formatter};
 use std::io;
 use vault_core::{UpgradeFault, VaultFault};
@@ -51,21 +56,49 @@ pub struct Sentence<'a> {
     pub complaint: Complaint,
     /// Of the line that is refused, where it is for its form.
     pub shown: Option<Excerpt>,
+    /// In the command's file.
+    pub stands: Standing,
+    /// The call of its files that the system refused, if that was known.
+    pub refused: Option<RefusedCall>,
+}
+
+/// What is wrong with the bytes of the command's file, or why the system didn't read it.
+fn write_open_of<W: fmt::Write>(
+    f: &mut Formatter<W>,
+    words: &FileWords<'_>,
+    fault: OpenFault,
+    sentence: &Sentence<'_>,
+) -> fmt::Result {
+    let Sentence {
+        stands,
+        refused,
+        ..
+    } = *sentence;
+    write_open(
+        f,
+        words.file,
+        Some(words.record_type),
+        fault,
+        stands,
+        refused,
+    )
 }
 
 fn write_upgrade<W: fmt::Write>(
     f: &mut Formatter<W>,
     words: &FileWords<'_>,
     fault: UpgradeFault,
+    sentence: &Sentence<'_>,
 ) -> fmt::Result {
     let name = words.file;
     let new = name_of(words, Role::New);
     match fault {
-        UpgradeFault::Old(fault) => write_open(f, name, Some(words.record_type), fault),
+        UpgradeFault::Old(fault) => { write_open_of(f, words, fault, sentence) }
         UpgradeFault::NotOld => write!(f, "{name}: it has version 2 already; nothing was written"),
         UpgradeFault::New(fault) => {
-            let about = about_new(fault);
-            write!(f, "{new}: {about}; {name} is as it was")
+            write!(f, "{new}: ")?;
+            write_new(f, fault, sentence.refused)?;
+            write!(f, "; {name} is as it was")
         }
     }
 }
@@ -74,23 +107,24 @@ fn write_fault<W: fmt::Write>(
     f: &mut Formatter<W>,
     words: &FileWords<'_>,
     fault: FileFault,
-    shown: Option<&Excerpt>,
+    sentence: &Sentence<'_>,
 ) -> fmt::Result {
     match fault {
         FileFault::Word(word) => write_word(f, words, word),
-        FileFault::Input(refusal) => write_input(f, words, refusal, shown),
-        FileFault::Open(fault) => write_open(f, words.file, Some(words.record_type), fault),
+        FileFault::Input(refusal) => write_input(f, words, refusal, sentence.shown.as_ref()),
+        FileFault::Open(fault) => write_open_of(f, words, fault, sentence),
         FileFault::Vault(fault) => match words.task {
             FileTask::Load(_) | FileTask::Append { .. } | FileTask::Serve(_) => {
-                write_commit_fault(f, words.file, fault)
+                write_commit_fault(f, words.file, fault, sentence.refused)
             }
             FileTask::Resize { in_parts, .. } => {
-                write_resize_fault(f, words.file, fault, in_parts)
+                write_resize_fault(f, words.file, fault, in_parts, sentence.refused)
             }
-            _ => write_vault(f, words.file, fault),
+            FileTask::Create { .. } => { write_create_fault(f, words.file, fault, sentence) }
+            _ => write_vault(f, words.file, fault, sentence.refused),
         },
         FileFault::Grower(stopped) => write_stopped(f, words.file, stopped),
-        FileFault::Upgrade(fault) => write_upgrade(f, words, fault),
+        FileFault::Upgrade(fault) => write_upgrade(f, words, fault, sentence),
     }
 }
 
@@ -98,19 +132,18 @@ fn write_fault<W: fmt::Write>(
 fn write_wrong<W: fmt::Write>(
     f: &mut Formatter<W>,
     words: &FileWords<'_>,
-    complaint: &Complaint,
-    shown: Option<&Excerpt>,
+    sentence: &Sentence<'_>,
 ) -> fmt::Result {
-    match complaint {
+    match &sentence.complaint {
         Complaint::NotOpened(role, error) => {
-            let only_reads = only_reads(words.task, *role);
-            write_not_opened(f, name_of(words, *role), *role, error, only_reads)
+            let purpose = purpose_of(words.task, *role);
+            write_not_opened(f, name_of(words, *role), *role, error, purpose)
         }
         Complaint::InUse(role) => write_in_use(f, name_of(words, *role), words.wait),
         Complaint::Fault(fault)
         | Complaint::Damaged(_, fault)
         | Complaint::Appended(_, fault)
-        | Complaint::Served(_, fault) => write_fault(f, words, *fault, shown),
+        | Complaint::Served(_, fault) => write_fault(f, words, *fault, sentence),
         Complaint::Beside(fault) => write_beside(f, words, *fault),
     }
 }
@@ -118,41 +151,65 @@ fn write_wrong<W: fmt::Write>(
 /// What may stand behind the lines of the input that stand as growths.
 fn about_behind(task: FileTask<'_>, fault: FileFault) -> &'static str {
     match fault {
-        FileFault::Vault(_) if matches!(task, FileTask::Load(_)) => {
-            ", and maybe some behind them: `cvec check` tells how many records there are"
-        }
-        FileFault::Vault(VaultFault::Pen(PenFault::Disk(_))) => ", and maybe some behind them",
+        FileFault::Vault(fault)
+            if matches!(task, FileTask::Load(_))
+                || matches!(fault, VaultFault::Pen(PenFault::Disk(_))) =>
+            ", and maybe some behind them: `cvec check` tells how many records there are",
         _ => "",
     }
 }
 
-/// How many lines of the input stand as growths. Where a grower of `load` stopped, that tells what stands.
+/// What is to be done behind a call that the system refused, and what then.
+fn write_next<W: fmt::Write>(
+    f: &mut Formatter<W>,
+    fault: FileFault,
+    refused: Option<RefusedCall>,
+    next: &str,
+) -> fmt::Result {
+    let FileFault::Vault(fault) = fault else {
+        return Ok(());
+    };
+    match call_behind(fault, refused) {
+        Some(call) => {
+            let mending = mending(call, refused);
+            write!(f, "; {mending}, {next}")
+        }
+        None => Ok(()),
+    }
+}
+
+/// How many lines of the input stand as growths, and how it goes on. Where a grower of `load` stopped, that tells what stands.
 fn write_lines<W: fmt::Write>(
     f: &mut Formatter<W>,
     task: FileTask<'_>,
     lines: u64,
     fault: FileFault,
+    refused: Option<RefusedCall>,
 ) -> fmt::Result {
     if matches!(task, FileTask::Load(_)) && matches!(fault, FileFault::Grower(_)) {
         return Ok(());
     }
     let behind = about_behind(task, fault);
-    write!(f, "; the growths of the first {lines} lines stand{behind}")
+    write!(f, "; the growths of the first {lines} lines stand{behind}")?;
+    let next = "and the same command goes on with the lines behind those that stand";
+    write_next(f, fault, refused, next)
 }
 
 /// What is sound or stands, behind what is wrong, where a complaint tells of that.
 fn write_standing<W: fmt::Write>(
     f: &mut Formatter<W>,
     words: &FileWords<'_>,
-    complaint: &Complaint,
+    sentence: &Sentence<'_>,
 ) -> fmt::Result {
-    match complaint {
+    match &sentence.complaint {
         Complaint::Damaged(sound, _) => write!(f, "; the {sound} records before that are sound"),
-        Complaint::Appended(appended, fault) => write_lines(f, words.task, appended.lines, *fault),
-        Complaint::Served(growths, _) => write!(
-            f,
-            "; the first {growths} growths of its clients stand"
-        ),
+        Complaint::Appended(appended, fault) => {
+            write_lines(f, words.task, appended.lines, *fault, sentence.refused)
+        }
+        Complaint::Served(growths, fault) => {
+            write!(f, "; the first {growths} growths of its clients stand")?;
+            write_next(f, *fault, sentence.refused, "then start it again")
+        }
         _ => Ok(()),
     }
 }
@@ -160,20 +217,25 @@ fn write_standing<W: fmt::Write>(
 fn write_of_file<W: fmt::Write>(
     f: &mut Formatter<W>,
     words: &FileWords<'_>,
-    complaint: &Complaint,
-    shown: Option<&Excerpt>,
+    sentence: &Sentence<'_>,
 ) -> fmt::Result {
-    write_wrong(f, words, complaint, shown)?;
-    write_standing(f, words, complaint)
+    write_wrong(f, words, sentence)?;
+    write_standing(f, words, sentence)
 }
 
 fn write_stat_fault<W: fmt::Write>(
     f: &mut Formatter<W>,
     name: &str,
     fault: FileFault,
+    sentence: &Sentence<'_>,
 ) -> fmt::Result {
+    let Sentence {
+        stands,
+        refused,
+        ..
+    } = *sentence;
     match fault {
-        FileFault::Open(fault) => write_open(f, name, None, fault),
+        FileFault::Open(fault) => write_open(f, name, None, fault, stands, refused),
         _ => write!(f, "{name}: it is refused; it is as it was"),
     }
 }
@@ -181,16 +243,18 @@ fn write_stat_fault<W: fmt::Write>(
 fn write_of_stat<W: fmt::Write>(
     f: &mut Formatter<W>,
     words: &StatWords<'_>,
-    complaint: &Complaint,
+    sentence: &Sentence<'_>,
 ) -> fmt::Result {
     let name = words.file;
-    match complaint {
-        Complaint::NotOpened(role, error) => write_not_opened(f, name, *role, error, true),
+    match &sentence.complaint {
+        Complaint::NotOpened(role, error) => {
+            write_not_opened(f, name, *role, error, Purpose::Reads)
+        }
         Complaint::InUse(_) => write_in_use(f, name, words.wait),
         Complaint::Fault(fault) | Complaint::Appended(_, fault) | Complaint::Served(_, fault) =>
-            write_stat_fault(f, name, *fault),
+            write_stat_fault(f, name, *fault, sentence),
         Complaint::Damaged(before, fault) => {
-            write_stat_fault(f, name, *fault)?;
+            write_stat_fault(f, name, *fault, sentence)?;
             write!(f, "; the frames before that leave {before} records")
         }
         // `stat` doesn't read beside a writer.
@@ -201,10 +265,8 @@ fn write_of_stat<W: fmt::Write>(
 impl<'a> Display for Sentence<'a> {
     fn fmt<W: fmt::Write>(&self, f: &mut Formatter<W>) -> fmt::Result {
         match &self.request {
-            Request::File(words) => {
-                write_of_file(f, words, &self.complaint, self.shown.as_ref())
-            }
-            Request::Stat(words) => write_of_stat(f, words, &self.complaint),
+            Request::File(words) => write_of_file(f, words, self),
+            Request::Stat(words) => write_of_stat(f, words, self),
             Request::Input(..) | Request::Tell(_) => Ok(()),
         }
     }

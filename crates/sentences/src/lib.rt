@@ -3,12 +3,16 @@
 
 mod beside;
 mod bytes;
+mod calls;
 mod complaint;
 mod input;
 mod role;
 mod shown;
+mod standing;
 mod vault;
 
 pub use beside::BesideFault;
+pub use calls::RefusedCall;
 pub use complaint::{Complaint, Sentence};
 pub use role::Role;
+pub use standing::Standing;

@@ -24,27 +24,44 @@ pub fn name_of<'a>(words: &FileWords<'a>, role: Role) -> &'a str {
     }
 }
 
-/// Whether the command opens this file of its own for reading alone.
-pub fn only_reads(task: FileTask<'_>, role: Role) -> bool {
-    match task {
-        FileTask::Check
-        | FileTask::List { .. }
-        | FileTask::Follow { .. }
-        | FileTask::Count(_)
-        | FileTask::Find(_) => true,
-        FileTask::Upgrade(_) | FileTask::Copy { .. } => matches!(role, Role::File),
-        _ => false,
+/// What a command opens a file for.
+#[derive(Clone, Copy)]
+pub enum Purpose {
+    /// To read it alone.
+    Reads,
+    /// To read and write it.
+    Writes,
+    /// So too, and to make it where there is none.
+    Makes,
+}
+
+/// What the command opens this file of its own for.
+pub fn purpose_of(task: FileTask<'_>, role: Role) -> Purpose {
+    match (task, role) {
+        (FileTask::Create { .. }, _) | (_, Role::New) => Purpose::Makes,
+        (
+            FileTask::Check
+            | FileTask::List { .. }
+            | FileTask::Follow { .. }
+            | FileTask::Count(_)
+            | FileTask::Find(_)
+            | FileTask::Upgrade(_)
+            | FileTask::Copy { .. },
+            _,
+        ) => Purpose::Reads,
+        _ => Purpose::Writes,
     }
 }
 
-/// What to do about a file or a pipe that isn't opened, to be read alone or also written.
-fn about_error(role: Role, error: &io::Error, only_reads: bool) -> &'static str {
+/// What to do about a file or a pipe that isn't opened.
+fn about_error(role: Role, error: &io::Error, purpose: Purpose) -> &'static str {
     match error.kind() {
         ErrorKind::NotFound if matches!(role, Role::Pipe) =>
             "it isn't there: descriptors 3 and 4 are those of the first client, and two more those of each further one",
+        ErrorKind::NotFound if matches!(purpose, Purpose::Makes) => "there is no folder for it",
         ErrorKind::NotFound =>
             "there is no such file, or no folder for it; `cvec create` makes a file",
-        ErrorKind::PermissionDenied if only_reads => "you may not read it",
+        ErrorKind::PermissionDenied if matches!(purpose, Purpose::Reads) => "you may not read it",
         ErrorKind::PermissionDenied => "you may not read and write it, or make it in its folder",
         ErrorKind::IsADirectory => "it is a folder, and not a file",
         ErrorKind::AlreadyExists => "it is FILE itself",
@@ -58,9 +75,9 @@ pub fn write_not_opened<W: fmt::Write>(
     name: &str,
     role: Role,
     error: &io::Error,
-    only_reads: bool,
+    purpose: Purpose,
 ) -> fmt::Result {
-    let about = about_error(role, error, only_reads);
+    let about = about_error(role, error, purpose);
     write!(f, "{name}: {about} ({error}); nothing was read or written")
 }
 

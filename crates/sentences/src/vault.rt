@@ -1,6 +1,8 @@
 //! Why a vault refuses a command, what its file has then, and what to do next.
 
-use crate::bytes::about_disk;
+use crate::calls::{RefusedCall, call_behind, mending, write_call};
+use crate::complaint::Sentence;
+use crate::standing::Standing;
 use disk_core::DiskFault;
 use files_core::Stopped;
 use pen_core::PenFault;
@@ -10,8 +12,6 @@ use vault_core::VaultFault;
 /// What is wrong, what stands, and what to do next, where a vault refuses a command.
 fn about_pen(fault: PenFault) -> &'static str {
     match fault {
-        PenFault::Exists =>
-            "there is something in this file already, a vector or other bytes; it is as it was; name another file, or give --over, which takes it all the same",
         PenFault::Unfolded =>
             "changes are live, and with them it can't become shorter; it is as it was; `cvec fold` first",
         PenFault::OutOfRange =>
@@ -25,7 +25,7 @@ fn about_pen(fault: PenFault) -> &'static str {
         PenFault::Runs => "the runs are empty, overlap or don't ascend; it is as it was",
         PenFault::Broken =>
             "the system didn't write it, or put it on the device, which may be full; restart the system, and it opens to the vector of before, with what was told since",
-        PenFault::Busy | PenFault::Disk(_) =>
+        PenFault::Exists | PenFault::Busy | PenFault::Disk(_) =>
             "it opens to the vector of before this command, or to the one behind it",
     }
 }
@@ -44,16 +44,58 @@ pub fn write_vault<W: fmt::Write>(
     f: &mut Formatter<W>,
     name: &str,
     fault: VaultFault,
+    refused: Option<RefusedCall>,
 ) -> fmt::Result {
-    let VaultFault::Pen(PenFault::Disk(fault)) = fault else {
+    let VaultFault::Pen(PenFault::Disk(call)) = fault else {
         let about = about_vault(fault);
         return write!(f, "{name}: {about}");
     };
-    let about = about_disk(fault);
-    write!(
-        f,
-        "{name}: {about}; it opens to a vector that was settled, or to what this command was making; mend the device, restart the system, then give the command again"
-    )
+    let stands = "it opens to a vector that was settled, or to what this command was making";
+    write_refused(f, name, call, stands, refused)
+}
+
+/// What the system didn't do, what stands, and what to do next.
+fn write_refused<W: fmt::Write>(
+    f: &mut Formatter<W>,
+    name: &str,
+    call: DiskFault,
+    stands: &str,
+    refused: Option<RefusedCall>,
+) -> fmt::Result {
+    let mending = mending(call, refused);
+    write!(f, "{name}: ")?;
+    write_call(f, call, refused)?;
+    write!(f, "; {stands}; {mending}, then give the command again")
+}
+
+/// What to do where something stands in the file of `create`. What is no vector is never to be taken away.
+fn about_existing(stands: Standing) -> &'static str {
+    match stands {
+        Standing::Vector =>
+            "there is a vector in this file already; it is as it was; name another file, or give --over, which takes all its records away",
+        Standing::Nothing | Standing::Bytes =>
+            "there are other bytes in this file already; it is as it was; name another file",
+    }
+}
+
+/// Why no vector is made in a file.
+pub fn write_create_fault<W: fmt::Write>(
+    f: &mut Formatter<W>,
+    name: &str,
+    fault: VaultFault,
+    sentence: &Sentence<'_>,
+) -> fmt::Result {
+    match fault {
+        VaultFault::Pen(PenFault::Exists) => {
+            let about = about_existing(sentence.stands);
+            write!(f, "{name}: {about}")
+        }
+        VaultFault::Pen(PenFault::Disk(call)) => {
+            let stands = "no vector is known to be made";
+            write_refused(f, name, call, stands, sentence.refused)
+        }
+        _ => write_vault(f, name, fault, sentence.refused),
+    }
 }
 
 /// What is wrong, what stands, and what to do next, where a vault doesn't get a length. In parts: some of its new records may
@@ -79,42 +121,38 @@ pub fn write_resize_fault<W: fmt::Write>(
     name: &str,
     fault: VaultFault,
     in_parts: bool,
+    refused: Option<RefusedCall>,
 ) -> fmt::Result {
     match about_resize(fault, in_parts) {
         Some(about) => write!(f, "{name}: {about}"),
-        None => write_vault(f, name, fault),
+        None => write_vault(f, name, fault, refused),
     }
 }
 
-/// Why no more growths were put on the device.
+/// Why no more growths were put on the device, where no call is known that the system refused.
 fn about_commit(fault: VaultFault) -> &'static str {
     match fault {
-        VaultFault::Pen(PenFault::Disk(fault)) => about_disk(fault),
-        VaultFault::Pen(PenFault::Broken) =>
-            "the system didn't write it, or put it on the device, which may be full",
         VaultFault::Pen(PenFault::FileFull) => "it is as long as such a file can become",
         VaultFault::Pen(PenFault::Memory) => "there is not enough memory",
-        _ => "not all growths are known to be on the device",
+        _ =>
+            "not all growths are known to be on the device; restart the system before it is opened again",
     }
 }
 
-/// What to do before the file is opened again, where the device may not have what it took.
-fn before_it_is_opened(fault: VaultFault) -> &'static str {
-    match fault {
-        VaultFault::Pen(PenFault::FileFull | PenFault::Memory) => "",
-        _ => "; restart the system before it is opened again",
-    }
-}
-
-/// Why growths that come one after the other weren't all committed, and what to do next.
+/// Why growths that come one after the other weren't all committed, and what is to be done before the file is opened again. Only
+/// behind a sync the device may not have what it took.
 pub fn write_commit_fault<W: fmt::Write>(
     f: &mut Formatter<W>,
     name: &str,
     fault: VaultFault,
+    refused: Option<RefusedCall>,
 ) -> fmt::Result {
-    let about = about_commit(fault);
-    let next = before_it_is_opened(fault);
-    write!(f, "{name}: {about}{next}; what stood before stands")
+    write!(f, "{name}: ")?;
+    match call_behind(fault, refused) {
+        Some(call) => write_call(f, call, refused)?,
+        None => f.write_str(about_commit(fault))?,
+    }
+    f.write_str("; what stood before stands")
 }
 
 pub fn write_stopped<W: fmt::Write>(
@@ -131,19 +169,31 @@ pub fn write_stopped<W: fmt::Write>(
     )
 }
 
-/// Why the new file of `upgrade` or `copy` isn't the vector of the old one, and what to do next.
-pub fn about_new(fault: VaultFault) -> &'static str {
+/// Why the new file of `upgrade` or `copy` isn't the vector of the old one, and what to do next, where the system refused no call.
+fn about_new(fault: VaultFault) -> &'static str {
     match fault {
         VaultFault::Pen(PenFault::Exists) =>
-            "there is something in this file already, a vector or other bytes; it is as it was; remove it, or name another file",
+            "there is something in this file already, a vector or other bytes; it is as it was; name another new file",
         VaultFault::Pen(PenFault::TooLarge) =>
             "so many records are more than one frame takes; nothing was written to it; give a smaller --block",
-        VaultFault::Pen(PenFault::Memory) =>
-            "there is not enough memory; it may have a part; begin again on another new file",
-        VaultFault::Pen(PenFault::Disk(DiskFault::Length | DiskFault::Read)) =>
-            "the system didn't tell its length, or didn't read it; begin again on another new file",
-        VaultFault::Pen(PenFault::Disk(DiskFault::Write | DiskFault::Sync) | PenFault::Broken) =>
-            "the system didn't write it, or put it on the device, which may be full; it may have a part; begin again on another new file",
-        _ => "it may have a part; begin again on another new file",
+        VaultFault::Pen(PenFault::Memory) => "there is not enough memory; nothing was left there",
+        _ => "it would be longer than such a file can become; nothing was left there",
     }
+}
+
+/// Why the new file of `upgrade` or `copy` isn't the vector of the old one, and what to do next.
+pub fn write_new<W: fmt::Write>(
+    f: &mut Formatter<W>,
+    fault: VaultFault,
+    refused: Option<RefusedCall>,
+) -> fmt::Result {
+    let VaultFault::Pen(PenFault::Disk(call)) = fault else {
+        return f.write_str(about_new(fault));
+    };
+    let mending = mending(call, refused);
+    write_call(f, call, refused)?;
+    write!(
+        f,
+        "; nothing was left there; {mending}, then give the command again"
+    )
 }

@@ -1,7 +1,10 @@
-use Rattle.std.proofs.Common.{refl}
-use Rattle.filing_core.proofs.Filings.{over_file}
+use Rattle.std.proofs.Common.{sym, subst, false, Result}
+use Rattle.text_core.specs.declared.status.Status.{Status}
+use Rattle.sentences.specs.declared.complaint.Complaint.{Complaint}
+use Rattle.filing_core.specs.Commands.{IsCreateRun}
 use Rattle.filing_core.proofs.filing.Filing.create.Goals as goal
 
 pub returns : goal.returns
-returns g c = rw c.if-over.false (over_file _ (g.W.Write.contents c.args.writer.now) (g.W.Write.contents c.create-disk.new.writer) _ c.in_ok-disk.field-0.disk c.in_ok-disk.field-0.disk c.create-disk.result.0 c.create-disk.result.0 c.create-disk.result.1
-    refl c.in_ok-disk.ensures.opened refl (c.in_ok-made.made, c.in_ok-made.ensures.vacant, c.create-disk.ensures.created, c.create-disk.ensures.writes) c.status_on.ensures)
+returns g c = rw c.if-over.false (subst
+    (λ (filed : Result Status Complaint). IsCreateRun g.R.Record.form (g.W.Write.contents c.args.writer.now) (g.W.Write.contents c.create_on-filed.new.writer) filed c.args.format false)
+    (sym c.leave.ensures) (c.create_on-filed.ensures c.in_ok-disk.ensures.opened))
