@@ -1,12 +1,13 @@
 -- A group's frame behind a file, as C writes it: while the gate is shut the file is the one from before, and with the frame
--- there it has the group's records too.
-use Rattle.std.proofs.Common.{◌≡◌, ◌≢◌, ℕ, ◌+◌, ◌*◌, ◌^◌, ◌≤◌, ◌<◌, List, [], ◌∷◌, ◌++◌, length, take, drop, get_or, map, Bool, true, false, None, inl, inr, refl, sym, ap, subst, ◌∙◌, append_assoc, arith}
+-- there it has the group's records too. And what is answered where these come as bytes.
+use Rattle.std.proofs.Common.{◌≡◌, ◌≢◌, ◌⊎◌, ℕ, ◌+◌, ◌*◌, ◌/◌, ◌^◌, ◌≤◌, ◌<◌, List, [], ◌∷◌, ◌++◌, length, take, drop, get_or, map, Bool, true, false, None, MatchOption, inl, inr, refl, sym, ap, subst, ◌∙◌, append_assoc, arith}
 use Rattle.std.specs.Prelude.{◌==◌}
 use Rattle.std.specs.List.{flat_map}
 use Rattle.std.proofs.lemmas.Bool.{cases_lt, ltb-false, leb-false, eqb-false}
 use Rattle.std.proofs.lemmas.List.{append-nil, length-append, take-append-drop, take_at}
+use Rattle.std.proofs.Math.Nat.{mul-div_cancel}
 use Rattle.record_core.specs.Bytes.{Encoding}
-use Rattle.record_core.specs.Cells.{AreReadAgain}
+use Rattle.record_core.specs.Cells.{AreReadAgain, AreRecords}
 use Rattle.record_core.proofs.Cells.{AreRecords_written}
 use Rattle.segment_core.specs.declared.format.Format.{Format}
 use Rattle.segment_core.specs.declared.format.Format.TheVariants.{One, Two}
@@ -22,18 +23,20 @@ use Rattle.segment_core.proofs.Push.{text_push, tally_from_push, Begins_push, Ha
 use Rattle.segment_core.proofs.OneMore.{IsVectorOf_begins, IsVectorOf_group}
 use Rattle.segment_core.proofs.ReadAgain.{is_frame, may_follow}
 use Rattle.segment_core.proofs.Written.{length-group_frame}
+use Rattle.c_core.specs.declared.status.Status.{Status}
+use Rattle.c_core.specs.Records.{AreNone}
+use Rattle.c_core.specs.Status.{code_of}
 use Rattle.cvec_c.specs.declared.stat.CvecStat.{CvecStat}
-use Rattle.cvec_c.specs.declared.status.CallStatus.{CallStatus}
 use Rattle.cvec_c.specs.Stat.{HasStat}
-use Rattle.cvec_c.specs.Append.{first_status, append_lines, IsSameTo, IsShutAt, limit_in, append_len}
+use Rattle.cvec_c.specs.Append.{first_status, append_lines, IsSameTo, IsShutAt, limit_in, append_len, AnswersFor}
 
 -- ---- tests
 
-abbrev AreClear : List (Bool × CallStatus) → Type 0
+abbrev AreClear : List (Bool × Status) → Type 0
 AreClear [] = Unit {0}
 AreClear (line ∷ lines) = (line.0 ≡ false) × AreClear lines
 
-clear_by_none : (lines : List (Bool × CallStatus)) → first_status lines ≡ None → AreClear lines
+clear_by_none : (lines : List (Bool × Status)) → first_status lines ≡ None → AreClear lines
 clear_by_none [] is = tt
 clear_by_none ((true, status) ∷ lines) is = absurd cc
 clear_by_none ((false, status) ∷ lines) is = (refl, clear_by_none lines is)
@@ -221,3 +224,21 @@ module _ {R : Type 0} (form : Encoding R) (old : CvecStat) (image other : List �
           omega arith
           );
     }
+
+-- ---- records that come as bytes
+
+-- of bytes that are records the same is answered as of these
+pub answered : {R : Type 0} (form : Encoding R) (stat : CvecStat) (bytes : List ℕ) (room answer : ℕ) (records : List R)
+    → 0 < form.width → AreRecords form bytes records
+    → first_status (append_lines form.width stat (length bytes / form.width) room) ≡ None
+    → MatchOption (first_status (append_lines form.width stat (length records) room)) ((answer ≡ 0) ⊎ (answer ≡ 6)) (λ status. answer ≡ code_of status)
+    → AnswersFor stat bytes room answer R form
+answered form stat bytes room answer records wide are none so =
+    let count : length bytes / form.width ≡ length records = ap (λ n. n / form.width) are.filled ∙ mul-div_cancel (length records) wide in
+    let there = subst (λ n. MatchOption (first_status (append_lines form.width stat n room)) ((answer ≡ 0) ⊎ (answer ≡ 6)) (λ status. answer ≡ code_of status)) (sym count) so in
+    let either : (answer ≡ 0) ⊎ (answer ≡ 6) = subst (λ s. MatchOption s ((answer ≡ 0) ⊎ (answer ≡ 6)) (λ status. answer ≡ code_of status)) none there in
+    let any : (answer ≡ 0) ⊎ ((answer ≡ 6) ⊎ ((answer ≡ 13) × AreNone form bytes)) = (elim either [
+      | inl done ↦ inl done
+      | inr memory ↦ inr (inl memory)
+    ]) in
+    subst (λ s. MatchOption s ((answer ≡ 0) ⊎ ((answer ≡ 6) ⊎ ((answer ≡ 13) × AreNone form bytes))) (λ status. answer ≡ code_of status)) (sym none) any

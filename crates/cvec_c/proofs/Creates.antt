@@ -45,5 +45,5 @@ module _ {R : Type 0} (format : Format) (form : Encoding R) (bytes : List ℕ) (
         gate_is = refl;
       }
 
-  pub creates : Creates form bytes stat
+  pub creates : Creates bytes stat R form
   creates = record { before = λ other shut. finds_unborn_closed form.width other shut; after = is_empty }

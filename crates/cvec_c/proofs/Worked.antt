@@ -1,9 +1,10 @@
--- Worked images of what C is told: the numbers and the homes of a file, a file that is made or appended to, a frame, copied
+-- Worked images of what C is told: the numbers and the homes of a file, a file that is made or appended to, a frame, the bytes of
 -- records and the numbers of refusals, each with the nearest that it must not be told.
 use Rattle.std.proofs.Common.{◌≡◌, ℕ, zero, suc, ◌+◌, ◌^◌, ◌<◌, inl, inr, List, [], ◌∷◌, ◌++◌, length, drop, Option, Some, None, refl, sym, ap, subst, ◌∙◌, arith, length-append}
 use Rattle.std.specs.Prelude.{slice_get}
 use Rattle.std.specs.Int.{w64, to_le_bytes}
 use Rattle.record_core.specs.Bytes.{Encoding, unsigned}
+use Rattle.record_core.specs.Cells.{AreRecords}
 use Rattle.segment_core.specs.declared.fault.Cause.TheVariants as causes
 use Rattle.segment_core.specs.declared.fault.ScanFault.{ScanFault}
 use Rattle.segment_core.specs.declared.fault.ScanFault.TheVariants as faults
@@ -22,18 +23,22 @@ use Rattle.segment_core.specs.Reading.{BeginsWith}
 use Rattle.segment_core.proofs.Longest.{NoFrame_fault, is_longest}
 use Rattle.segment_core.proofs.Refusals.{longest_closed}
 use Rattle.segment_core.proofs.OneVector.{one_list, sound_header, same_vector}
+use Rattle.c_core.specs.declared.status.Status.{Status}
+use Rattle.c_core.specs.declared.status.Status.TheVariants as statuses
+use Rattle.c_core.specs.Kind.{OfKind}
+use Rattle.c_core.specs.Records.{AreWritten}
+use Rattle.c_core.specs.Status.{code_of, of_scan}
+use Rattle.c_core.proofs.NoRecords.{not_whole}
 use Rattle.cvec_c.specs.declared.frame.CvecFrame.{CvecFrame}
 use Rattle.cvec_c.specs.declared.stat.CvecStat.{CvecStat}
-use Rattle.cvec_c.specs.declared.status.CvecFault.{CvecFault}
-use Rattle.cvec_c.specs.declared.status.CallStatus.{CallStatus}
-use Rattle.cvec_c.specs.declared.status.CallStatus.TheVariants as statuses
-use Rattle.cvec_c.specs.Stat.{HasStat, IsScanToldOf}
-use Rattle.cvec_c.specs.Status.{code_of, status_of, fault_record}
-use Rattle.cvec_c.specs.Append.{first_status, append_lines, AppendsTo}
+use Rattle.cvec_c.specs.declared.fault.CvecFault.{CvecFault}
+use Rattle.cvec_c.specs.Stat.{HasStat, ToldOf}
+use Rattle.cvec_c.specs.Fault.{fault_record}
+use Rattle.cvec_c.specs.Append.{first_status, append_lines, AppendsTo, AppendsBytes, AnswersFor}
 use Rattle.cvec_c.specs.Empty.{empty_lines, Creates}
 use Rattle.cvec_c.specs.Frame.{IsFrameTold, IsNoFrame}
-use Rattle.cvec_c.specs.Homes.{as_homes, HasHomes}
-use Rattle.cvec_c.specs.Reading.{AreCopied}
+use Rattle.cvec_c.specs.Homes.{as_homes, HasHomes, TellsHomes, NeedsRoom}
+use Rattle.cvec_c.specs.Reading.{ReadsBytes}
 use Rattle.cvec_c.proofs.Append.{stays, has_grown}
 use Rattle.cvec_c.proofs.Creates.{creates}
 
@@ -178,6 +183,9 @@ homes_of_c = refl
 
 -- ---- appending
 
+are_five : AreRecords numbers (number 5) (5 ∷ [])
+are_five = record { filled = refl; each = only_first _ refl }
+
 abbrev bytes_of_five : List ℕ
 bytes_of_five = frame_text One (group 5) ++ 0 ∷ []
 
@@ -241,20 +249,20 @@ not_without_its_gate next appends =
 
 -- ---- creating
 
-empty_created : Creates numbers empty_file empty_stat
+empty_created : Creates empty_file empty_stat ℕ numbers
 empty_created = creates One numbers empty_file 1 8 refl refl refl
 
-module _ (bytes : List ℕ) (stat : CvecStat) (made : Creates numbers bytes stat) where
+module _ (bytes : List ℕ) (stat : CvecStat) (made : Creates bytes stat ℕ numbers) where
   no_file_yet : header_fault 8 (0 ∷ 67 ∷ []) ≡ Some faults.Unborn
   no_file_yet = made.before (0 ∷ 67 ∷ []) (λ (opened : 0 ≡ 1). absurd (omega arith))
 
   then_a_file : StandsAt bytes 0 bytes → HasStat numbers bytes [] stat
   then_a_file stands = made.after bytes stands
 
-no_other_numbers : (stat : CvecStat) → Creates numbers empty_file stat → stat ≡ empty_stat
+no_other_numbers : (stat : CvecStat) → Creates empty_file stat ℕ numbers → stat ≡ empty_stat
 no_other_numbers stat made = one_stat numbers narrow empty_file [] [] stat empty_stat (then_a_file empty_file stat made refl) has_nothing
 
-not_of_a_growth : (stat : CvecStat) → Creates numbers (file_of 5) stat → ⊥
+not_of_a_growth : (stat : CvecStat) → Creates (file_of 5) stat ℕ numbers → ⊥
 not_of_a_growth stat made = absurd (let same = one_vector numbers narrow (file_of 5) [] (5 ∷ []) stat one_number (then_a_file (file_of 5) stat made refl) has_five in cc)
 
 -- ---- a frame
@@ -283,24 +291,70 @@ five_told = record {
 not_none : IsNoFrame (file_of 5) 11 1 8 → ⊥
 not_none none = none One refl (group 5) group_begins
 
--- ---- copied records
+-- ---- records as bytes, of the type of a number: 3 is that of u64, 2 that of u32, and 14 that of none
 
-copied : AreCopied {R = ℕ} (1 ∷ 2 ∷ 3 ∷ []) 1 (9 ∷ 9 ∷ 9 ∷ []) (2 ∷ 3 ∷ 9 ∷ []) 2
-copied = record { count_is = refl; copied = refl }
+five_read : OfKind (ReadsBytes (file_of 5) 0 (number 9) (number 5) 1 one_number) 3
+five_read = (5 ∷ [], has_five, record { count_is = refl; written = refl })
 
-not_from_the_first : AreCopied {R = ℕ} (1 ∷ 2 ∷ 3 ∷ []) 1 (9 ∷ 9 ∷ 9 ∷ []) (1 ∷ 2 ∷ 9 ∷ []) 2 → ⊥
-not_from_the_first are = absurd (let same = are.copied in cc)
+no_six_read : OfKind (ReadsBytes (file_of 5) 0 (number 9) (number 6) 1 one_number) 3 → ⊥
+no_six_read reads =
+    let same = one_vector numbers narrow (file_of 5) reads.0 (5 ∷ []) one_number one_number reads.1 has_five in
+    let are = subst (λ (rs : List ℕ). AreWritten numbers rs 0 (number 9) (number 6) 1) same reads.2 in
+    absurd (let written = are.written in cc)
 
-not_the_rest_too : AreCopied {R = ℕ} (1 ∷ 2 ∷ 3 ∷ []) 1 (9 ∷ 9 ∷ 9 ∷ []) (2 ∷ 3 ∷ 0 ∷ []) 2 → ⊥
-not_the_rest_too are = absurd (let same = are.copied in cc)
+not_of_another_type : OfKind (ReadsBytes (file_of 5) 0 (number 9) (number 5) 1 one_number) 2 → ⊥
+not_of_another_type reads = let width = reads.1.width_is in absurd (omega arith)
 
-not_fewer : AreCopied {R = ℕ} (1 ∷ 2 ∷ 3 ∷ []) 1 (9 ∷ 9 ∷ 9 ∷ []) (2 ∷ 9 ∷ 9 ∷ []) 1 → ⊥
-not_fewer are = absurd (let same = are.count_is in cc)
+not_of_no_type : OfKind (ReadsBytes (file_of 5) 0 (number 9) (number 5) 1 one_number) 14 → ⊥
+not_of_no_type reads = reads
+
+one_home_told : OfKind (TellsHomes (file_of 5) (record { position = 0; place = 25; count = 1 } ∷ record { position = 9; place = 9; count = 9 } ∷ []) 1 one_number) 3
+one_home_told = (5 ∷ [], five_at_home)
+
+not_none_told : OfKind (TellsHomes (file_of 5) (record { position = 0; place = 25; count = 1 } ∷ []) 0 one_number) 3 → ⊥
+not_none_told tells =
+    let same = one_vector numbers narrow (file_of 5) tells.0 (5 ∷ []) one_number one_number tells.1.holds has_five in
+    no_home_less (subst (λ (rs : List ℕ). HasHomes numbers (file_of 5) rs one_number []) same tells.1)
+
+room_for_one : OfKind (NeedsRoom (file_of 5) 1) 3
+room_for_one = (5 ∷ [], one_number, home 25 1 ∷ [], five_at_home, refl)
+
+bytes_appended : OfKind (AppendsBytes empty_stat (number 5) (bytes_of_five ++ 9 ∷ []) one_number) 3
+bytes_appended = (5 ∷ [], are_five, five_appended)
+
+no_six_for_five : (records : List ℕ) → AreRecords numbers (number 6) records → AppendsTo numbers empty_stat records bytes_of_five one_number → records ≡ 5 ∷ []
+no_six_for_five records are appends = (just_its_numbers records one_number (there_is_new bytes_of_five one_number records appends refl)).0
+
+-- the bytes of a six aren't appended by those of a five
+not_six_appended : OfKind (AppendsBytes empty_stat (number 6) (bytes_of_five ++ 9 ∷ []) one_number) 3 → ⊥
+not_six_appended appends =
+    let same = no_six_for_five appends.0 appends.1 appends.2 in
+    let are = subst (λ (rs : List ℕ). AreRecords numbers (number 6) rs) same appends.1 in
+    absurd (let first = are.each 0 (omega arith) in cc)
+
+-- ---- answers where records come as bytes
+
+a_byte_more : AnswersFor empty_stat (number 5 ++ 0 ∷ []) 99 13 ℕ numbers
+a_byte_more = inr (inr (refl, not_whole numbers (number 5 ++ 0 ∷ []) 8 refl (λ whole. absurd (omega arith))))
+
+-- of less than one record none is whole
+a_byte_less : AnswersFor empty_stat (5 ∷ 0 ∷ 0 ∷ 0 ∷ 0 ∷ 0 ∷ 0 ∷ []) 99 7 ℕ numbers
+a_byte_less = refl
+
+-- a record isn't refused as none, nor before a test that fails
+not_refused_as_none : AnswersFor empty_stat (number 5) 99 13 ℕ numbers → ⊥
+not_refused_as_none answer = elim answer [
+  | inl done ↦ absurd (omega arith)
+  | inr others ↦ elim others [ inl memory ↦ absurd (omega arith) | inr none ↦ none.1 (5 ∷ []) are_five ]
+]
+
+not_done_without_room : AnswersFor empty_stat (number 5) 22 0 ℕ numbers → ⊥
+not_done_without_room answer = absurd (omega arith)
 
 -- ---- refusals
 
 -- the first one that holds is told
-abbrev asked : ℕ → ℕ → ℕ → CvecStat → Option CallStatus
+abbrev asked : ℕ → ℕ → ℕ → CvecStat → Option Status
 asked width records room stat = first_status (append_lines width stat records room)
 
 refusals_in_order :
@@ -321,24 +375,15 @@ refusals_in_order = (refl, refl, refl, refl, refl, refl, refl, refl, refl, refl,
 refusals_of_an_empty_file : (first_status (empty_lines 2 12) ≡ None) × (first_status (empty_lines 2 11) ≡ Some statuses.NoRoom) × (first_status (empty_lines 0 0) ≡ Some statuses.Version)
 refusals_of_an_empty_file = (refl, refl, refl)
 
--- done is told of nothing that was refused
-never_done : (fault : ScanFault) → code_of (status_of fault) ≡ 0 → ⊥
-never_done faults.Unborn is = absurd (omega arith)
-never_done faults.NotSegment is = absurd (omega arith)
-never_done (faults.Version version) is = absurd (omega arith)
-never_done (faults.Width width) is = absurd (omega arith)
-never_done (faults.Damaged at cause) is = absurd (omega arith)
-never_done faults.Memory is = absurd (omega arith)
-
 told_in_numbers : (fault_record (damaged 33 causes.ShortFrame) ≡ record { at = 33; cause = 2; found = 0 }) × (fault_record (damaged 34 (causes.Kind 5)) ≡ record { at = 34; cause = 3; found = 5 })
-    × (fault_record (faults.Width 4) ≡ record { at = 0; cause = 0; found = 4 }) × (code_of (status_of (damaged 33 causes.ShortFrame)) ≡ 5) × (code_of (status_of (faults.Width 4)) ≡ 4)
+    × (fault_record (faults.Width 4) ≡ record { at = 0; cause = 0; found = 4 }) × (code_of (of_scan (damaged 33 causes.ShortFrame)) ≡ 5) × (code_of (of_scan (faults.Width 4)) ≡ 4)
 told_in_numbers = (refl, refl, refl, refl, refl)
 
 -- of no bytes it is told that there is no file yet, and nothing else
-unborn : IsScanToldOf numbers [] 1 (record { at = 0; cause = 0; found = 0 })
+unborn : ToldOf [] 1 (record { at = 0; cause = 0; found = 0 }) ℕ numbers
 unfolding header_lines
 unborn = (faults.Unborn, inl refl, refl, refl)
 
-unborn_alone : (answer : ℕ) (fault : CvecFault) → IsScanToldOf numbers [] answer fault → answer ≡ 1
+unborn_alone : (answer : ℕ) (fault : CvecFault) → ToldOf [] answer fault ℕ numbers → answer ≡ 1
 unfolding header_lines
-unborn_alone answer fault is = elim is.1 [ inl first ↦ is.2 ∙ ap (λ (f : ScanFault). code_of (status_of f)) first | inr memory ↦ absurd (let none = memory.1 in cc) ]
+unborn_alone answer fault is = elim is.1 [ inl first ↦ is.2 ∙ ap (λ (f : ScanFault). code_of (of_scan f)) first | inr memory ↦ absurd (let none = memory.1 in cc) ]

@@ -1,18 +1,21 @@
 -- A group behind a file: why it is refused, and what it makes of an image.
-use Rattle.std.specs.Prelude.{◌≡◌, ◌≢◌, ℕ, ◌+◌, ◌*◌, ◌^◌, ◌<◌, Bool, List, [], ◌∷◌, ◌++◌, length, take, slice_index, Option, Some, None, nat_le, nat_lt, not, ◌==◌, if◌then◌else◌}
+use Rattle.std.specs.Prelude.{◌≡◌, ◌≢◌, ℕ, ◌+◌, ◌*◌, ◌/◌, ◌⊎◌, MatchOption, ◌^◌, ◌<◌, Bool, List, [], ◌∷◌, ◌++◌, length, take, slice_index, Option, Some, None, nat_le, nat_lt, not, ◌==◌, if◌then◌else◌}
 use Rattle.record_core.specs.Bytes.{Encoding}
+use Rattle.record_core.specs.Cells.{AreRecords}
 use Rattle.record_core.specs.Limits.{record_limit, payload_limit}
 use Rattle.segment_core.specs.Fault.{is_version}
 use Rattle.segment_core.specs.Found.{StandsAt}
-use Rattle.cvec_c.specs.declared.status.CallStatus.{CallStatus}
-use Rattle.cvec_c.specs.declared.status.CallStatus.TheVariants.{Version, Width, Empty, OutOfRange, TooLarge, FileFull, NoRoom}
+use Rattle.c_core.specs.declared.status.Status.{Status}
+use Rattle.c_core.specs.declared.status.Status.TheVariants.{Done, Version, Width, Memory, Empty, OutOfRange, TooLarge, FileFull, NoRoom, NoRecord}
+use Rattle.c_core.specs.Records.{AreNone}
+use Rattle.c_core.specs.Status.{code_of}
 use Rattle.cvec_c.specs.declared.stat.CvecStat.{CvecStat}
 use Rattle.cvec_c.specs.Stat.{HasStat}
 
 -- ---- refusals
 
 -- what is answered at the first test that holds
-abbrev pub first_status : List (Bool × CallStatus) → Option CallStatus
+abbrev pub first_status : List (Bool × Status) → Option Status
 first_status [] = None
 first_status (line ∷ lines) = if line.0 then Some line.1 else first_status lines
 
@@ -25,7 +28,7 @@ abbrev pub append_len : ℕ → ℕ → ℕ
 append_len width records = 15 + records * width
 
 -- so many records of this width behind a file, and so many bytes that may be written over
-abbrev pub append_lines : ℕ → CvecStat → ℕ → ℕ → List (Bool × CallStatus)
+abbrev pub append_lines : ℕ → CvecStat → ℕ → ℕ → List (Bool × Status)
 append_lines width stat records room =
     (not (is_version stat.version), Version)
     ∷ (not (stat.width == width), Width)
@@ -57,3 +60,17 @@ pub record AppendsTo {R : Type 0} (form : Encoding R) (old : CvecStat) (new : Li
       → HasStat form other (records ++ new) next
   -- the next gate is the last of the bytes
   pub next_gate : next.gate + 1 ≡ old.gate + length bytes
+
+-- ---- records that come as bytes
+
+-- What is answered: the first test that fails; where none does, that it was done, that memory was refused, or that the bytes are
+-- no records of this form.
+abbrev pub AnswersFor : CvecStat → List ℕ → ℕ → ℕ → (R : Type 0) → Encoding R → Type 0
+AnswersFor stat bytes room answer R form =
+    MatchOption (first_status (append_lines form.width stat (length bytes / form.width) room))
+    ((answer ≡ code_of Done) ⊎ ((answer ≡ code_of Memory) ⊎ ((answer ≡ code_of NoRecord) × AreNone form bytes)))
+    (λ status. answer ≡ code_of status)
+
+-- the bytes are records of this form, and what is written at the gate appends them
+abbrev pub AppendsBytes : CvecStat → List ℕ → List ℕ → CvecStat → (R : Type 0) → Encoding R → Type 0
+AppendsBytes old bytes out next R form = (records : List R) × AreRecords form bytes records × AppendsTo form old records (take (15 + length bytes) out) next

@@ -1,4 +1,4 @@
-pub mod Status
+pub mod Fault
 pub mod Stat
 pub mod Reading
 pub mod Append

@@ -6,11 +6,13 @@ use Rattle.beside_core.specs.declared.seen.Seen.{Seen}
 use Rattle.beside_core.specs.declared.fault.LookFault.{LookFault}
 use Rattle.beside_core.specs.declared.fault.LookFault.TheVariants as look
 use Rattle.beside_core.specs.Seen.{IsSeen, IsUnseen, AnswersInTurn}
+use Rattle.c_core.specs.declared.status.Status.{Status}
+use Rattle.c_core.specs.declared.status.Status.TheVariants.{Memory, FileFull, NoRecord}
+use Rattle.c_core.specs.Records.{AreWritten}
+use Rattle.c_core.specs.Status.{code_of, of_scan}
 use Rattle.cvec_c.specs.declared.stat.CvecStat.{CvecStat}
-use Rattle.cvec_c.specs.declared.status.CallStatus.{CallStatus}
-use Rattle.cvec_c.specs.declared.status.CallStatus.TheVariants.{Memory, FileFull, NoRecord}
-use Rattle.cvec_c.specs.declared.status.CvecFault.{CvecFault}
-use Rattle.cvec_c.specs.Status.{code_of, status_of, fault_record}
+use Rattle.cvec_c.specs.declared.fault.CvecFault.{CvecFault}
+use Rattle.cvec_c.specs.Fault.{fault_record}
 
 -- what is told of what the bytes show
 abbrev pub stat_of_seen : {R : Type 0} → Encoding R → Seen R → CvecStat
@@ -33,6 +35,10 @@ pub record HasShown {R : Type 0} (form : Encoding R) (bytes : List ℕ) (records
   pub records_are : records ≡ seen.records.items
   pub stat_is : stat ≡ stat_of_seen form seen
 
+-- they show records of this form, of which bytes are written so
+abbrev pub ShowsBytes : List ℕ → ℕ → List ℕ → List ℕ → ℕ → CvecStat → (R : Type 0) → Encoding R → Type 0
+ShowsBytes bytes from old new count stat R form = (records : List R) × HasShown form bytes records stat × AreWritten form records from old new count
+
 -- no file was called, so no call of one failed
 abbrev pub IsNoCall : LookFault → Type 0
 IsNoCall (look.Disk fault) = ⊥
@@ -41,12 +47,12 @@ IsNoCall (look.NoRecord position) = Unit {0}
 IsNoCall look.TooFar = Unit {0}
 IsNoCall look.Memory = Unit {0}
 
-abbrev pub status_of_look : LookFault → CallStatus
-status_of_look (look.Disk fault) = Memory
-status_of_look (look.Scan fault) = status_of fault
-status_of_look (look.NoRecord position) = NoRecord
-status_of_look look.TooFar = FileFull
-status_of_look look.Memory = Memory
+abbrev pub of_look : LookFault → Status
+of_look (look.Disk fault) = Memory
+of_look (look.Scan fault) = of_scan fault
+of_look (look.NoRecord position) = NoRecord
+of_look look.TooFar = FileFull
+of_look look.Memory = Memory
 
 abbrev pub look_record : LookFault → CvecFault
 look_record (look.Disk fault) = record { at = 0; cause = 0; found = 0 }
@@ -57,9 +63,9 @@ look_record look.Memory = record { at = 0; cause = 0; found = 0 }
 
 -- Why they show none, as it is told. If they were read in turn of the file of a pen, they end before it did, or the type is
 -- another one, or memory was refused: it isn't called damaged.
-pub record IsLookToldOf {R : Type 0} (form : Encoding R) (bytes : List ℕ) (answer : ℕ) (fault : CvecFault) : Type 0 where
+pub record LookToldOf (bytes : List ℕ) (answer : ℕ) (fault : CvecFault) (R : Type 0) (form : Encoding R) : Type 0 where
   pub refusal : LookFault
   pub unseen : IsUnseen form bytes refusal
   pub in_turn : AnswersInTurn form bytes (Err refusal)
-  pub answer_is : answer ≡ code_of (status_of_look refusal)
+  pub answer_is : answer ≡ code_of (of_look refusal)
   pub fault_is : fault ≡ look_record refusal

@@ -1,7 +1,10 @@
--- Records that were copied out.
-use Rattle.std.specs.Prelude.{◌≡◌, ℕ, ◌-◌, ◌++◌, List, length, min, take, drop}
+-- Records that are copied out as their bytes.
+use Rattle.std.specs.Prelude.{ℕ, List}
+use Rattle.record_core.specs.Bytes.{Encoding}
+use Rattle.c_core.specs.Records.{AreWritten}
+use Rattle.cvec_c.specs.declared.stat.CvecStat.{CvecStat}
+use Rattle.cvec_c.specs.Stat.{HasStat}
 
--- So many of them, from a position on as far as both lists reach, stand in front, and behind them what stood there.
-pub record AreCopied {R : Type 0} (records : List R) (from : ℕ) (old new : List R) (count : ℕ) : Type 0 where
-  pub count_is : count ≡ min (length records - from) (length old)
-  pub copied : new ≡ take count (drop from records) ++ drop count old
+-- the image has a vector of records of this form, of which bytes are written so, and the fields are its own
+abbrev pub ReadsBytes : List ℕ → ℕ → List ℕ → List ℕ → ℕ → CvecStat → (R : Type 0) → Encoding R → Type 0
+ReadsBytes image from old new count stat R form = (records : List R) × HasStat form image records stat × AreWritten form records from old new count

@@ -9,9 +9,10 @@ use Rattle.segment_core.specs.Tally.{tally_of}
 use Rattle.segment_core.specs.Fault.{IsRefused}
 use Rattle.segment_core.specs.Vector.{HasVector}
 use Rattle.segment_core.specs.declared.vector.Scanned.{Scanned}
+use Rattle.c_core.specs.Status.{code_of, of_scan}
 use Rattle.cvec_c.specs.declared.stat.CvecStat.{CvecStat}
-use Rattle.cvec_c.specs.declared.status.CvecFault.{CvecFault}
-use Rattle.cvec_c.specs.Status.{code_of, status_of, fault_record}
+use Rattle.cvec_c.specs.declared.fault.CvecFault.{CvecFault}
+use Rattle.cvec_c.specs.Fault.{fault_record}
 
 -- what is told of what a scan found
 abbrev pub stat_of : {R : Type 0} → Scanned R → CvecStat
@@ -38,10 +39,6 @@ pub record HasStat {R : Type 0} (form : Encoding R) (image : List ℕ) (records 
   pub folded_is : stat.folded ≡ (tally_of frames).folded
   pub gate_is : stat.gate ≡ length (text (shape_of format form) frames)
 
--- the image has this vector
-abbrev pub HasRecords : {R : Type 0} → Encoding R → List ℕ → List R → Type 0
-HasRecords form image records = (format : Format) × (frames : List Frame) × HasVector format form image frames records
-
--- why there is none, as it is told: the image's first fault, or want of memory
-abbrev pub IsScanToldOf : {R : Type 0} → Encoding R → List ℕ → ℕ → CvecFault → Type 0
-IsScanToldOf form image answer fault = (refusal : ScanFault) × IsRefused form image refusal × (answer ≡ code_of (status_of refusal)) × (fault ≡ fault_record refusal)
+-- why it has none of records of this form, as it is told: the image's first fault, or want of memory
+abbrev pub ToldOf : List ℕ → ℕ → CvecFault → (R : Type 0) → Encoding R → Type 0
+ToldOf image answer fault R form = (refusal : ScanFault) × IsRefused form image refusal × (answer ≡ code_of (of_scan refusal)) × (fault ≡ fault_record refusal)

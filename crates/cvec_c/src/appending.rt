@@ -1,22 +1,17 @@
 //! A group is appended.
 
 ghost use Rattle.std.specs.Prelude.{◌≡◌, ◌≢◌, ◌<◌, ◌+◌, ◌*◌, ◌^◌, ◌++◌, ◌∷◌, [], None, Some, ◌⊎◌, length, take, drop, IfOk, OnOk, MatchOption};
-ghost use Rattle.std.specs.Int.{w8, w16, w32, w64};
-ghost use Rattle.record_core.specs.Bytes.{unsigned, signed, pair, flagged};
+ghost use Rattle.c_core.specs.Kind.{kind_of, AtKind, OfKind};
+ghost use Rattle.c_core.specs.Status.{code_of};
 ghost use Rattle.record_core.specs.Cells.{AreReadAgain};
 ghost use Rattle.segment_core.specs.declared.format.Format.{Format};
 ghost use Rattle.segment_core.specs.Frame.{frame_text};
 ghost use Rattle.segment_core.specs.Written.{group_frame};
-ghost use Rattle.cvec_c.specs.Status.{code_of};
-ghost use Rattle.cvec_c.specs.Append.{first_status, append_lines, append_len, AppendsTo};
-ghost use Rattle.record_core.specs.ByteRecords.{bytes16, bytes24, bytes32, bytes64};
+ghost use Rattle.cvec_c.specs.Append.{first_status, append_lines, append_len, AppendsTo, AppendsBytes, AnswersFor};
 
 use crate::stat::CvecStat;
-use crate::status::CallStatus;
-use record_core::{
-    Bytes16, Bytes24, Bytes32, Bytes64, Flagged, GROWTH_HEAD_LEN, Pair, RECORD_LIMIT, Record,
-    width_of,
-};
+use c_core::{Kind, Status, of_kind, records_of};
+use record_core::{GROWTH_HEAD_LEN, RECORD_LIMIT, Record, width_of};
 use segment_core::{CLOSED_GATE, FRAME_HEAD_LEN, Format, GATE_LIMIT, append_group};
 use std::alloc::{AllocError, Global};
 
@@ -24,31 +19,31 @@ use std::alloc::{AllocError, Global};
 const HEAD_LEN: u64 = (FRAME_HEAD_LEN + GROWTH_HEAD_LEN) as u64;
 
 /// Why so many records can't be appended, whatever memory there is.
-fn refusal<R: Record>(stat: &CvecStat, records: u64, room: u64) -> Option<CallStatus>
+fn refusal<R: Record>(stat: &CvecStat, records: u64, room: u64) -> Option<Status>
     ensures { result ≡ first_status (append_lines R.form.width stat.now records room) }
 {
     let Some(format) = Format::from_version(stat.version) else {
-        return Some(CallStatus::Version);
+        return Some(Status::Version);
     };
     let width = width_of::<R>() as u64;
     if u64::from(stat.width) != width {
-        return Some(CallStatus::Width);
+        return Some(Status::Width);
     }
     if records == 0 {
-        return Some(CallStatus::Empty);
+        return Some(Status::Empty);
     }
     if stat.size > RECORD_LIMIT || records > RECORD_LIMIT - stat.size {
-        return Some(CallStatus::OutOfRange);
+        return Some(Status::OutOfRange);
     }
     let bytes = records * width;
     if GROWTH_HEAD_LEN as u64 + bytes > format.payload_limit() as u64 {
-        return Some(CallStatus::TooLarge);
+        return Some(Status::TooLarge);
     }
     if stat.gate >= GATE_LIMIT || stat.gate + HEAD_LEN + bytes >= GATE_LIMIT {
-        return Some(CallStatus::FileFull);
+        return Some(Status::FileFull);
     }
     if HEAD_LEN + bytes + 1 > room {
-        return Some(CallStatus::NoRoom);
+        return Some(Status::NoRoom);
     }
     None
 }
@@ -92,7 +87,7 @@ fn append<R: Record>(
         return status.code();
     }
     let Ok(bytes) = frame_of(alloc, records) else {
-        return CallStatus::Memory.code();
+        return Status::Memory.code();
     };
     let len = bytes.len();
     out[..len].copy_from_slice(&bytes);
@@ -102,214 +97,67 @@ fn append<R: Record>(
         gate: stat.gate + (len as u64 - 1),
         ..*stat
     };
-    CallStatus::Done.code()
+    Status::Done.code()
 }
 
-/// Appends records of u8, as `append` says.
-#[unsafe(no_mangle)]
-pub extern "C" fn cvec_append_u8(
+/// Appends the records that these bytes are, as `append` says. Bytes that are no records are refused so where every test is passed,
+/// which count as many records as are whole.
+fn append_bytes<R: Record>(
     alloc: Global,
+    stat: &CvecStat,
+    bytes: &[u8],
+    out: &mut [u8],
+    next: &mut CvecStat,
+) -> u32
+    ensures answer { AnswersFor stat.now bytes.now (length out.old) result R R.form }
+    ensures done { result ≡ 0 → AppendsBytes stat.now bytes.now out.new next.new R R.form }
+    ensures rest { drop (15 + length bytes.now) out.new ≡ drop (15 + length bytes.now) out.old }
+    ensures refused { result ≢ 0 → (out.new ≡ out.old) × (next.new ≡ next.old) }
+{
+    let count = bytes.len() / width_of::<R>();
+    if let Some(status) = refusal::<R>(stat, count as u64, out.len() as u64) {
+        return status.code();
+    }
+    match records_of::<R>(alloc, bytes) {
+        Ok(records) => append(alloc, stat, &records, out, next),
+        Err(status) => status.code(),
+    }
+}
+
+/// Appends records of this kind, as `append_bytes` says.
+fn append_kind(
+    alloc: Global,
+    kind: Kind,
+    stat: &CvecStat,
+    bytes: &[u8],
+    out: &mut [u8],
+    next: &mut CvecStat,
+) -> u32
+    ensures answer { AtKind (AnswersFor stat.now bytes.now (length out.old) result) kind }
+    ensures done { result ≡ 0 → AtKind (AppendsBytes stat.now bytes.now out.new next.new) kind }
+    ensures rest { drop (15 + length bytes.now) out.new ≡ drop (15 + length bytes.now) out.old }
+    ensures refused { result ≢ 0 → (out.new ≡ out.old) × (next.new ≡ next.old) }
+{
+    of_kind!(kind, append_bytes(alloc, stat, bytes, out, next))
+}
+
+/// Appends records of the type of this number, as `append_bytes` says. 64: no type has this number.
+#[unsafe(no_mangle)]
+pub extern "C" fn cvec_image_append(
+    alloc: Global,
+    kind: u32,
     stat: &CvecStat,
     records: &[u8],
     out: &mut [u8],
     next: &mut CvecStat,
 ) -> u32
-    ensures answer { MatchOption (first_status (append_lines 1 stat.now (length records.now) (length out.old)))
-        ((result ≡ 0) ⊎ (result ≡ 6))
-        (λ status. result ≡ code_of status) }
-    ensures done { result ≡ 0 → AppendsTo (unsigned w8) stat.now records.now (take (append_len 1 (length records.now)) out.new) next.new }
-    ensures rest { drop (append_len 1 (length records.now)) out.new ≡ drop (append_len 1 (length records.now)) out.old }
+    ensures answer { MatchOption (kind_of kind) (result ≡ code_of Status.NotSo) (AtKind (AnswersFor stat.now records.now (length out.old) result)) }
+    ensures done { result ≡ 0 → OfKind (AppendsBytes stat.now records.now out.new next.new) kind }
+    ensures rest { drop (15 + length records.now) out.new ≡ drop (15 + length records.now) out.old }
     ensures refused { result ≢ 0 → (out.new ≡ out.old) × (next.new ≡ next.old) }
 {
-    append::<u8>(alloc, stat, records, out, next)
-}
-
-/// Appends records of u16, as `append` says.
-#[unsafe(no_mangle)]
-pub extern "C" fn cvec_append_u16(
-    alloc: Global,
-    stat: &CvecStat,
-    records: &[u16],
-    out: &mut [u8],
-    next: &mut CvecStat,
-) -> u32
-    ensures answer { MatchOption (first_status (append_lines 2 stat.now (length records.now) (length out.old)))
-        ((result ≡ 0) ⊎ (result ≡ 6))
-        (λ status. result ≡ code_of status) }
-    ensures done { result ≡ 0 → AppendsTo (unsigned w16) stat.now records.now (take (append_len 2 (length records.now)) out.new) next.new }
-    ensures rest { drop (append_len 2 (length records.now)) out.new ≡ drop (append_len 2 (length records.now)) out.old }
-    ensures refused { result ≢ 0 → (out.new ≡ out.old) × (next.new ≡ next.old) }
-{
-    append::<u16>(alloc, stat, records, out, next)
-}
-
-/// Appends records of u32, as `append` says.
-#[unsafe(no_mangle)]
-pub extern "C" fn cvec_append_u32(
-    alloc: Global,
-    stat: &CvecStat,
-    records: &[u32],
-    out: &mut [u8],
-    next: &mut CvecStat,
-) -> u32
-    ensures answer { MatchOption (first_status (append_lines 4 stat.now (length records.now) (length out.old)))
-        ((result ≡ 0) ⊎ (result ≡ 6))
-        (λ status. result ≡ code_of status) }
-    ensures done { result ≡ 0 → AppendsTo (unsigned w32) stat.now records.now (take (append_len 4 (length records.now)) out.new) next.new }
-    ensures rest { drop (append_len 4 (length records.now)) out.new ≡ drop (append_len 4 (length records.now)) out.old }
-    ensures refused { result ≢ 0 → (out.new ≡ out.old) × (next.new ≡ next.old) }
-{
-    append::<u32>(alloc, stat, records, out, next)
-}
-
-/// Appends records of u64, as `append` says.
-#[unsafe(no_mangle)]
-pub extern "C" fn cvec_append_u64(
-    alloc: Global,
-    stat: &CvecStat,
-    records: &[u64],
-    out: &mut [u8],
-    next: &mut CvecStat,
-) -> u32
-    ensures answer { MatchOption (first_status (append_lines 8 stat.now (length records.now) (length out.old)))
-        ((result ≡ 0) ⊎ (result ≡ 6))
-        (λ status. result ≡ code_of status) }
-    ensures done { result ≡ 0 → AppendsTo (unsigned w64) stat.now records.now (take (append_len 8 (length records.now)) out.new) next.new }
-    ensures rest { drop (append_len 8 (length records.now)) out.new ≡ drop (append_len 8 (length records.now)) out.old }
-    ensures refused { result ≢ 0 → (out.new ≡ out.old) × (next.new ≡ next.old) }
-{
-    append::<u64>(alloc, stat, records, out, next)
-}
-
-/// Appends records of i64, as `append` says.
-#[unsafe(no_mangle)]
-pub extern "C" fn cvec_append_i64(
-    alloc: Global,
-    stat: &CvecStat,
-    records: &[i64],
-    out: &mut [u8],
-    next: &mut CvecStat,
-) -> u32
-    ensures answer { MatchOption (first_status (append_lines 8 stat.now (length records.now) (length out.old)))
-        ((result ≡ 0) ⊎ (result ≡ 6))
-        (λ status. result ≡ code_of status) }
-    ensures done { result ≡ 0 → AppendsTo (signed w64) stat.now records.now (take (append_len 8 (length records.now)) out.new) next.new }
-    ensures rest { drop (append_len 8 (length records.now)) out.new ≡ drop (append_len 8 (length records.now)) out.old }
-    ensures refused { result ≢ 0 → (out.new ≡ out.old) × (next.new ≡ next.old) }
-{
-    append::<i64>(alloc, stat, records, out, next)
-}
-
-/// Appends records of pair, as `append` says.
-#[unsafe(no_mangle)]
-pub extern "C" fn cvec_append_pair(
-    alloc: Global,
-    stat: &CvecStat,
-    records: &[Pair],
-    out: &mut [u8],
-    next: &mut CvecStat,
-) -> u32
-    ensures answer { MatchOption (first_status (append_lines 16 stat.now (length records.now) (length out.old)))
-        ((result ≡ 0) ⊎ (result ≡ 6))
-        (λ status. result ≡ code_of status) }
-    ensures done { result ≡ 0 → AppendsTo pair stat.now records.now (take (append_len 16 (length records.now)) out.new) next.new }
-    ensures rest { drop (append_len 16 (length records.now)) out.new ≡ drop (append_len 16 (length records.now)) out.old }
-    ensures refused { result ≢ 0 → (out.new ≡ out.old) × (next.new ≡ next.old) }
-{
-    append::<Pair>(alloc, stat, records, out, next)
-}
-
-/// Appends records of flagged, as `append` says.
-#[unsafe(no_mangle)]
-pub extern "C" fn cvec_append_flagged(
-    alloc: Global,
-    stat: &CvecStat,
-    records: &[Flagged],
-    out: &mut [u8],
-    next: &mut CvecStat,
-) -> u32
-    ensures answer { MatchOption (first_status (append_lines 9 stat.now (length records.now) (length out.old)))
-        ((result ≡ 0) ⊎ (result ≡ 6))
-        (λ status. result ≡ code_of status) }
-    ensures done { result ≡ 0 → AppendsTo flagged stat.now records.now (take (append_len 9 (length records.now)) out.new) next.new }
-    ensures rest { drop (append_len 9 (length records.now)) out.new ≡ drop (append_len 9 (length records.now)) out.old }
-    ensures refused { result ≢ 0 → (out.new ≡ out.old) × (next.new ≡ next.old) }
-{
-    append::<Flagged>(alloc, stat, records, out, next)
-}
-
-/// Appends records of bytes16, as `append` says.
-#[unsafe(no_mangle)]
-pub extern "C" fn cvec_append_bytes16(
-    alloc: Global,
-    stat: &CvecStat,
-    records: &[Bytes16],
-    out: &mut [u8],
-    next: &mut CvecStat,
-) -> u32
-    ensures answer { MatchOption (first_status (append_lines 16 stat.now (length records.now) (length out.old)))
-        ((result ≡ 0) ⊎ (result ≡ 6))
-        (λ status. result ≡ code_of status) }
-    ensures done { result ≡ 0 → AppendsTo bytes16 stat.now records.now (take (append_len 16 (length records.now)) out.new) next.new }
-    ensures rest { drop (append_len 16 (length records.now)) out.new ≡ drop (append_len 16 (length records.now)) out.old }
-    ensures refused { result ≢ 0 → (out.new ≡ out.old) × (next.new ≡ next.old) }
-{
-    append::<Bytes16>(alloc, stat, records, out, next)
-}
-
-/// Appends records of bytes24, as `append` says.
-#[unsafe(no_mangle)]
-pub extern "C" fn cvec_append_bytes24(
-    alloc: Global,
-    stat: &CvecStat,
-    records: &[Bytes24],
-    out: &mut [u8],
-    next: &mut CvecStat,
-) -> u32
-    ensures answer { MatchOption (first_status (append_lines 24 stat.now (length records.now) (length out.old)))
-        ((result ≡ 0) ⊎ (result ≡ 6))
-        (λ status. result ≡ code_of status) }
-    ensures done { result ≡ 0 → AppendsTo bytes24 stat.now records.now (take (append_len 24 (length records.now)) out.new) next.new }
-    ensures rest { drop (append_len 24 (length records.now)) out.new ≡ drop (append_len 24 (length records.now)) out.old }
-    ensures refused { result ≢ 0 → (out.new ≡ out.old) × (next.new ≡ next.old) }
-{
-    append::<Bytes24>(alloc, stat, records, out, next)
-}
-
-/// Appends records of bytes32, as `append` says.
-#[unsafe(no_mangle)]
-pub extern "C" fn cvec_append_bytes32(
-    alloc: Global,
-    stat: &CvecStat,
-    records: &[Bytes32],
-    out: &mut [u8],
-    next: &mut CvecStat,
-) -> u32
-    ensures answer { MatchOption (first_status (append_lines 32 stat.now (length records.now) (length out.old)))
-        ((result ≡ 0) ⊎ (result ≡ 6))
-        (λ status. result ≡ code_of status) }
-    ensures done { result ≡ 0 → AppendsTo bytes32 stat.now records.now (take (append_len 32 (length records.now)) out.new) next.new }
-    ensures rest { drop (append_len 32 (length records.now)) out.new ≡ drop (append_len 32 (length records.now)) out.old }
-    ensures refused { result ≢ 0 → (out.new ≡ out.old) × (next.new ≡ next.old) }
-{
-    append::<Bytes32>(alloc, stat, records, out, next)
-}
-
-/// Appends records of bytes64, as `append` says.
-#[unsafe(no_mangle)]
-pub extern "C" fn cvec_append_bytes64(
-    alloc: Global,
-    stat: &CvecStat,
-    records: &[Bytes64],
-    out: &mut [u8],
-    next: &mut CvecStat,
-) -> u32
-    ensures answer { MatchOption (first_status (append_lines 64 stat.now (length records.now) (length out.old)))
-        ((result ≡ 0) ⊎ (result ≡ 6))
-        (λ status. result ≡ code_of status) }
-    ensures done { result ≡ 0 → AppendsTo bytes64 stat.now records.now (take (append_len 64 (length records.now)) out.new) next.new }
-    ensures rest { drop (append_len 64 (length records.now)) out.new ≡ drop (append_len 64 (length records.now)) out.old }
-    ensures refused { result ≢ 0 → (out.new ≡ out.old) × (next.new ≡ next.old) }
-{
-    append::<Bytes64>(alloc, stat, records, out, next)
+    match Kind::of_number(kind) {
+        Some(kind) => append_kind(alloc, kind, stat, records, out, next),
+        None => Status::NotSo.code(),
+    }
 }

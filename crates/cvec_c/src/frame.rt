@@ -5,7 +5,7 @@ ghost use Rattle.segment_core.specs.Kind.{kind_byte};
 ghost use Rattle.segment_core.specs.Reading.{lengths_of};
 ghost use Rattle.cvec_c.specs.Frame.{IsFrameTold, IsNoFrame};
 
-use crate::status::CallStatus;
+use c_core::Status;
 use segment_core::{FRAME_HEAD_LEN, FrameKind, FrameReader};
 
 /// What a frame has, and where.
@@ -46,7 +46,7 @@ fn kind_code(kind: FrameKind) -> u8
 /// Answers 0 where a whole open frame of a file of this version and width has its gate there, and tells what it has; else
 /// 12, and `fields` stays.
 #[unsafe(no_mangle)]
-pub extern "C" fn cvec_frame_at(
+pub extern "C" fn cvec_image_frame(
     image: &[u8],
     at: u64,
     version: u8,
@@ -57,7 +57,7 @@ pub extern "C" fn cvec_frame_at(
     ensures none { result ≢ 0 → (result ≡ 12) × (fields.new ≡ fields.old) × IsNoFrame image.now at version width }
 {
     let Some(frame) = FrameReader::new(image, at, version, width) else {
-        return CallStatus::NoFrame.code();
+        return Status::NoFrame.code();
     };
     let next = at + FRAME_HEAD_LEN as u64 + u64::from(frame.payload_len());
     *fields = CvecFrame {
@@ -68,5 +68,5 @@ pub extern "C" fn cvec_frame_at(
         records: frame.records(),
         kind: kind_code(frame.kind()),
     };
-    CallStatus::Done.code()
+    Status::Done.code()
 }

@@ -14,5 +14,5 @@ returns-clause-done g c = λ _. (
     let long : length bytes ≡ 12 = ap length c.empty_file.ensures in
     let written = ap (λ (bs : List ℕ). take 12 (bs ++ drop 12 c.args.out.now)) c.copy_from_slice.ensures.after ∙ take_at bytes (drop 12 c.args.out.now) 12 long in
     let stat : CvecStat = record { size = 0; frames = 0; changes = 0; folded = 0; gate = 11; width = c.width_of-width.result; version = c.args.version } in
-    subst (λ (bs : List ℕ). Creates g.R.Record.form bs stat) (sym written)
+    subst (λ (bs : List ℕ). Creates bs stat _ g.R.Record.form) (sym written)
     (creates c.in-Some.format g.R.Record.form bytes c.args.version c.width_of-width.result c.width_of-width.ensures.is c.empty_file.ensures c.in-Some.ensures.known))

@@ -2,7 +2,7 @@ use Rattle.std.proofs.Common.{◌≡◌, ℕ, ◌+◌, ◌-◌, ◌*◌, ap, ◌
 use Rattle.segment_core.specs.Reading.{record_count}
 use Rattle.cvec_c.specs.declared.frame.CvecFrame.{CvecFrame}
 use Rattle.cvec_c.proofs.FrameTold.{frame_told}
-use Rattle.cvec_c.proofs.frame.cvec_frame_at.Goals as goal
+use Rattle.cvec_c.proofs.frame.cvec_image_frame.Goals as goal
 
 pub returns-clause-done : goal.returns-clause-done
 returns-clause-done c = λ _. (

@@ -1,36 +1,10 @@
--- The numbers that C has for what a call answers.
+-- Why an image has no vector, in the numbers that C has.
 use Rattle.std.specs.Prelude.{ℕ}
 use Rattle.segment_core.specs.declared.fault.Cause.{Cause}
 use Rattle.segment_core.specs.declared.fault.Cause.TheVariants as causes
 use Rattle.segment_core.specs.declared.fault.ScanFault.{ScanFault}
 use Rattle.segment_core.specs.declared.fault.ScanFault.TheVariants as faults
-use Rattle.cvec_c.specs.declared.status.CallStatus.{CallStatus}
-use Rattle.cvec_c.specs.declared.status.CallStatus.TheVariants.{Done, Unborn, NotSegment, Version, Width, Damaged, Memory, Empty, OutOfRange, TooLarge, FileFull, NoRoom, NoFrame, NoRecord}
-use Rattle.cvec_c.specs.declared.status.CvecFault.{CvecFault}
-
-abbrev pub code_of : CallStatus → ℕ
-code_of Done = 0
-code_of Unborn = 1
-code_of NotSegment = 2
-code_of Version = 3
-code_of Width = 4
-code_of Damaged = 5
-code_of Memory = 6
-code_of Empty = 7
-code_of OutOfRange = 8
-code_of TooLarge = 9
-code_of FileFull = 10
-code_of NoRoom = 11
-code_of NoFrame = 12
-code_of NoRecord = 13
-
-abbrev pub status_of : ScanFault → CallStatus
-status_of faults.Unborn = Unborn
-status_of faults.NotSegment = NotSegment
-status_of (faults.Version version) = Version
-status_of (faults.Width width) = Width
-status_of (faults.Damaged at cause) = Damaged
-status_of faults.Memory = Memory
+use Rattle.cvec_c.specs.declared.fault.CvecFault.{CvecFault}
 
 -- the number of a cause, and the kind of frame that was found
 abbrev pub cause_code : Cause → ℕ × ℕ

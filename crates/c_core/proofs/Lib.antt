@@ -1,0 +1,2 @@
+pub mod NoRecords
+pub mod Worked
