@@ -1,9 +1,9 @@
 #!/usr/bin/env python3
-"""examples/python/beside.py reads a file while the program writes it by random commands. Each look is compared with what the
-writer had said: it is the vector at a moment from the last answer before the look to the last command begun before its end.
-Most commands write piece by piece, so that looks meet each part of a frame.
+"""examples/python/beside.py, or the module cvec_cut, reads a file while the program writes it by random commands. Each look is
+compared with what the writer had said: it is the vector at a moment from the last answer before the look to the last command begun
+before its end. Most commands write piece by piece, so that looks meet each part of a frame.
 
-mapped.py PROGRAM CALLS FOLDER COMMANDS [SEED]: it looks until there were so many commands
+mapped.py PROGRAM CALLS FOLDER COMMANDS [SEED [cut]]: it looks until there were so many commands
 
 CALLS is the library of tests/calls.c."""
 import os
@@ -12,12 +12,14 @@ import subprocess
 import sys
 import threading
 
-sys.path.insert(0, os.path.join(os.path.dirname(os.path.abspath(__file__)), "..", "examples", "python"))
+TOP = os.path.join(os.path.dirname(os.path.abspath(__file__)), "..")
+sys.path[:0] = [os.path.join(TOP, "examples", "python"), os.path.join(TOP, "bindings", "python")]
 import beside
 
 PROGRAM, CALLS, FOLDER = map(os.path.abspath, sys.argv[1:4])
 COMMANDS = int(sys.argv[4])
 SEED = int(sys.argv[5]) if len(sys.argv) > 5 else 1
+IS_CUT = sys.argv[6:] == ["cut"]
 FILE = os.path.join(FOLDER, "t.cv")
 LONGEST = 1_000
 PARTS = 7, 60, 500, None
@@ -74,6 +76,27 @@ class Writer(threading.Thread):
         self.do([now[:length]], "resize", str(length), "--record=0")
 
 
+class Cuts:
+    """Looks by cuts, each taken on from the one before. Records that are changed before they are read have it look again: what it
+    answers is of the last of these looks."""
+
+    def __init__(self):
+        import cvec_cut
+        self.module, self.cut, self.form = cvec_cut, cvec_cut.take(FILE, "u64"), beside.struct.Struct("<Q")
+
+    def look(self):
+        while True:
+            self.cut = self.module.refreshed(self.cut)
+            try:
+                self.records = self.module.read(self.cut).tobytes()
+                return self.records
+            except self.module.Moved:
+                pass
+
+def new_reader():
+    return Cuts() if IS_CUT else beside.Reader(FILE, "u64")
+
+
 def look(reader, writer):
     """One look, which must be one of the writer's moments. Answers whether a command ran meanwhile."""
     first, before = writer.answered, len(writer.moments) - 1
@@ -81,23 +104,23 @@ def look(reader, writer):
     last = len(writer.moments) - 1
     seen = [record for record, in reader.form.iter_unpack(reader.records)]
     assert seen in writer.moments[first:last + 1], f"no moment from {first} to {last} has these {len(seen)} records"
-    assert list(reader.texts()) == list(map(str, seen))
+    assert IS_CUT or list(reader.texts()) == list(map(str, seen))
     return first < before or first < last
 
 
 def main():
     command("create", f"--format={SEED % 2 + 1}")
     writer = Writer(random.Random(SEED))
-    reader = beside.Reader(FILE, "u64")
+    reader = new_reader()
     writer.start()
     looks = while_written = 0
     while writer.is_alive():
         # A new reader every other time, which reads from the first frame on, also while the writer folds.
-        other = beside.Reader(FILE, "u64") if looks % 2 else reader
+        other = new_reader() if looks % 2 else reader
         while_written += look(other, writer)
         looks += 1
     assert not writer.has_failed, "the writer failed"
-    assert reader.look() == beside.Reader(FILE, "u64").look()
+    assert reader.look() == new_reader().look()
     look(reader, writer)
     print(f"{looks} looks, {while_written} of them while a command ran, {COMMANDS} commands")
 

@@ -7,7 +7,7 @@ import sysconfig
 import zipfile
 
 NAME, VERSION = "cvec", "1.0"
-MODULES = ("cvec.py", "cvec_client.py", "cvec_records.py", "cvec_vector.py")
+MODULES = tuple(f"{it}.py" for it in ("cvec", "cvec_client", "cvec_cut", "cvec_dask", "cvec_frames", "cvec_records", "cvec_vector"))
 HERE = os.path.dirname(os.path.abspath(__file__))
 FIRST_DATE = (1980, 1, 1, 0, 0, 0)
 

@@ -24,7 +24,7 @@ from ctypes import (POINTER, byref, c_double, c_float, c_int, c_int32, c_int64, 
                     c_void_p)
 from stat import S_ISREG
 
-from cvec_records import IN_C, IN_FILE, numpy
+from cvec_records import IN_C, IN_FILE, numbers_of, numpy
 
 FIRST_GATE = 11
 GROUP, CHANGE, SHRINK, FOLD = 1, 2, 3, 4
@@ -66,63 +66,61 @@ class Home(ctypes.Structure):
 
 class _File(ctypes.Structure):
     _fields_ = [("fd", c_int), ("type", c_int), ("broken", ctypes.c_bool), ("read_only", ctypes.c_bool),
-                ("process", c_int), ("stat", Stat), ("bytes", c_void_p), ("room", c_size_t)]
+                ("process", c_uint64), ("stat", Stat), ("bytes", c_void_p), ("room", c_size_t)]
 
 
 class _Type:
-    """A record type: its number, a record as C has it, its forms in C and in a file, and the type whose functions it has in the
-    library: its own, or one with the same bytes."""
+    """A record type: its number, a record as C has it, and its forms in C and in a file."""
 
-    def __init__(self, number, name, record, library=None):
-        self.number, self.name, self.record, self.library = number, name, record, library or name
+    def __init__(self, name, record):
+        self.number, self.name, self.record = _NUMBERS[name], name, record
         self.in_c, self.in_file = IN_C[name], IN_FILE[name]
 
 
+def _loaded():
+    beside = os.path.join(os.path.dirname(os.path.abspath(__file__)), "libcvec.so")
+    return ctypes.CDLL(os.environ.get("CVEC_LIBRARY", beside), use_errno=True)
+
+
+_LIB = _loaded()
+_NUMBERS = numbers_of(_LIB)
 _TYPES = {it.name: it for it in [
-    _Type(0, "u32", c_uint32),
-    _Type(1, "u64", c_uint64),
-    _Type(2, "i64", c_int64),
-    _Type(3, "pair", Pair),
-    _Type(4, "flagged", Flagged),
+    _Type("u8", c_uint8),
+    _Type("u16", c_uint16),
+    _Type("u32", c_uint32),
+    _Type("u64", c_uint64),
+    _Type("i32", c_int32),
+    _Type("i64", c_int64),
+    _Type("f32", c_float),
+    _Type("f64", c_double),
+    _Type("pair", Pair),
+    _Type("flagged", Flagged),
     # C has those of bytes as rows of words.
-    _Type(5, "bytes16", c_uint64 * 2),
-    _Type(6, "bytes24", c_uint64 * 3),
-    _Type(7, "bytes32", c_uint64 * 4),
-    _Type(8, "bytes64", c_uint64 * 8),
-    _Type(9, "u8", c_uint8),
-    _Type(10, "u16", c_uint16),
-    _Type(11, "i32", c_int32, "u32"),
-    _Type(12, "f32", c_float, "u32"),
-    _Type(13, "f64", c_double, "u64"),
+    *(_Type(f"bytes{8 * words}", c_uint64 * words) for words in (2, 3, 4, 8)),
 ]}
 
 
-def _library():
-    beside = os.path.join(os.path.dirname(os.path.abspath(__file__)), "libcvec.so")
-    lib = ctypes.CDLL(os.environ.get("CVEC_LIBRARY", beside), use_errno=True)
+def _declare(lib):
     answers = {
         "cvec_create": [POINTER(_File), ctypes.c_char_p, c_int],
         "cvec_open": [POINTER(_File), ctypes.c_char_p, c_int, POINTER(Fault)],
         "cvec_open_to_read": [POINTER(_File), ctypes.c_char_p, c_int, POINTER(Fault)],
         "cvec_append": [POINTER(_File), c_void_p, c_size_t],
         "cvec_read": [POINTER(_File), c_uint64, c_void_p, c_size_t, POINTER(c_uint64), POINTER(Fault)],
-        "cvec_frame_at": [c_void_p, c_size_t, c_uint64, c_uint8, c_uint16, POINTER(Frame)],
+        "cvec_image_homes": [c_uint32, c_void_p, c_size_t, POINTER(Home), c_size_t, POINTER(c_uint64), POINTER(Stat), POINTER(Fault)],
+        "cvec_image_frame": [c_void_p, c_size_t, c_uint64, c_uint8, c_uint16, POINTER(Frame)],
     }
-    for it in _TYPES.values():
-        answers["cvec_homes_" + it.library] = [c_void_p, c_size_t, POINTER(Home), c_size_t, POINTER(c_uint64), POINTER(Stat),
-                                               POINTER(Fault)]
     for name, words in answers.items():
         call = getattr(lib, name)
         call.argtypes, call.restype = words, c_uint32
     lib.cvec_close.argtypes, lib.cvec_close.restype = [POINTER(_File)], None
-    lib.cvec_process.argtypes, lib.cvec_process.restype = [], c_int
+    lib.cvec_process.argtypes, lib.cvec_process.restype = [], c_uint64
     for name in ("cvec_status_text", "cvec_cause_text"):
         call = getattr(lib, name)
         call.argtypes, call.restype = [c_uint32], ctypes.c_char_p
-    return lib
 
 
-_LIB = _library()
+_declare(_LIB)
 
 
 class Error(Exception):
@@ -305,7 +303,7 @@ class Map:
             self._bytes = (c_uint8 * len(self._map)).from_buffer(self._map)
             self._end_at_last_gate(file.fileno())
         try:
-            self.homes = self._find_homes(getattr(_LIB, "cvec_homes_" + self._kind.library))
+            self.homes = self._find_homes()
         except Error:
             self.close()
             raise
@@ -326,18 +324,19 @@ class Map:
 
     def _walk(self, before, gate):
         """From this gate on, and the one before it, over whole frames: the gate at which no frame begins, and the one before it."""
-        call, frame, start, length = _LIB.cvec_frame_at, Frame(), ctypes.addressof(self._bytes), len(self._bytes)
+        call, frame, start, length = _LIB.cvec_image_frame, Frame(), ctypes.addressof(self._bytes), len(self._bytes)
         version, width, told = self._bytes[8] if length > 8 else 0, self._kind.in_file.width, byref(frame)
         while call(start, length, gate, version, width, told) == 0:
             before, gate = gate, frame.next
         return before, gate
 
-    def _find_homes(self, call):
+    def _find_homes(self):
         """Where the records stand, each home once."""
         fault, count, room = Fault(), c_uint64(), 1024
+        start, length, told = ctypes.addressof(self._bytes), len(self._map), (byref(count), byref(self.stat), byref(fault))
         while True:
             row = (Home * room)()
-            status = call(ctypes.addressof(self._bytes), len(self._map), row, room, byref(count), byref(self.stat), byref(fault))
+            status = _LIB.cvec_image_homes(self._kind.number, start, length, row, room, *told)
             if status != _NO_ROOM:
                 break
             room = count.value
@@ -369,7 +368,7 @@ class Map:
     def _frame_at(self, at):
         # Another thread may close the map during the call, which has it by a name of its own.
         held, seen, frame = self._bytes, self._open_map(), Frame()
-        _pass(_LIB.cvec_frame_at(ctypes.addressof(held), len(seen), at, self.stat.version, self.stat.width, byref(frame)))
+        _pass(_LIB.cvec_image_frame(ctypes.addressof(held), len(seen), at, self.stat.version, self.stat.width, byref(frame)))
         return frame
 
     def is_plain(self):

@@ -1,4 +1,5 @@
 """Records as bytes, for cvec.py and cvec_client.py. None is cut or altered: what its type doesn't have is refused."""
+import ctypes
 import itertools
 import struct
 
@@ -162,6 +163,19 @@ IN_FILE = {
     "flagged": Form("<Q?", [("key", "<u8"), ("flag", "?")]),
     **{f"bytes{width}": BytesForm(width) for width in (16, 24, 32, 64)},
 }
+
+
+class _TypeOf(ctypes.Structure):
+    _fields_ = [("name", ctypes.c_char_p), ("width", ctypes.c_uint16), ("size", ctypes.c_uint16)]
+
+
+def numbers_of(library):
+    """The numbers that C has for the types, by their names."""
+    count = ctypes.c_size_t()
+    library.cvec_types.restype = ctypes.POINTER(_TypeOf)
+    types = library.cvec_types(ctypes.byref(count))
+    return {types[number].name.decode(): number for number in range(count.value)}
+
 
 # Those that C has: a flagged is as wide as what is aligned to its key.
 IN_C = {**IN_FILE, "flagged": Form("<Q?7x", [("key", "<u8"), ("flag", "?")], align=True)}

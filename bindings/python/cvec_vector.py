@@ -1,10 +1,11 @@
-"""A durable vector that threads of this process grow, by ctypes over the library for C (docs/use/threads.md says how
-that is built).
+"""A durable vector that threads of this process grow, by ctypes over the library for C. docs/use/python.md has its use, and what
+is lent for how long.
 
     with Vector.create("numbers.cvec") as vector:
         receipt = vector.grow([5, 7, 11])      # in the vector, in one row: each thread reads it
         vector.settle()                        # durable when it returns
         print(len(vector), vector[0], vector[receipt.start:])
+        print(sum(map(sum, vector.lent())))    # where they stand, without a copy
 
 Each thread that calls a vector has a seat of its own, which it takes with its first call and leaves to others when it ends. A
 call lets other threads run meanwhile. The library is found by the environment's CVEC_VECTOR_LIBRARY, and else as libcvec.so
@@ -16,22 +17,34 @@ import collections
 import contextlib
 import ctypes
 import enum
+import functools
+import itertools
 import math
+import numbers
 import operator
 import os
 import queue
+import sys
 import threading
 import time
+import weakref
 from ctypes import POINTER, byref, c_size_t, c_uint8, c_uint16, c_uint32, c_uint64, c_void_p
-from typing import Any, Iterable, Iterator, NamedTuple
+from typing import Any, Iterator, NamedTuple
 
-from cvec_records import IN_C, has_mask, numpy
+from cvec_records import IN_C, has_mask, numbers_of, numpy
 
 MOST_SEATS = 64
+MOST_GROWTHS = 536_870_904
 GREATEST_ROW = 256
 _GREATEST = 2 ** 64 - 1
-# How many rows a search reads at once.
+# The status of C for a flag that is neither 0 nor 1: here a ValueError.
+_NO_RECORD = 13
+# How many rows a search reads at once, and how many records a loop, or a slice with a step where C copies them.
 _PIECE = 4096
+_COPIED = 65536
+# C copies pieces that have fewer bytes than this in the mean: an array for each would take longer. Of so many that is asked at once.
+_SHORT = 32768
+_ASKED = 64
 
 
 class Status(enum.IntEnum):
@@ -72,23 +85,40 @@ class _Receipt(ctypes.Structure):
     _fields_ = [("number", c_uint64), ("start", c_uint64), ("len", c_uint64), ("serial", c_uint64), ("seat", c_uint16)]
 
 
+class _Options(ctypes.Structure):
+    _fields_ = [("version", c_uint8), ("seats", c_uint16), ("growths", c_uint64)]
+
+
+class _Piece(ctypes.Structure):
+    _fields_ = [("start", c_uint64), ("records", c_void_p), ("len", c_uint64)]
+
+
+# How many pieces are asked for at once.
+_PIECES = 256
+
+
 def _library() -> ctypes.CDLL:
     beside = os.path.join(os.path.dirname(os.path.abspath(__file__)), "libcvec.so")
     lib = ctypes.CDLL(os.environ.get("CVEC_VECTOR_LIBRARY", beside), use_errno=True)
     answers = {
-        "create_as": [POINTER(c_void_p), ctypes.c_char_p, c_uint32, c_uint8, c_uint16],
-        "open_as": [POINTER(c_void_p), ctypes.c_char_p, c_uint32, c_uint16],
+        "create_with": [POINTER(c_void_p), ctypes.c_char_p, c_uint32, POINTER(_Options)],
+        "open_with": [POINTER(c_void_p), ctypes.c_char_p, c_uint32, POINTER(_Options)],
         "close": [c_void_p],
         "take_seat": [c_void_p, POINTER(c_void_p)],
         "close_seat": [c_void_p],
         "grow_records": [c_void_p, c_void_p, c_size_t, POINTER(_Receipt)],
         "await": [c_void_p, c_uint64],
         "await_for": [c_void_p, c_uint64, c_uint64],
-        "run_flusher": [c_void_p, c_uint64],
+        "flush": [c_void_p],
         "stop_flusher": [c_void_p],
         "settled": [c_void_p, POINTER(c_uint64)],
         "size": [c_void_p, POINTER(c_uint64)],
         "read_records": [c_void_p, c_uint64, c_void_p, c_size_t, POINTER(c_uint64)],
+        "pieces": [c_void_p, c_uint64, POINTER(_Piece), c_size_t, POINTER(c_size_t)],
+        "block": [c_void_p, c_size_t, POINTER(c_void_p)],
+        "publish": [c_void_p, POINTER(_Receipt)],
+        "drop": [c_void_p],
+        "compact": [c_void_p],
         "change_records": [c_void_p, c_uint64, c_void_p, c_size_t],
         "resize_by": [c_void_p, c_uint64, ctypes.c_char_p],
         "clear": [c_void_p],
@@ -112,19 +142,52 @@ class Error(Exception):
     """A refusal: its `status`, and the `errno` of the system's call that failed, else 0. Nothing was grown."""
 
     def __init__(self, status: int, text: str = "", errno: int = 0) -> None:
-        self.status, self.errno = Status._value2member_map_.get(status, status), errno
         text = text or _LIB.cvec_vector_status_text(status).decode()
         super().__init__(f"{text}: {os.strerror(errno)}" if errno else text)
+        self.status, self.errno = Status._value2member_map_.get(status, status), errno
 
     def __reduce__(self) -> Any:
         """With the status: `pickle` passes the text alone to another process, of which no Error is made."""
-        return type(self), (self.status, *self.args), self.__dict__
+        return type(self), (self.status, *self.args), self._state()
+
+    def _state(self) -> dict[str, Any]:
+        return self.__dict__
 
 
-def _pass(status: int) -> None:
+class FileError(Error, OSError):
+    """The system refused a call of the file: an OSError too, with `errno` and `filename`."""
+
+    def __init__(self, status: int, text: str = "", errno: int = 0, filename: Any = None) -> None:
+        super().__init__(status, text, errno)
+        self.strerror, self.filename = os.strerror(errno) if errno else None, filename
+
+    def _state(self) -> dict[str, Any]:
+        return {**self.__dict__, "errno": self.errno, "strerror": self.strerror, "filename": self.filename}
+
+    def __str__(self) -> str:
+        return f"{self.args[0]}: {self.filename!r}"
+
+
+class MissingFileError(FileError, FileNotFoundError):
+    """There is no such file or folder."""
+
+
+class DeniedFileError(FileError, PermissionError):
+    """This user may not open it."""
+
+
+# By what Python makes of an errno.
+_KINDS = {FileNotFoundError: MissingFileError, PermissionError: DeniedFileError}
+
+
+def _pass(status: int, vector: Vector) -> None:
     """To be asked right behind the call that answered it."""
-    if status != 0:
-        raise Error(status, errno=ctypes.get_errno() if status in _OF_SYSTEM else 0)
+    if status == 0:
+        return
+    if status not in _OF_SYSTEM:
+        raise Error(status)
+    errno = ctypes.get_errno()
+    raise _KINDS.get(type(OSError(errno, "")), FileError)(status, errno=errno, filename=vector.path)
 
 
 def _closed() -> Error:
@@ -137,6 +200,11 @@ def _milliseconds(seconds: float) -> int:
     return math.ceil(min(seconds * 1000, 2.0 ** 60))
 
 
+def _seconds(every: float) -> float:
+    """Between two commits of a flusher."""
+    return max(_milliseconds(every), 1) / 1000
+
+
 def _name_of(path: Any) -> bytes:
     """The path as C has it."""
     name = os.fsencode(path)
@@ -146,7 +214,8 @@ def _name_of(path: Any) -> bytes:
 
 
 # The types of records by their names, as C numbers them, and as `array` has them.
-_TYPES = {"u32": (0, "I"), "u64": (1, "Q"), "i64": (2, "q"), "pair": (3, None), "flagged": (4, None)}
+_NUMBERS = numbers_of(_LIB)
+_TYPES = {name: (_NUMBERS[name], code) for name, code in (("u32", "I"), ("u64", "Q"), ("i64", "q"), ("pair", None), ("flagged", None))}
 
 
 class _Records:
@@ -157,8 +226,11 @@ class _Records:
     def __init__(self, name: str) -> None:
         if name not in _TYPES:
             raise ValueError(f"there is no type {name} of records")
-        self.number, self._code = _TYPES[name]
+        self.name, (self.number, self._code) = name, _TYPES[name]
         self._form = IN_C[name]
+        self.dtype = self._form.dtype
+        # Of a word in memory, which is a record.
+        self.width = self._form.width
         if numpy is None and self._code is None:
             raise ValueError(f"records of {name} need numpy")
 
@@ -187,6 +259,34 @@ class _Records:
             return array.array(self._code, bytes(self._form.width * count))
         return numpy.empty(count, dtype=self._form.dtype)
 
+    def are_cast(self, dtype: Any) -> bool:
+        """Whether records are numbers, and are written to an array of this dtype, one of other numbers."""
+        return dtype.kind in "biufc" and self._form.is_number and dtype != self._form.dtype
+
+    def seen(self, memory: Any) -> Any:
+        """The records that this memory has, which they keep."""
+        return memoryview(memory).cast("B").cast(self._code) if numpy is None else memory.view(self._form.dtype)
+
+    def fill(self, rows: Any, at: int, records: Any) -> None:
+        """Copies records into those that are seen so, from there on."""
+        rows[at:at + len(records)] = records
+
+    def has(self, vector: Vector, record: Any) -> bool:
+        """Whether a record of the vector equals this. C finds those that are of the type."""
+        if self._form.is_number and isinstance(record, numbers.Real):
+            return self._has_number(vector, record)
+        try:
+            return vector.find(record) is not None
+        except ValueError:
+            return any(record in rows for rows in vector._lists())
+
+    def _has_number(self, vector: Vector, number: Any) -> bool:
+        """It equals none but a whole one of the type."""
+        try:
+            return int(number) == number and vector.find(int(number)) is not None
+        except (ValueError, OverflowError):
+            return False
+
     def places(self, room: Any) -> Any:
         """What `put` writes to, so that it is written in the array."""
         return room
@@ -206,38 +306,89 @@ class _Records:
     def one(self, rows: Any) -> Any:
         return rows[0] if isinstance(rows, array.array) else rows[0].item()
 
-    def each(self, rows: Any) -> Iterable[Any]:
+    def each(self, rows: Any) -> list[Any]:
+        """The records, of which none is in the memory of these."""
         return rows.tolist()
+
+
+def _is_kept(there: Any, value: Any) -> bool:
+    """Whether a field has this value, as Python has it."""
+    if isinstance(there, (tuple, list, numpy.ndarray)):
+        return len(there) == len(value) and all(map(_is_kept, there, value))
+    return bool(there == value or there != there and value != value)
 
 
 class _Rows:
     """Records of a type of numpy: each is a row of words of u64, with the bytes that it has in memory."""
 
-    number = _TYPES["u64"][0]
+    number, width = _TYPES["u64"][0], 8
 
     def __init__(self, dtype: Any) -> None:
         if numpy is None:
             raise ValueError("a dtype needs numpy")
+        if isinstance(dtype, str) and dtype in _TYPES:
+            raise ValueError(f"{dtype} is no dtype: pass it as type={dtype!r}")
         self.dtype = numpy.dtype(dtype)
-        width = self.dtype.itemsize
+        self.name, width = str(self.dtype), self.dtype.itemsize
         if self.dtype.hasobject or self.dtype.subdtype is not None:
             raise ValueError(f"no records of {self.dtype} can be kept")
         if width % 8 != 0 or not 8 <= width <= GREATEST_ROW:
             raise ValueError(f"a record takes {width} bytes: it has to be a multiple of 8 up to {GREATEST_ROW}")
         self.words = width // 8
         # A record as bytes alone: of one with fields numpy copies these, and not what is between them.
-        self._raw = f"V{width}"
+        self._raw = numpy.dtype(f"V{width}")
+
+    def _of_tuples(self, records: Any) -> Any:
+        """An array of records that are tuples of a value for each field, if it has just these."""
+        fault: Exception | None = None
+        try:
+            records = list(records)
+            rows = numpy.zeros(len(records), dtype=self.dtype)
+            if self.dtype.names and all(isinstance(it, tuple) for it in records):
+                with numpy.errstate(all="ignore"):
+                    rows[:] = records
+                if all(map(_is_kept, rows.tolist(), records)):
+                    return rows
+        # As numpy 1 warns where a number is outside a field.
+        except (TypeError, ValueError, OverflowError, DeprecationWarning) as it:
+            fault = it
+        raise ValueError(f"no records of the type: neither an array of {self.dtype} with one dimension, and no mask, nor tuples of it") from fault
 
     def lend(self, records: Any) -> tuple[Any, Any, int]:
-        if not isinstance(records, numpy.ndarray) or has_mask(type(records)) or records.dtype != self.dtype or records.ndim != 1:
+        if not isinstance(records, numpy.ndarray):
+            records = self._of_tuples(records)
+        if has_mask(type(records)) or records.dtype != self.dtype or records.ndim != 1:
             raise ValueError(f"no records of the type: not an array of {self.dtype} with one dimension, and no mask")
         row = numpy.asarray(records).view(self._raw)
         if not row.flags.c_contiguous or _address_of(row) % 8 != 0:
             row = row.copy()
         return row, _address_of(row), len(row) * self.words
 
+    def are_cast(self, dtype: Any) -> bool:
+        return dtype.kind in "biufc" and self.dtype.kind in "biufc" and dtype != self.dtype
+
+    def seen(self, memory: Any) -> Any:
+        return memory.view(self.dtype)
+
     def room(self, count: int) -> Any:
         return numpy.empty(count, dtype=self.dtype)
+
+    def fill(self, rows: Any, at: int, records: Any) -> None:
+        if rows.dtype == self.dtype:
+            rows, records = rows.view(self._raw), records.view(self._raw)
+        rows[at:at + len(records)] = records
+
+    def has(self, vector: Vector, record: Any) -> bool:
+        """By the values: those of some types are equal though their bytes aren't."""
+        if isinstance(record, tuple):
+            try:
+                record = self._of_tuples([record])[0]
+            except ValueError:
+                return False
+        if isinstance(record, numpy.generic) and (record.dtype == self.dtype or self._is_of_type(record.dtype)):
+            seat = vector.seat()
+            return seat._run(seat._has_by, record)
+        return any(it == record for it in vector)
 
     def places(self, room: Any) -> Any:
         return memoryview(room.view(numpy.uint8))
@@ -252,6 +403,8 @@ class _Rows:
                 return record.tobytes()
             if self._is_of_type(record.dtype):
                 return numpy.array(record, dtype=self.dtype).tobytes()
+        if isinstance(record, tuple):
+            return self._of_tuples([record]).tobytes()
         raise ValueError(f"no record of the type: not one of {self.dtype}")
 
     def _is_of_type(self, dtype: Any) -> bool:
@@ -268,12 +421,123 @@ class _Rows:
     def one(self, rows: Any) -> Any:
         return rows[0]
 
-    def each(self, rows: Any) -> Iterable[Any]:
-        return rows
+    def each(self, rows: Any) -> Any:
+        """A copy of what is lent: a record with fields shows the memory that it is of."""
+        if rows.flags.writeable:
+            return rows
+        room = self.room(len(rows))
+        self.fill(room, 0, rows)
+        return room
 
 
 def _address_of(room: Any) -> int:
     return room.buffer_info()[0] if isinstance(room, array.array) else room.__array_interface__["data"][0]
+
+
+# ---- what is lent
+
+def _unseen_by_cycles() -> Any:
+    """What takes an object out of the collection of cycles, where Python has that."""
+    try:
+        call = ctypes.pythonapi["PyObject_GC_UnTrack"]
+    except AttributeError:
+        return lambda it: None
+    call.argtypes, call.restype = [ctypes.py_object], None
+    return call
+
+
+_UNSEEN = _unseen_by_cycles()
+
+
+class _Loan:
+    """Memory of a vector is lent as long as one lives, which what is made of that memory keeps. The collection of cycles doesn't
+    see it: so it ends once nobody can reach that memory, and not while others of a cycle, at their end, may look there. Nor does
+    the lender end before it, whose weak references would be cleared with a cycle."""
+
+    __slots__ = ("__weakref__", "_lender")
+
+    def __init__(self, lender: _Lender) -> None:
+        _UNSEEN(self)
+        self._lender = lender
+
+
+class _Lender:
+    """Counts what is lent of C's vector, by weak references: at the end of one no code of Python runs, which an interrupt could
+    end. It may outlive Python's vector, and closes C's then."""
+
+    def __init__(self) -> None:
+        # Of the loans that live. Each is added under the gate of a seat, so who has all gates sees it.
+        self.loans: set[weakref.ref[_Loan]] = set()
+        # The same, once Python's vector is gone.
+        self._left: set[weakref.ref[_Loan]] = set()
+
+    def lend(self) -> _Loan:
+        """For who has the gate of a seat."""
+        loan = _Loan(self)
+        self.loans.add(weakref.ref(loan, self.loans.discard))
+        return loan
+
+    def leave(self, *closes: Any) -> None:
+        """Nobody calls C's vector any more: these calls close it when the last of what is lent has its end."""
+        left, calls = self._left, {0: closes}
+
+        def end(loan: weakref.ref[_Loan]) -> None:
+            left.discard(loan)
+            # Of two threads one has the calls.
+            for close in calls.pop(0, ()) if not left else ():
+                close()
+
+        # Others may have their end meanwhile: the first one has it here.
+        loans = [_Loan(self), *(it() for it in list(self.loans))]
+        left.update(weakref.ref(it, end) for it in loans if it is not None)
+
+
+class _Memory:
+    """Memory at an address, for an array of numpy, which keeps the loan."""
+
+    __slots__ = ("__array_interface__", "_loan")
+
+    def __init__(self, at: int, size: int, is_written: bool, loan: _Loan) -> None:
+        self.__array_interface__ = {"version": 3, "data": (at, not is_written), "shape": (size,), "typestr": "|u1"}
+        self._loan = loan
+
+
+def _memory_at(at: int, size: int, is_written: bool, loan: _Loan) -> Any:
+    """So many bytes there, as `seen` takes them."""
+    if numpy is not None:
+        return numpy.asarray(_Memory(at, size, is_written, loan))
+    memory = (c_uint8 * size).from_address(at)
+    memory.loan = loan
+    return memory
+
+
+def _own_memory(size: int) -> Any:
+    """So many bytes of 0, as `seen` takes them."""
+    return (c_uint8 * size)() if numpy is None else numpy.zeros(size, dtype=numpy.uint8)
+
+
+# What counts references, if they are counted exactly, and one that nobody else has.
+_COUNT = getattr(sys, "getrefcount", None) if getattr(sys, "_is_gil_enabled", lambda: True)() else None
+_PROBE = [object()]
+
+
+def _references(held: list[Any]) -> int:
+    """How many there are to what this list has, but for the list's own."""
+    return sys.maxsize if _COUNT is None else _COUNT(held[0]) - _COUNT(_PROBE[0])
+
+
+def _end_writing(rows: list[Any], memory: list[Any]) -> bool:
+    """Each list has the only reference here to what it has. The rows can't be written from then on. Whether nothing else could
+    write the memory: of numpy's arrays the rows alone are made of it, under one name at most, of memoryviews none."""
+    if numpy is not None:
+        rows[0].flags.writeable = memory[0].flags.writeable = False
+        return _references(rows) <= 1 and _references(memory) <= 1
+    try:
+        rows.pop().release()
+    except BufferError:
+        return False
+    is_there = weakref.ref(memory.pop())
+    return is_there() is None
 
 
 class Receipt(NamedTuple):
@@ -309,6 +573,8 @@ class Seat(_Single):
         # Who has the turn, and whether no other comes.
         self._thread, self._ends = 0, False
         self._last = -1
+        # The loan of the block that C's seat has, if it has one.
+        self._block: weakref.ref[_Loan] | None = None
 
     @property
     def closed(self) -> bool:
@@ -317,6 +583,10 @@ class Seat(_Single):
 
     def _call(self, function: Any, *words: Any) -> None:
         """Calls the library by the seat, alone."""
+        _pass(self._run(function, *words), self._vector)
+
+    def _run(self, function: Any, *words: Any) -> Any:
+        """What this answers of C's seat, alone."""
         vector, mark = self._vector, object()
         vector._check_process()
         try:
@@ -329,7 +599,7 @@ class Seat(_Single):
                     raise _closed()
                 if not self._handle:
                     vector._take_handle(self)
-                _pass(function(self._handle, *words))
+                return function(self._handle, *words)
         finally:
             # No interrupt comes in between.
             if self._turn == {0: mark}:
@@ -351,19 +621,32 @@ class Seat(_Single):
 
     def grow(self, records: Any) -> Receipt:
         """Grows the vector by these records, as one block behind all that was grown before: all of them or none. Other threads
-        read them when it returns; they are durable once they are settled. Nobody changes an array meanwhile. Once in 1,048,568
-        growths it settles all that was grown, while other calls wait. ValueError: not all are records of the vector. Error EMPTY: none; TOO_LARGE:
-        more than 1,048,568 bytes; BROKEN."""
+        read them when it returns; they are durable once they are settled. Nobody changes an array meanwhile. Where a phase
+        has no more room it settles all that was grown, while other calls wait. ValueError: not all are records of the vector.
+        Error EMPTY: none; TOO_LARGE: more than 1,048,568 bytes; FULL: no more room, and records are lent; BROKEN."""
         return self._grow_noted(records, _Receipt())
 
     def _grow_noted(self, records: Any, receipt: _Receipt) -> Receipt:
         """As `grow`. The receipt has a length from the growth on, whatever interrupts this."""
         held, at, count = self._form.lend(records)
         try:
-            self._call(self._grow_by, at, count, receipt)
+            self._grow_words(at, count, receipt)
         finally:
             # A traceback must not keep an array from being resized.
             del held
+        return self._told(receipt)
+
+    def _grow_words(self, at: Any, count: int, receipt: _Receipt) -> None:
+        """Where C takes no more growths since some were lent, none of which lives, room is made: C doesn't know that of them."""
+        while True:
+            rooms = self._vector._rooms
+            try:
+                return self._call(self._grow_by, at, count, receipt)
+            except Error as refusal:
+                if refusal.status != Status.FULL or not self._vector._make_room(rooms):
+                    raise
+
+    def _told(self, receipt: _Receipt) -> Receipt:
         return Receipt(receipt.number, receipt.start // self._form.words, receipt.len // self._form.words)
 
     def _await_by(self, handle: c_void_p, number: int, *limit: int) -> int:
@@ -408,6 +691,147 @@ class Seat(_Single):
             self._call(_LIB.cvec_vector_read_records, start * words, _address_of(room), len(room) * words, byref(done))
         return room[:done.value // words]
 
+    def _size_by(self, handle: c_void_p) -> int:
+        size = c_uint64()
+        _pass(_LIB.cvec_vector_size(handle, byref(size)), self._vector)
+        return size.value // self._form.words
+
+    def _read_by(self, handle: c_void_p, start: int, room: Any) -> None:
+        """Copies the records from there on, of which there are as many as these."""
+        words, done = self._form.words, c_uint64()
+        _pass(_LIB.cvec_vector_read_records(handle, start * words, _address_of(room), len(room) * words, byref(done)), self._vector)
+
+    def _one_by(self, handle: c_void_p, key: int) -> Any:
+        size, room = self._size_by(handle), self._form.room(1)
+        try:
+            self._read_by(handle, range(size)[key], room)
+        except IndexError:
+            raise IndexError(f"there is no position {key} of {size}") from None
+        return self._form.one(room)
+
+    def _slice_by(self, handle: c_void_p, key: slice) -> Any:
+        """A copy of these records, by one pass over them: nobody shortens the vector meanwhile. What is in a row C copies."""
+        positions = range(self._size_by(handle))[key]
+        room, is_row = self._form.room(len(positions)), abs(positions.step) == 1
+        if is_row and positions:
+            self._read_by(handle, min(positions[0], positions[-1]), room)
+        elif positions:
+            self._copy_by(handle, positions, memoryview(room) if numpy is None else room)
+        return room[::-1] if is_row and positions.step < 0 else room
+
+    def _cast_by(self, handle: c_void_p, dtype: Any) -> Any:
+        """All records as numbers of this dtype."""
+        positions = range(self._size_by(handle))
+        rows = numpy.empty(len(positions), dtype=dtype)
+        self._copy_by(handle, positions, rows)
+        return rows
+
+    def _copy_by(self, handle: c_void_p, positions: range, rows: Any) -> None:
+        """Those that stand first come first."""
+        if positions.step < 0:
+            positions, rows = positions[::-1], rows[::-1]
+        done = 0
+        for part in self._parts(handle, positions):
+            self._form.fill(rows, done, part)
+            done += len(part)
+
+    def _lists_by(self, handle: c_void_p, start: int, stop: int) -> list[Any]:
+        """The records from `start` to before `stop`, as far as the vector reaches, each an object of its own."""
+        return [self._form.each(it) for it in self._parts(handle, range(start, min(stop, self._size_by(handle))))]
+
+    def _has_by(self, handle: c_void_p, record: Any) -> bool:
+        return any((it == record).any() for it in self._parts(handle, range(self._size_by(handle))))
+
+    def _parts(self, handle: c_void_p, positions: range) -> Iterator[Any]:
+        """The records at these positions, which ascend, in arrays one behind the other: where they stand, or as C copies them. For who
+        has the gate until the last of the arrays is gone."""
+        while positions:
+            at = positions[0]
+            for rows in self._long_pieces(handle, positions) or [self._short_pieces(handle, positions)]:
+                chosen = rows[positions[0] - at::positions.step]
+                at, positions = at + len(rows), positions[len(chosen):]
+                yield chosen
+
+    def _long_pieces(self, handle: c_void_p, positions: range) -> list[Any]:
+        """The records from the first of these positions on, to the last one at most, where they stand; none, where pieces are short."""
+        words, width, views = self._form.words, self._form.width, []
+        start, stop = positions[0] * words, (positions[-1] + 1) * words
+        if (stop - start) * width < _SHORT:
+            return views
+        asked = max(1, min(_ASKED, _COPIED // positions.step))
+        pieces, count = (_Piece * asked)(), c_size_t()
+        _pass(_LIB.cvec_vector_pieces(handle, start, pieces, asked, byref(count)), self._vector)
+        last = pieces[count.value - 1]
+        if (min(last.start + last.len, stop) - start) * width >= count.value * _SHORT:
+            self._see(pieces[:count.value], stop, self._vector._lender.lend(), views)
+        return views
+
+    def _short_pieces(self, handle: c_void_p, positions: range) -> Any:
+        """A copy of the records from the first of these positions on: some of those that are taken, and all between them."""
+        part = positions[:max(1, _COPIED // positions.step)]
+        room = self._form.room(part[-1] + 1 - part[0])
+        self._read_by(handle, part[0], room)
+        return memoryview(room) if numpy is None else room
+
+    def _lend_by(self, handle: c_void_p, start: int, stop: int, views: list[Any]) -> int:
+        """Lends the words from `start` to before `stop`."""
+        pieces, count, loan = (_Piece * _PIECES)(), c_size_t(), self._vector._lender.lend()
+        while start < stop:
+            status = _LIB.cvec_vector_pieces(handle, start, pieces, _PIECES, byref(count))
+            if status != 0 or count.value == 0:
+                return status
+            start = self._see(pieces[:count.value], stop, loan, views)
+        return 0
+
+    def _see(self, pieces: list[_Piece], stop: int, loan: _Loan, views: list[Any]) -> int:
+        """Adds what is before `stop` of these, and answers where that ends."""
+        for piece in pieces:
+            length = min(piece.len, stop - piece.start)
+            if length <= 0:
+                return stop
+            view = self._form.seen(_memory_at(piece.records, length * self._form.width, False, loan))
+            views.append(view.toreadonly() if numpy is None else view)
+        return piece.start + length
+
+    def lent(self, start: int = 0, stop: int | None = None) -> list[Any]:
+        """The records from position `start` to before `stop`, as far as the vector reaches, where they stand, without a copy: arrays
+        to be read alone, or memoryviews without numpy, one for each piece in their order. They stay while threads grow. While one
+        of them lives, or what is made of it, calls of the whole vector and the close are a BufferError, and a growth for which a
+        phase has no more room is FULL."""
+        if start < 0:
+            raise ValueError("a position is below 0")
+        words, views = self._form.words, []
+        size = self.size()
+        self._call(self._lend_by, start * words, min(size, size if stop is None else stop) * words, views)
+        return views
+
+    def grow_into(self, count: int) -> Block:
+        """A growth of so many records that are written in place, by a `with` block."""
+        return Block(self, count)
+
+    def _begin_by(self, handle: c_void_p, words: int, block: Block) -> int:
+        """C's seat has one block at a time. What was made of the last one may live: this block gets no memory of C then."""
+        if self._block is not None:
+            if self._block() is not None:
+                return 0
+            _LIB.cvec_vector_drop(handle)
+        at, loan = c_void_p(), self._vector._lender.lend()
+        self._block = weakref.ref(loan)
+        status = _LIB.cvec_vector_block(handle, words, byref(at))
+        if status == 0:
+            block._at, block._loan = at.value, loan
+        else:
+            self._block = None
+        return status
+
+    def _publish_by(self, handle: c_void_p, receipt: _Receipt) -> int:
+        try:
+            return _LIB.cvec_vector_publish(handle, byref(receipt))
+        finally:
+            # An interrupt may come as soon as it has grown.
+            if receipt.len > 0:
+                self._last, self._block = receipt.number, None
+
     def appender(self, capacity: int = 4096) -> Appender:
         """Gathers single records for this seat."""
         return Appender(self, capacity)
@@ -424,18 +848,19 @@ class Seat(_Single):
                 return status
             start += count
 
+    def _find_by(self, handle: c_void_p, record: bytes, start: int, found: list[int]) -> int:
+        """Where C finds none it answers how many there are then: no fewer than before."""
+        place, size = c_uint64(), c_uint64()
+        status = _LIB.cvec_vector_size(handle, byref(size)) or _LIB.cvec_vector_find_record(handle, record, start, byref(place))
+        if status == 0 and place.value < size.value:
+            found.append(place.value)
+        return status
+
     def _close_handle(self) -> None:
-        """For who has the gate."""
-        handle, self._handle = self._handle, None
+        """For who has the gate, and knows that nothing is made of its block."""
+        handle, self._handle, self._block = self._handle, None, None
         if handle:
             _LIB.cvec_vector_close_seat(handle)
-
-    def _give_up(self) -> None:
-        """Closes it when the call that is under way has ended."""
-        self._check_thread()
-        self._ends = True
-        with self._gate:
-            self._close_handle()
 
     def close(self) -> None:
         """Gives it up when the call that is under way has ended: what it grew stays, and another thread may have its place."""
@@ -452,6 +877,71 @@ class Seat(_Single):
                 # As Ctrl-C: it goes on, unless another one has its place.
                 self._ends = self not in self._vector._seats
                 raise
+
+
+class Block(_Single):
+    """A growth in place, which `grow_into` gives. A `with` block has an array of its records, all zeros at first. When it ends the
+    vector grows by them as one growth, as `grow` does and with its refusals, but without a copy; where an exception ends it nothing
+    is grown. ValueError: a flag is neither 0 nor 1. Then the array can't be written any more; without numpy it is a memoryview,
+    which is released. Where something else is made of it that may be written, the growth is a copy. What lives of it is lent."""
+
+    def __init__(self, seat: Seat, count: int) -> None:
+        self._seat, self._count, self._receipt = seat, operator.index(count), _Receipt()
+        if self._count < 0:
+            raise ValueError("a count is below 0")
+        # The memory that C lends, if it does, and what is made of that.
+        self._at, self._loan = 0, None
+        self._memory: list[Any] = []
+        self._rows: list[Any] = []
+
+    @property
+    def receipt(self) -> Receipt | None:
+        """Where the growth stands, once it is made, whatever interrupts that."""
+        return self._seat._told(self._receipt) if self._receipt.len > 0 else None
+
+    def __enter__(self) -> Any:
+        if self._memory:
+            raise ValueError("a block is written once")
+        seat, form = self._seat, self._seat._form
+        words = min(self._count * form.words, _GREATEST)
+        seat._call(seat._begin_by, words, self)
+        size = words * form.width
+        self._memory.append(_own_memory(size) if self._loan is None else _memory_at(self._at, size, True, self._loan))
+        self._rows.append(form.seen(self._memory[0]))
+        return self._rows[0]
+
+    def __exit__(self, kind: Any, *_: Any) -> None:
+        copied = bytes(self._memory[0]) if self._loan is None else None
+        size = self._memory[0].nbytes if numpy is not None else len(self._memory[0])
+        try:
+            is_alone = _end_writing(self._rows, self._memory)
+            if kind is None and not (self._loan is not None and is_alone and self._is_published()):
+                # What it has of C's memory isn't lent any more, unless others have it.
+                copied = ctypes.string_at(self._at, size) if copied is None else copied
+                self._end()
+                self._grow(self._seat._grow_words, copied, size // self._seat._form.width, self._receipt)
+        finally:
+            self._end()
+
+    def _end(self) -> None:
+        self._rows, self._memory, self._loan = [], [None], None
+
+    def _is_published(self) -> bool:
+        """Grows by C's memory. A phase with no more room takes it neither so nor as a copy, unless room is made."""
+        try:
+            self._grow(self._seat._call, self._seat._publish_by, self._receipt)
+        except Error as refusal:
+            if refusal.status != Status.FULL:
+                raise
+        return self._receipt.len > 0
+
+    def _grow(self, call: Any, *words: Any) -> None:
+        try:
+            call(*words)
+        except Error as refusal:
+            if refusal.status == _NO_RECORD:
+                raise ValueError(f"no records of the type: {refusal}") from None
+            raise
 
 
 class Appender(_Single):
@@ -547,41 +1037,150 @@ class _Lease:
             self._places.leave(self.seat)
 
 
+# ---- flushers
+
+# How often a loop looks whether the program ends, in seconds.
+_LOOK = 0.2
+# The threads that are inside such loops.
+_FLUSHING: set[threading.Thread] = set()
+
+
+def _program_goes_on() -> bool:
+    """Whether its main thread does, or another that is no daemon and doesn't flush."""
+    return threading.main_thread().is_alive() or any(
+        it.is_alive() and not it.daemon and it not in _FLUSHING for it in threading.enumerate())
+
+
+class _Loop:
+    """What a loop rests by, and is ended by. It wakes by no lock that its thread may have, and by no code of Python, which an interrupt
+    could end: who has it is given up within any call."""
+
+    def __init__(self) -> None:
+        self.ends = False
+        self._wakes: queue.SimpleQueue[Any] = queue.SimpleQueue()
+
+    def end(self) -> None:
+        self.ends = True
+        self._wakes.put(None)
+
+    def seen(self, owner: Any) -> weakref.ref[Any]:
+        """A reference to this, whose end wakes the loop."""
+        return weakref.ref(owner, self._wakes.put)
+
+    def rest(self, seconds: float) -> None:
+        """No longer than so, and until it is woken. A signal's handler runs meanwhile."""
+        end = time.monotonic() + seconds
+        while not self.ends and _program_goes_on():
+            left = end - time.monotonic()
+            if left <= 0:
+                return
+            with contextlib.suppress(queue.Empty):
+                self._wakes.get(timeout=min(left, _LOOK))
+                return
+
+    def run(self, owner: weakref.ref[Any], every: float) -> None:
+        """It has the owner only while that commits. What is there at the program's end nobody else commits."""
+        thread, is_last = threading.current_thread(), False
+        try:
+            _FLUSHING.add(thread)
+            while not self.ends and not is_last:
+                is_last, it = not _program_goes_on(), owner()
+                if it is None or not it._flush():
+                    return
+                del it
+                self.rest(every)
+        finally:
+            _FLUSHING.discard(thread)
+
+    def run_beside(self, owner: weakref.ref[Any], every: float, faults: list[Exception]) -> None:
+        """In a thread of its own, where nobody is that a fault could come to."""
+        try:
+            self.run(owner, every)
+        except Exception as fault:
+            faults.append(fault)
+
+
+class Flusher(_Single):
+    """A thread that flushes, as `Vector.run_flusher`, from the begin of a `with` block to its end, where it commits once more. Error: a
+    commit was refused."""
+
+    def __init__(self, vector: Vector, every: float) -> None:
+        self._vector, self._every, self._loop = vector, _seconds(every), _Loop()
+        self._thread: threading.Thread | None = None
+        self._faults: list[Exception] = []
+
+    def __enter__(self) -> Flusher:
+        if self._thread is not None:
+            raise ValueError("a flusher begins once")
+        loop = self._loop
+        self._vector._begin_loop(loop)
+        words = loop.seen(self), self._every, self._faults
+        self._thread = threading.Thread(target=loop.run_beside, args=words, name="cvec flusher", daemon=False)
+        self._thread.start()
+        return self
+
+    def __exit__(self, kind: Any, *_: Any) -> None:
+        self._loop.end()
+        # In a forked process there is no such thread.
+        if self._vector._process != _LIB.cvec_vector_process():
+            return
+        self._thread.join()
+        try:
+            for fault in self._faults:
+                raise fault
+            self._flush()
+        except Error:
+            if kind is None:
+                raise
+
+    def _flush(self) -> bool:
+        return self._vector._flush()
+
+
 class Vector(_Single):
-    """A durable vector of a file, which is locked until it is closed; `create` and `open` make one. Threads may share it: each
+    """A durable vector of a file, which is locked until it is closed; `create`, `open` and `open_or_create` make one. Threads may share it: each
     call goes by the seat of its thread. A process that is forked may only close it (FORKED).
 
-    `change`, `resize`, `clear`, `fold`, `count` and `find` are of the whole vector: each waits for calls that are under way, and
-    others wait for it. It settles what was grown, and what it makes is durable when it returns. MEMORY and FILE_FULL lose
-    nothing. DISK_WRITE, DISK_SYNC: the file refused it, and from then on all is BROKEN, reads too."""
+    `change`, `resize`, `clear`, `fold` and `compact` are of the whole vector: each waits for calls that are under way, and others
+    wait for it. It settles what was grown, and what it makes is durable when it returns. BufferError: records are lent, and
+    nothing is done. MEMORY and FILE_FULL lose nothing. DISK_WRITE, DISK_SYNC: the file refused it, and from then on all is BROKEN,
+    reads too."""
 
     _handle: c_void_p | None = None
 
-    def __init__(self, handle: c_void_p, form: _Records | _Rows, limit: int) -> None:
+    def __init__(self, handle: c_void_p, path: Any, form: _Records | _Rows, limit: int) -> None:
         """Not to be called: `create` and `open` do."""
         self._handle, self._form, self._limit, self._process = handle, form, limit, _LIB.cvec_vector_process()
+        self._path = os.fspath(path)
         self._lock, self._local = threading.Lock(), threading.local()
-        # Each has a lock of its own, as long as it runs.
+        # The loops of flushers, and whether none goes on. Who commits in one has a lock of its own.
+        self._loops: set[weakref.ref[_Loop]] = set()
+        self._stopped = False
         self._flushers: list[Any] = []
         # All that aren't closed, and those that nobody has.
         self._seats: list[Seat] = []
         self._places = _Places()
+        self._lender = _Lender()
+        # How often room was made for growths.
+        self._rooms = 0
 
     @classmethod
-    def create(cls, path: Any, seats: int = MOST_SEATS, dtype: Any = None, version: int = 1, type: str = "u64") -> Vector:
+    def create(cls, path: Any, seats: int = MOST_SEATS, dtype: Any = None, version: int = 1, type: str = "u64", *,
+               growths: int | None = None) -> Vector:
         """Makes a file of version 1 or 2, for so many threads at a time: 1 to 64. Its records are of this type: u32, u64, i64,
         pair or flagged, of which the last two are tuples. Or they are of a type of numpy whose width is a multiple of 8 bytes up
-        to 256, each a row of u64. The file has their bytes, and doesn't say which type. Error EXISTS: something is there, and
-        stays."""
+        to 256, each a row of u64. The file has their bytes, and doesn't say which type. `growths`: for so many a phase has room;
+        by default 4,129,776, or 1,048,568 where the system refuses the addresses, and 536,870,904 at most. Error EXISTS: something is
+        there, and stays."""
         if version not in (1, 2):
             raise ValueError("a file has version 1 or 2")
-        return cls._begin(_LIB.cvec_vector_create_as, path, seats, dtype, type, version)
+        return cls._begin(_LIB.cvec_vector_create_with, path, seats, dtype, type, growths, version)
 
     @classmethod
-    def open(cls, path: Any, seats: int = MOST_SEATS, dtype: Any = None, type: str = "u64") -> Vector:
+    def open(cls, path: Any, seats: int = MOST_SEATS, dtype: Any = None, type: str = "u64", *, growths: int | None = None) -> Vector:
         """Opens a file that is there, and reads it. Error IN_USE: it is open, here or elsewhere; UNBORN, NOT_SEGMENT, VERSION,
         WIDTH or DAMAGED: it has no vector of such records. ValueError: its words are no whole records of that dtype."""
-        vector = cls._begin(_LIB.cvec_vector_open_as, path, seats, dtype, type)
+        vector = cls._begin(_LIB.cvec_vector_open_with, path, seats, dtype, type, growths)
         try:
             seat = Seat(vector)
             vector._seats.append(seat)
@@ -595,26 +1194,74 @@ class Vector(_Single):
             raise
 
     @classmethod
-    def _begin(cls, call: Any, path: Any, seats: int, dtype: Any, type: str, *version: int) -> Vector:
+    def open_or_create(cls, path: Any, seats: int = MOST_SEATS, dtype: Any = None, version: int = 1, type: str = "u64", *,
+                       growths: int | None = None) -> Vector:
+        """As `open`, or as `create` where there is no such file, or what a stopped creation leaves."""
+        opens = functools.partial(cls.open, path, seats, dtype, type, growths=growths)
+        try:
+            return opens()
+        except Error as refusal:
+            if refusal.status != Status.UNBORN and not isinstance(refusal, FileNotFoundError):
+                raise
+        try:
+            return cls.create(path, seats, dtype, version, type, growths=growths)
+        except Error as refusal:
+            if refusal.status != Status.EXISTS:
+                raise
+        # Another program has made it meanwhile.
+        return opens()
+
+    @classmethod
+    def _begin(cls, call: Any, path: Any, seats: int, dtype: Any, type: str, growths: int | None, version: int = 0) -> Vector:
+        if isinstance(seats, str):
+            raise TypeError(f"the second argument is how many seats a vector has: a type is passed as type={seats!r}")
         if not 1 <= seats <= MOST_SEATS:
             raise ValueError(f"a vector has 1 to {MOST_SEATS} seats")
+        if growths is not None and not 1 <= operator.index(growths) <= MOST_GROWTHS:
+            raise ValueError(f"a phase has room for 1 to {MOST_GROWTHS} growths")
         if dtype is not None and type != "u64":
             raise ValueError("records of a dtype are rows of u64")
         form = _Records(type) if dtype is None else _Rows(dtype)
-        vector = cls(c_void_p(), form, seats)
+        vector, options = cls(c_void_p(), path, form, seats), _Options(version, seats, growths or 0)
         try:
-            _pass(call(byref(vector._handle), _name_of(path), form.number, *version, seats))
+            _pass(call(byref(vector._handle), _name_of(path), form.number, byref(options)), vector)
             return vector
         except BaseException:
             # An interrupt may come as soon as C has begun it.
             vector.close()
             raise
 
+    @property
+    def path(self) -> str | bytes:
+        """The file's, as it was passed."""
+        return self._path
+
+    @property
+    def closed(self) -> bool:
+        return not self._handle
+
+    @property
+    def dtype(self) -> Any:
+        """That of its arrays; None without numpy."""
+        return self._form.dtype
+
+    @property
+    def shape(self) -> tuple[int]:
+        return (len(self),)
+
+    def __repr__(self) -> str:
+        return f"<Vector {self.path!r} of {self._form.name}{', closed' if self.closed else ''}>"
+
     def __enter__(self) -> Vector:
         return self
 
-    def __exit__(self, *_: Any) -> None:
-        self.close()
+    def __exit__(self, kind: Any, *_: Any) -> None:
+        """What is lent may live by the traceback of an exception. That goes on then, and the vector is closed once nobody has it."""
+        try:
+            self.close()
+        except BufferError:
+            if kind is None:
+                raise
 
     def _check_process(self) -> None:
         """A thread that had a lock when this process was forked never lets go of it here."""
@@ -655,13 +1302,13 @@ class Vector(_Single):
         # Who waits for it comes behind the lock.
         self._places.wake()
         # No interrupt comes in between.
-        heir._handle, heir._last, self._seats[at], seat._handle = seat._handle, seat._last, heir, None
+        heir._handle, heir._last, heir._block, self._seats[at], seat._handle = seat._handle, seat._last, seat._block, heir, None
         self._places.free.append(heir)
 
     def _take_handle(self, seat: Seat) -> None:
         """With the gate of this seat: it has one of C's, from when C has given it on."""
         seat._handle = c_void_p()
-        _pass(_LIB.cvec_vector_take_seat(self._handle, byref(seat._handle)))
+        _pass(_LIB.cvec_vector_take_seat(self._handle, byref(seat._handle)), self)
 
     # ---- the whole vector
 
@@ -683,15 +1330,43 @@ class Vector(_Single):
         with seats.pop()._gate:
             self._behind_gates(seats, call)
 
+    def _check_lent(self) -> None:
+        """For who has all gates. If C's vector were held, C would refuse it too late: behind the close of its seats, and so of the
+        blocks that they have."""
+        if self._lender.loans:
+            raise BufferError("records of the vector are lent: an array or a memoryview of them lives")
+
     def _last(self) -> int:
         """The number of the last growth that has returned, or -1."""
         return max((seat._last for seat in list(self._seats)), default=-1)
 
+    def _end_seats(self) -> None:
+        """Alone, and the lock is held: no call by them comes any more."""
+        self._check_lent()
+        for seat in self._seats:
+            seat._ends = True
+            seat._close_handle()
+
+    def _make_room(self, rooms: int) -> bool:
+        """Where room wasn't made more often than so, does, unless records are lent. Whether there may be room."""
+        def run() -> None:
+            if self._rooms == rooms:
+                self._close_handles()
+                _pass(_LIB.cvec_vector_compact(self._handle), self)
+                self._rooms += 1
+
+        try:
+            self._alone(run)
+        except BufferError:
+            return False
+        return True
+
     def _close_handles(self) -> None:
         """Alone: waits until all that was grown is durable, and closes C's seats. Refused, they stay."""
+        self._check_lent()
         handles = [seat._handle for seat in self._seats if seat._handle]
         if handles and self._last() >= 0:
-            _pass(_AWAIT(handles[0], self._last()))
+            _pass(_AWAIT(handles[0], self._last()), self)
         for seat in self._seats:
             seat._close_handle()
 
@@ -699,7 +1374,7 @@ class Vector(_Single):
         """A call of the whole vector."""
         def run() -> None:
             self._close_handles()
-            _pass(call(self._handle, *words))
+            _pass(call(self._handle, *words), self)
 
         self._alone(run)
 
@@ -737,6 +1412,11 @@ class Vector(_Single):
         """Writes what was changed to its place in the file: a write for each word, after which the vector may become shorter."""
         self._whole(_LIB.cvec_vector_fold)
 
+    def compact(self) -> None:
+        """Puts the records of the growths since the last call of the whole vector behind one another: they take no more memory than
+        themselves then, and as many growths as ever may follow."""
+        self._whole(_LIB.cvec_vector_compact)
+
     def _search(self, row: bytes, start: int, ends: Any) -> None:
         """For rows of several words, which C doesn't search: one call by the seat, beside growths."""
         seat = self.seat()
@@ -746,7 +1426,7 @@ class Vector(_Single):
         """How many records have the bytes of this one. ValueError: it is no record of the vector."""
         row, count, found = self._form.bytes_of(record), c_uint64(), []
         if self._form.words == 1:
-            self._whole(_LIB.cvec_vector_count_record, row, byref(count))
+            self.seat()._call(_LIB.cvec_vector_count_record, row, byref(count))
             return count.value
         self._search(row, 0, lambda places: found.append(len(places)))
         return sum(found)
@@ -754,23 +1434,13 @@ class Vector(_Single):
     def find(self, record: Any, start: int = 0) -> int | None:
         """The first position from `start` on of a record with the bytes of this one. ValueError: it is no record of the vector."""
         row, before = self._form.bytes_of(record), self._words_before(start)
-        if self._form.words == 1:
-            return self._find_record(row, before)
         found: list[int] = []
+        if self._form.words == 1:
+            seat = self.seat()
+            seat._call(seat._find_by, row, before, found)
+            return found[0] if found else None
         self._search(row, before // self._form.words, lambda places: found.extend(places[:1].tolist()) or found)
         return found[0] if found else None
-
-    def _find_record(self, record: bytes, start: int) -> int | None:
-        """C answers how many records there are where it finds none, and from behind them all."""
-        place, size = c_uint64(), c_uint64()
-
-        def run() -> None:
-            self._close_handles()
-            _pass(_LIB.cvec_vector_find_record(self._handle, record, start, byref(place)))
-            _pass(_LIB.cvec_vector_find_record(self._handle, record, _GREATEST, byref(size)))
-
-        self._alone(run)
-        return place.value if place.value < size.value else None
 
     # ---- by the seat of the calling thread
 
@@ -784,19 +1454,42 @@ class Vector(_Single):
         last = self._last()
         self.seat().settle(receipt or (Receipt(last, 0, 0) if last >= 0 else None), timeout)
 
+    def flusher(self, every: float) -> Flusher:
+        """A thread of its own that does what `run_flusher` does, as long as a `with` block lasts."""
+        return Flusher(self, every)
+
     def run_flusher(self, every: float) -> None:
         """For a thread of the caller's, which takes no seat: commits what was grown, and so again and again, so many seconds (at
-        least 0.001) behind the last time, until `stop_flusher` or the close. Error: a commit was refused, which ends it."""
-        limit = _milliseconds(every)
+        least 0.001) behind the last time, until `stop_flusher`, the close, or the end of each thread that isn't a daemon's and doesn't
+        flush. Error: a commit was refused, which ends it."""
+        seconds, loop = _seconds(every), _Loop()
+        self._begin_loop(loop)
+        loop.run(loop.seen(self), seconds)
+
+    def _begin_loop(self, loop: _Loop) -> None:
         self._check_process()
+        with self._lock:
+            if self._handle is None:
+                raise _closed()
+            self._loops.add(weakref.ref(loop, self._loops.discard))
+
+    def _end_loops(self) -> None:
+        """With the lock."""
+        self._stopped = True
+        for loop in filter(None, [it() for it in list(self._loops)]):
+            loop.end()
+
+    def _flush(self) -> bool:
+        """Commits what was grown. Whether it may be asked to again: it isn't closed, and flushers aren't stopped."""
         runs = threading.Lock()
         with runs:
             with self._lock:
-                if self._handle is None:
-                    raise _closed()
+                if self._handle is None or self._stopped:
+                    return False
                 handle = self._handle
                 self._flushers = [it for it in self._flushers if it.locked()] + [runs]
-            _pass(_LIB.cvec_vector_run_flusher(handle, limit))
+            _pass(_LIB.cvec_vector_flush(handle), self)
+        return True
 
     def stop_flusher(self) -> None:
         """Ends the loops of flushers, each that is begun later too. It doesn't wait for them."""
@@ -804,7 +1497,8 @@ class Vector(_Single):
         with self._lock:
             if self._handle is None:
                 raise _closed()
-            _pass(_LIB.cvec_vector_stop_flusher(self._handle))
+            self._end_loops()
+            _pass(_LIB.cvec_vector_stop_flusher(self._handle), self)
 
     def settled(self) -> int:
         """How many growths are durable. It doesn't wait."""
@@ -821,59 +1515,77 @@ class Vector(_Single):
     def __getitem__(self, key: int | slice) -> Any:
         """The record at a position, or a copy of a slice."""
         seat = self.seat()
-        if isinstance(key, slice):
-            return self._slice(seat, key)
-        while True:
-            size = seat.size()
-            try:
-                at = range(size)[key]
-            except IndexError:
-                raise IndexError(f"there is no position {key} of {size}") from None
-            rows = seat.read(at, at + 1)
-            # Else another thread has made it shorter meanwhile.
-            if len(rows) > 0:
-                return self._form.one(rows)
+        return seat._run(seat._slice_by if isinstance(key, slice) else seat._one_by, key)
 
-    def _slice(self, seat: Seat, key: slice) -> Any:
-        """Where another thread makes it shorter meanwhile, that of the shorter one."""
-        while True:
-            positions = range(seat.size())[key]
-            if not positions:
-                return self._form.room(0)
-            first, last = min(positions[0], positions[-1]), max(positions[0], positions[-1])
-            rows = seat.read(first, last + 1)
-            if len(rows) == last + 1 - first:
-                return rows[::positions.step]
+    def __contains__(self, record: Any) -> bool:
+        """Whether a record equals it, as `==` has it."""
+        return self._form.has(self, record)
 
-    def pieces(self, length: int = 65536) -> Iterator[Any]:
+    def __array__(self, dtype: Any = None, copy: bool | None = None) -> Any:
+        """For numpy: a copy of the records. Where `copy` is False they are lent, as one array; ValueError: they stand in several
+        pieces, or have another type."""
+        if copy is not False:
+            seat, wanted = self.seat(), dtype if dtype is None else numpy.dtype(dtype)
+            if wanted is not None and self._form.are_cast(wanted):
+                return seat._run(seat._cast_by, wanted)
+            return self[:] if wanted is None else self[:].astype(wanted, copy=False)
+        rows = self.lent() or [self[:0]]
+        if len(rows) > 1 or dtype is not None and rows[0].dtype != dtype:
+            raise ValueError("the records stand in several pieces, or have another type: a copy is needed")
+        return rows[0]
+
+    def lent(self, start: int = 0, stop: int | None = None) -> list[Any]:
+        """As `Seat.lent`."""
+        return self.seat().lent(start, stop)
+
+    def grow_into(self, count: int) -> Block:
+        """As `Seat.grow_into`."""
+        return self.seat().grow_into(count)
+
+    def pieces(self, length: int = _COPIED) -> Iterator[Any]:
         """The records that there are now, in copies of so many."""
         if length < 1:
             raise ValueError("a piece has at least one record")
         size = len(self)
         return (self.seat().read(at, min(at + length, size)) for at in range(0, size, length))
 
+    def _lists(self, is_reversed: bool = False) -> Iterator[Any]:
+        """The records that there are now, in lists of their own. Between two of them others may change the vector."""
+        size = len(self)
+        starts = range(0, size, _COPIED)
+        for start in reversed(starts) if is_reversed else starts:
+            seat = self.seat()
+            lists = seat._run(seat._lists_by, start, min(start + _COPIED, size))
+            yield from map(reversed, reversed(lists)) if is_reversed else lists
+
     def __iter__(self) -> Iterator[Any]:
         """The records that there are now, one by one."""
-        for piece in self.pieces():
-            yield from self._form.each(piece)
+        return itertools.chain.from_iterable(self._lists())
+
+    def __reversed__(self) -> Iterator[Any]:
+        """The same, the last one first."""
+        return itertools.chain.from_iterable(self._lists(is_reversed=True))
 
     def close(self) -> None:
         """Commits what was grown, waits for the calls that are under way, and closes the file. An Error says that growths nobody
-        has settled may be lost; the vector is closed then too. A forked process lets go of the file alone."""
+        has settled may be lost; the vector is closed then too. BufferError: records are lent, and it goes on. A forked process lets
+        go of the file alone, and what was lent to it stays."""
         if not self._handle:
             return
         if self._process != _LIB.cvec_vector_process():
             handle, self._handle = self._handle, None
             _LIB.cvec_vector_close(handle)
             return
+        for seat in list(self._seats):
+            seat._check_thread()
         with self._lock:
-            for seat in self._seats:
-                seat._give_up()
+            self._behind_gates(list(self._seats), self._end_seats)
             handle, self._handle = self._handle, None
             if handle is None:
                 return
             try:
                 self._places.wake_all()
+                self._end_loops()
                 _LIB.cvec_vector_stop_flusher(handle)
                 for runs in self._flushers:
                     with runs:
@@ -882,7 +1594,16 @@ class Vector(_Single):
                 # As Ctrl-C: nothing is closed yet, and another call closes it.
                 self._handle = handle
                 raise
-            _pass(_LIB.cvec_vector_close(handle))
+            _pass(_LIB.cvec_vector_close(handle), self)
 
-    # Who is inside a call holds the vector, so none is here.
-    __del__ = close
+    def __del__(self) -> None:
+        """Who is inside a call has the vector, so none is here. But what is lent may live: C's is closed with the last of that."""
+        try:
+            self.close()
+        except BufferError:
+            handle, self._handle = self._handle, None
+            # By their addresses: an object of the cycle would stay, and before Python 3.9 all of that.
+            closes = [functools.partial(_LIB.cvec_vector_close_seat, seat._handle.value) for seat in self._seats if seat._handle]
+            for seat in self._seats:
+                seat._ends, seat._handle = True, None
+            self._lender.leave(*closes, functools.partial(_LIB.cvec_vector_close, handle.value))

@@ -10,20 +10,9 @@
 typedef uint32_t check_call(const uint8_t *image, size_t len, cvec_stat *stat, cvec_fault *fault);
 
 static check_call *check_of(const char *type) {
-    if (!strcmp(type, "u8")) return cvec_check_u8;
-    if (!strcmp(type, "u16")) return cvec_check_u16;
-    if (!strcmp(type, "u32")) return cvec_check_u32;
-    if (!strcmp(type, "u64")) return cvec_check_u64;
-    if (!strcmp(type, "i32")) return cvec_check_i32;
-    if (!strcmp(type, "i64")) return cvec_check_i64;
-    if (!strcmp(type, "f32")) return cvec_check_f32;
-    if (!strcmp(type, "f64")) return cvec_check_f64;
-    if (!strcmp(type, "pair")) return cvec_check_pair;
-    if (!strcmp(type, "flagged")) return cvec_check_flagged;
-    if (!strcmp(type, "bytes16")) return cvec_check_bytes16;
-    if (!strcmp(type, "bytes24")) return cvec_check_bytes24;
-    if (!strcmp(type, "bytes32")) return cvec_check_bytes32;
-    if (!strcmp(type, "bytes64")) return cvec_check_bytes64;
+#define CHECK(NAME, name, RECORD, WIDTH) \
+    if (strcmp(type, #name) == 0) return cvec_check_##name;
+    CVEC_TYPES(CHECK)
     return NULL;
 }
 
@@ -47,7 +36,7 @@ static uint8_t *bytes_of(const char *path, size_t *len) {
 
 static void tell_fault(uint32_t status, const cvec_fault *fault) {
     printf("refused: %s", cvec_status_text(status));
-    if (status == CVEC_VERSION || status == CVEC_WIDTH) printf(" %" PRIu32, fault->found);
+    if (status == CVEC_VERSION || status == CVEC_WIDTH) printf(": %" PRIu32, fault->found);
     if (status == CVEC_DAMAGED) printf(" at %" PRIu64 ": %s", fault->at, cvec_cause_text(fault->cause));
     if (status == CVEC_DAMAGED && fault->cause == CVEC_CAUSE_KIND) printf(" %" PRIu32, fault->found);
     putchar('\n');

@@ -42,11 +42,8 @@ static const struct {
     cvec_type type;
     const void *two;
 } types[] = {
-    {"u8", CVEC_U8, two_u8},                {"u16", CVEC_U16, two_u16},             {"u32", CVEC_U32, two_u32},
-    {"u64", CVEC_U64, two_u64},             {"i32", CVEC_I32, two_i32},             {"i64", CVEC_I64, two_i64},
-    {"f32", CVEC_F32, two_f32},             {"f64", CVEC_F64, two_f64},             {"pair", CVEC_PAIR, two_pair},
-    {"flagged", CVEC_FLAGGED, two_flagged}, {"bytes16", CVEC_BYTES16, two_bytes16}, {"bytes24", CVEC_BYTES24, two_bytes24},
-    {"bytes32", CVEC_BYTES32, two_bytes32}, {"bytes64", CVEC_BYTES64, two_bytes64},
+#define LINE(NAME, name, RECORD, WIDTH) {#name, CVEC_##NAME, two_##name},
+    CVEC_TYPES(LINE)
 };
 
 static void list_bytes(const uint8_t *bytes, size_t len) {

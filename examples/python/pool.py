@@ -4,7 +4,7 @@ does the numbers that aren't there."""
 import sys
 from concurrent.futures import ThreadPoolExecutor
 
-from cvec_vector import Error, Status, Vector
+from cvec_vector import Vector
 
 JOB = 20
 
@@ -21,13 +21,7 @@ def put(vector, numbers):
 
 
 def main(path, count):
-    try:
-        vector = Vector.create(path)
-    except Error as refusal:
-        if refusal.status != Status.EXISTS:
-            raise
-        vector = Vector.open(path)
-    with vector:
+    with Vector.open_or_create(path) as vector:
         done = set(vector[::2])
         left = [it for it in range(1, int(count) + 1) if it not in done]
         print(f"found {len(done)} results", flush=True)

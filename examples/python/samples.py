@@ -7,20 +7,11 @@ import sys
 from array import array
 from concurrent.futures import ThreadPoolExecutor
 
-from cvec_vector import Error, Status, Vector
+from cvec_vector import Vector
 
 SENSORS = 8
 # A sensor, a number and a value: three records of u64.
 SAMPLE = struct.Struct("=QQd")
-
-
-def open_or_create(path):
-    try:
-        return Vector.create(path)
-    except Error as refusal:
-        if refusal.status != Status.EXISTS:
-            raise
-        return Vector.open(path)
 
 
 def measure(vector, sensor, first):
@@ -31,7 +22,7 @@ def measure(vector, sensor, first):
 
 
 def main(path):
-    with open_or_create(path) as vector:
+    with Vector.open_or_create(path) as vector:
         following = [0] * SENSORS
         for sensor, number, _ in SAMPLE.iter_unpack(vector[:].tobytes()):
             following[sensor] = number + 1

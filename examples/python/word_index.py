@@ -5,21 +5,12 @@ import sys
 import zlib
 from concurrent.futures import ThreadPoolExecutor
 
-from cvec_vector import Error, Status, Vector
+from cvec_vector import Vector
 
 
 def record_of(word, text, line):
     """A word of the index: 32 bits of the word's sum, 12 of its text's number, 20 of its line's."""
     return zlib.crc32(word.lower().encode()) << 32 | text << 20 | line
-
-
-def open_or_create(path):
-    try:
-        return Vector.create(path)
-    except Error as refusal:
-        if refusal.status != Status.EXISTS:
-            raise
-        return Vector.open(path)
 
 
 def lines_of(paths):
@@ -37,7 +28,7 @@ def put(vector, text, number, words):
 
 
 def main(index, word, *paths):
-    with open_or_create(index) as vector:
+    with Vector.open_or_create(index) as vector:
         print(f"found {len(vector)} words", flush=True)
         done = {record & 0xFFFFFFFF for record in vector}
         with ThreadPoolExecutor(4) as pool:

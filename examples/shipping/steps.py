@@ -11,6 +11,8 @@ import subprocess
 import sys
 
 STOPPED, USAGE, REFUSED = 1, 2, 3
+# What a shell ends with that finds no such command, or none that may be run: so too at the other end of ssh.
+NO_COMMAND = 126, 127
 NUMBER, BYTES = r"\d+", "|".join(f"[0-9a-f]{{{2 * width}}}" for width in (16, 24, 32, 64))
 FLOAT = r"-?\d+(?:[.]\d+)?(?:e-?\d+)?|-?inf|NaN(?::\d+)?"
 RECORD = rf"(?:-?\d+(?::-?\d+)?|{FLOAT}|{BYTES})"
@@ -44,7 +46,7 @@ def lines_of(command, place):
             child.kill()
             raise
     if child.returncode != 0:
-        status = child.returncode if child.returncode in (USAGE, REFUSED) else STOPPED
+        status = {REFUSED: REFUSED, **dict.fromkeys((USAGE, *NO_COMMAND), USAGE)}.get(child.returncode, STOPPED)
         raise End(status, f"{command[0]} ended with status {child.returncode}")
 
 

@@ -33,11 +33,12 @@ union records {
 };
 
 /* By the numbers of their types. */
-static const char *const names[] = {"u32",     "u64",     "i64", "pair", "flagged", "bytes16", "bytes24",
-                                    "bytes32", "bytes64", "u8",  "u16",  "i32",     "f32",     "f64"};
-static const size_t in_file[] = {4, 8, 8, 16, 9, 16, 24, 32, 64, 1, 2, 4, 4, 8};
-static const size_t in_c[] = {4, 8, 8, 16, sizeof(cvec_flagged), sizeof(cvec_bytes16), sizeof(cvec_bytes24),
-                              sizeof(cvec_bytes32), sizeof(cvec_bytes64), 1, 2, 4, sizeof(float), sizeof(double)};
+#define NAME_OF(NAME, name, RECORD, WIDTH) [CVEC_##NAME] = #name,
+#define WIDTH_OF(NAME, name, RECORD, WIDTH) [CVEC_##NAME] = WIDTH,
+#define SIZE_OF(NAME, name, RECORD, WIDTH) [CVEC_##NAME] = sizeof(RECORD),
+static const char *const names[] = {CVEC_TYPES(NAME_OF)};
+static const size_t in_file[] = {CVEC_TYPES(WIDTH_OF)};
+static const size_t in_c[] = {CVEC_TYPES(SIZE_OF)};
 
 static cvec_file files[HANDLES];
 static union records records;
@@ -214,26 +215,6 @@ static unsigned char *bytes_of(const char *path, size_t *len) {
     return bytes;
 }
 
-static uint32_t homes_of(cvec_type type, const unsigned char *image, size_t len, uint64_t *count, cvec_stat *stat,
-                         cvec_fault *fault) {
-    switch (type) {
-    case CVEC_U8: return cvec_homes_u8(image, len, homes, HOMES, count, stat, fault);
-    case CVEC_U16: return cvec_homes_u16(image, len, homes, HOMES, count, stat, fault);
-    case CVEC_U32: return cvec_homes_u32(image, len, homes, HOMES, count, stat, fault);
-    case CVEC_U64: return cvec_homes_u64(image, len, homes, HOMES, count, stat, fault);
-    case CVEC_I32: return cvec_homes_i32(image, len, homes, HOMES, count, stat, fault);
-    case CVEC_I64: return cvec_homes_i64(image, len, homes, HOMES, count, stat, fault);
-    case CVEC_F32: return cvec_homes_f32(image, len, homes, HOMES, count, stat, fault);
-    case CVEC_F64: return cvec_homes_f64(image, len, homes, HOMES, count, stat, fault);
-    case CVEC_PAIR: return cvec_homes_pair(image, len, homes, HOMES, count, stat, fault);
-    case CVEC_FLAGGED: return cvec_homes_flagged(image, len, homes, HOMES, count, stat, fault);
-    case CVEC_BYTES16: return cvec_homes_bytes16(image, len, homes, HOMES, count, stat, fault);
-    case CVEC_BYTES24: return cvec_homes_bytes24(image, len, homes, HOMES, count, stat, fault);
-    case CVEC_BYTES32: return cvec_homes_bytes32(image, len, homes, HOMES, count, stat, fault);
-    default: return cvec_homes_bytes64(image, len, homes, HOMES, count, stat, fault);
-    }
-}
-
 /* Frames and records by what stands in the file, with no copy made by the library. */
 static void tell_image(int by_homes) {
     cvec_type type = type_of();
@@ -243,13 +224,13 @@ static void tell_image(int by_homes) {
     cvec_fault fault = {0, 0, 0};
     cvec_frame frame;
     uint64_t count = 0;
-    uint32_t status = homes_of(type, image, len, &count, &stat, &fault);
+    uint32_t status = cvec_image_homes(type, image, len, homes, HOMES, &count, &stat, &fault);
     if (status != CVEC_DONE) {
         tell(status, &fault);
     } else if (!by_homes) {
         tell_stat(&stat);
         for (uint64_t at = CVEC_FIRST_GATE; at < stat.gate; at = frame.next) {
-            if (cvec_frame_at(image, len, at, stat.version, stat.width, &frame) != CVEC_DONE) exit(2);
+            if (cvec_image_frame(image, len, at, stat.version, stat.width, &frame) != CVEC_DONE) exit(2);
             printf("at %" PRIu64 " kind %u payload %" PRIu32 " growths %" PRIu32 " records %" PRIu32 " first %" PRIu64 "\n", at,
                    frame.kind, frame.payload_len, frame.growths, frame.records, frame.first_record);
         }

@@ -39,7 +39,7 @@ fn is_refused(path: &Path) -> Result<(), Error> {
         let few = file.read(99_998);
         IS_REFUSED.store(false, Ordering::Relaxed);
         let refused = refused.expect_err("no memory was asked for");
-        assert_eq!((refused.status, refused.errno, refused.to_string()), (6, None, "memory".to_string()));
+        assert_eq!((refused.status, refused.errno, refused.to_string()), (6, None, "memory was refused".to_string()));
         assert_eq!(few?, [99_998, 99_999]);
         assert_eq!(file.read(0)?, records);
     }

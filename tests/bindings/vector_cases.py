@@ -2,21 +2,29 @@
 numpy. What a file holds is read by the reader in tests/fuzz, which shares nothing with the library."""
 import array
 import collections
+import contextlib
 import copy
 import ctypes
+import datetime
+import decimal
 import errno
+import fractions
 import gc
+import itertools
 import math
 import multiprocessing
 import os
 import pickle
 import random
 import resource
+import pathlib
 import signal
+import struct
 import subprocess
 import sys
 import threading
 import time
+import tracemalloc
 
 if sys.argv[3:] == ["plain"]:
     sys.modules["numpy"] = None
@@ -144,28 +152,26 @@ def indices_and_slices():
 
 
 def a_slice_beside_a_shrink():
-    """Or a position. The vector becomes shorter once its size was asked for."""
-    row = list(range(100))
-    for at in (slice(-1, -60, -3), slice(None, None, -3), slice(80, 10, -7), slice(-1, -60, -1), slice(-60, None, 3), -1, -30, 99):
-        with Vector.create(PATH) as vector:
+    """Or a position: that of the vector of one moment. The vector is to become shorter once its size was asked for."""
+    library, row = cvec_vector._LIB, list(range(100))
+    size = library.cvec_vector_size
+    for at in (slice(-1, -60, -3), slice(None, None, -3), slice(80, 10, -7), slice(-1, -60, -1), slice(-60, None, 3), slice(None), -1, -30, 99):
+        with Vector.create(PATH, seats=2) as vector:
             vector.grow(row)
-            seat, sizes = vector.seat(), []
-            size = seat.size
+            shrinks = threading.Thread(target=vector.resize, args=(50,))
 
-            def size_before():
-                sizes.append(size())
-                if len(sizes) == 1:
-                    run_all([lambda: vector.resize(50)])
-                return sizes[-1]
+            def size_before(*words):
+                status = size(*words)
+                library.cvec_vector_size = size
+                shrinks.start()
+                shrinks.join(0.05)
+                return status
 
-            seat.size = size_before
-            if isinstance(at, slice):
-                assert list(vector[at]) == row[:50][at], at
-            elif at < 0:
-                assert vector[at] == row[:50][at], at
-            else:
-                has_no(IndexError, lambda: vector[at])
-            assert sizes[:2] == [100, 50]
+            library.cvec_vector_size = size_before
+            found = vector[at]
+            shrinks.join()
+            assert (list(found) if isinstance(at, slice) else found) == row[at], at
+            assert list(vector) == row[:50]
         os.remove(PATH)
 
 
@@ -192,6 +198,10 @@ def what_is_no_record():
         has_no(ValueError, Vector.open, PATH, seats=seats)
     has_no(ValueError, Vector.create, PATH + "2", version=3)
     has_no(ValueError, Vector.create, PATH + "2", seats=0)
+    for growths in (0, -1, 536_870_905, 2 ** 64 + 8):
+        has_no(ValueError, Vector.create, PATH + "2", growths=growths)
+        has_no(ValueError, Vector.open, PATH, growths=growths)
+    has_no(TypeError, Vector.create, PATH + "2", growths=8.0)
     has_no(ValueError, Vector.create, PATH + "\0")
     assert os.listdir(FOLDER) == ["vector.cvec"] and records() == [1, 2, 2 ** 63 - 1, 4]
 
@@ -288,6 +298,47 @@ def rows_of_a_dtype():
         assert b"".join(it.to_bytes(8, "little") for it in records()) == values.tobytes() + values[:1].tobytes()
 
 
+def tuples_for_a_dtype():
+    """Each is a record with just these values, and zeros between its fields; or it is none, and nothing is grown."""
+    form = numpy.dtype([("flag", "?"), ("key", "<u8"), ("small", "<i2"), ("half", "<f4"), ("place", ">f8", 2), ("rest", "V3"), ("name", "S4"), ("when", "<M8[s]"),
+                        ("inner", [("a", "u1"), ("b", "<f8")])], align=True)
+    when = datetime.datetime(2024, 5, 6, 7, 8, 9)
+    good = [(True, GREATEST, -2 ** 15, 0.5, (1.5, -2), b"123", b"ab", when, (255, 2.5)),
+            (0, 0, 2 ** 15 - 1, math.inf, [math.nan, 0], bytes(3), b"", when, (0, 1)),
+            (1, 2 ** 63, 0, math.nan, numpy.array([1, 2]), b"abc", b"abcd", when, (numpy.uint8(7), -0.0))]
+    fields = [struct.pack("<?7xQh2xf", *it[:4]) + struct.pack(">2d", *it[4]) + it[5] + it[6].ljust(4, b"\0") for it in good]
+    with Vector.create(PATH, dtype=form) as vector:
+        assert vector.grow(good) == (0, 0, 3) and vector.grow(iter(good[:1])) == (1, 3, 1)
+        with vector.appender(2) as out:
+            for record in good:
+                out.push(record)
+        vector.change(1, good[2:])
+        assert vector.count(good[0]) == 3 and vector.find(good[2]) == 1 and vector.find(good[2], 3) == 6
+        assert good[0] in vector and good[2] not in vector and (1, 2) not in vector  # a NaN equals nothing
+        raw, width = vector[:].tobytes(), form.itemsize
+        cells = [raw[at:at + width] for at in range(0, len(raw), width)]
+        for cell, wanted in zip(cells, [0, 2, 2, 0, 0, 1, 2]):
+            assert cell.startswith(fields[wanted]), (cell, fields[wanted])
+            # Nothing of what was in memory before is between the fields.
+            assert not any(cell[it] for it in range(1, 8))
+        at = form.names.index
+        bad = [(name, value) for name, values in {"flag": [2, None, "1"], "key": [-1, 2 ** 64, 1.5, "1", None, b"1"], "small": [2 ** 15, -2 ** 15 - 1], "half": [0.1, 1e300, None, "1"],
+                                                  "place": [1.5, (1,), (1, 2, 3), None], "rest": [b"", b"12", b"1234", "123"], "name": [b"abcde", "ab", b"a\0"],
+                                                  "when": [5, "2024"], "inner": [(1,), (256, 1), 5, (1, 2, 3)]}.items() for value in values]
+        for name, value in bad:
+            record = good[0][:at(name)] + (value,) + good[0][at(name) + 1:]
+            for call, *words in ((vector.grow, [good[0], record]), (out.push, record), (vector.change, 0, [record]), (vector.count, record)):
+                has_no(ValueError, call, *words)
+            assert record not in vector
+        for row in (good[0], [good[0][:-1]], [good[0] + (1,)], [list(good[0])], [5], 5, None, b"123", "abc", [()], [good[0], numpy.ma.masked]):
+            has_no(ValueError, vector.grow, row)
+        assert refusal(vector.grow, [])[0] == Status.EMPTY and len(vector) == 7 and vector[:].tobytes() == raw
+    os.remove(PATH)
+    with Vector.create(PATH, dtype="<f8") as vector:
+        for row in ([(1.5,)], [1.5]):
+            has_no(ValueError, vector.grow, row)
+
+
 def rows_with_padding():
     """The bytes between the fields are a record's too: they come along where rows are copied, and are searched for."""
     form = numpy.dtype([("flag", "?"), ("key", "<u8"), ("part", "<u2")], align=True)
@@ -299,6 +350,7 @@ def rows_with_padding():
     with Vector.create(PATH, dtype=form) as vector:
         for row in (rows[::3], rows[::-1], unaligned):
             vector.grow(row)
+        has_no(ValueError, vector.grow, [rows[1]])
         with vector.appender(3) as out:
             for row in rows[:8]:
                 out.push(row)
@@ -495,7 +547,7 @@ def interrupted(library, name):
 def an_interrupt_comes_as_soon_as_c_has_begun():
     """The file is let go of at once, also while a traceback has what was begun. A seat of C isn't lost."""
     library = cvec_vector._LIB
-    for name, call in (("create_as", Vector.create), ("open_as", Vector.open), ("take_seat", Vector.open), ("size", Vector.open)):
+    for name, call in (("create_with", Vector.create), ("open_with", Vector.open), ("take_seat", Vector.open), ("size", Vector.open)):
         interrupted(library, "cvec_vector_" + name)
         try:
             call(PATH, seats=1)
@@ -674,7 +726,8 @@ def the_whole_vector():
         assert refusal(vector.change, 0, range(131072))[0] == Status.TOO_LARGE
         assert vector.find(131070) == 131071 and vector.count(0) == 1
     assert records() == [8, *range(131071)]
-    for call in (lambda: vector.change(0, [1]), lambda: vector.resize(1), vector.clear, vector.fold, lambda: vector.count(1), lambda: vector.find(1)):
+    for call in (lambda: vector.change(0, [1]), lambda: vector.resize(1), vector.clear, vector.fold, vector.compact, lambda: vector.count(1),
+                 lambda: vector.find(1), vector.lent, lambda: vector.grow_into(1)):
         assert refusal(call) == (Status.NOT_SO, "closed")
 
 
@@ -790,7 +843,7 @@ def a_change_that_fails_breaks_it():
     vector.settle()
     _, hard = resource.getrlimit(resource.RLIMIT_FSIZE)
     resource.setrlimit(resource.RLIMIT_FSIZE, (4096, hard))
-    assert refusal(vector.change, 0, [7] * 300) == (Status.DISK_WRITE, "the file can't be written: File too large")
+    assert refusal(vector.change, 0, [7] * 300) == (Status.DISK_WRITE, f"the file can't be written: File too large: {PATH!r}")
     for call in (lambda: vector.grow([1]), vector.settled, lambda: vector.settle(receipt), lambda: vector[0], vector.clear, vector.fold,
                  lambda: vector.change(0, [1]), lambda: vector.resize(1), lambda: vector.count(1), lambda: vector.find(1), vector.close):
         assert refusal(call)[0] == Status.BROKEN
@@ -867,7 +920,903 @@ def a_call_within_a_call_is_refused():
     assert records() == [6]
 
 
-# ---- more growths than C counts
+# ---- what is lent
+
+POINT = [("key", "<u8"), ("place", "<f8"), ("flag", "?"), ("rest", "V7")]
+
+
+def forms():
+    """Of each type of records: the words of `create` for it, and what makes the records of some numbers, as `grow` takes them."""
+    def fields(second):
+        return lambda numbers: [(it, second(it)) for it in numbers]
+
+    def points(numbers):
+        rows = numpy.zeros(len(numbers), dtype=POINT)
+        rows["key"], rows["place"], rows["flag"] = numbers, [it / 2 for it in numbers], [it % 2 for it in numbers]
+        return rows
+
+    yield {"type": "u32"}, list
+    yield {"type": "u64"}, lambda numbers: [GREATEST - it for it in numbers]
+    yield {"type": "i64"}, lambda numbers: [-it for it in numbers]
+    if numpy is not None:
+        yield {"type": "pair"}, fields(lambda it: -it)
+        yield {"type": "flagged"}, fields(lambda it: it % 2 == 0)
+        yield {"dtype": POINT}, points
+        yield {"dtype": "<f8"}, lambda numbers: numpy.array([it / 2 for it in numbers], dtype="<f8")
+
+
+def address_of(rows):
+    return ctypes.addressof(rows.obj) if isinstance(rows, memoryview) else rows.__array_interface__["data"][0]
+
+
+def joined(pieces):
+    return [it for piece in pieces for it in piece.tolist()]
+
+
+def listed(records):
+    return records if isinstance(records, list) else records.tolist()
+
+
+def what_is_lent_stays():
+    """10,000 growths by 4 threads move nothing that was lent before, and each of them is lent at its place, by its address."""
+    for words, make in forms():
+        with Vector.create(PATH, **words) as vector:
+            vector.grow(make(range(10)))
+            vector.grow(make(range(10, 13)))
+            early, told = vector.lent(), []
+
+            def run(name):
+                for turn in range(2500):
+                    first = name * 100000 + turn * 10
+                    receipt = vector.grow(make(range(first, first + 1 + turn % 3)))
+                    rows, = vector.lent(receipt.start, receipt.start + receipt.length)
+                    told.append((receipt.start, first, 1 + turn % 3, address_of(rows)))
+
+            before = [address_of(it) for it in early]
+            run_all([lambda name=name: run(name) for name in range(4)])
+            assert joined(early) == listed(make(range(13))) and [address_of(it) for it in early] == before
+            pieces = vector.lent()
+            assert [address_of(it) for it in pieces[:2]] == before and len(pieces) == 10002
+            starts = itertools.accumulate(map(len, pieces))
+            found = {at: (piece.tolist(), address_of(piece)) for at, piece in zip(itertools.islice(starts, 1, None), pieces[2:])}
+            assert found == {start: (listed(make(range(first, first + length))), at) for start, first, length, at in told}
+            # From any position on, to any other.
+            whole = joined(pieces)
+            for start, stop in ((0, 5), (3, 11), (9, 14), (12, 12), (5, 3), (100, 2000), (len(whole) - 1, len(whole) + 9), (len(whole), None), (2 ** 60, None), (7, None)):
+                assert joined(vector.lent(start, stop)) == whole[start:stop], (start, stop)
+            has_no(ValueError, vector.lent, -1)
+            del early, pieces, starts
+        os.remove(PATH)
+
+
+def what_is_lent_is_read_alone():
+    """Nobody writes the records, nor makes the array writable."""
+    for words, make in forms():
+        with Vector.create(PATH, **words) as vector:
+            vector.grow(make([5, 7]))
+            rows, = vector.lent()
+            has_no(TypeError if numpy is None else ValueError, rows.__setitem__, 0, rows[1])
+            for it in () if numpy is None else (rows, rows[1:], rows.base):
+                has_no(ValueError, it.setflags, True)
+            assert memoryview(rows).readonly and joined([rows]) == joined([vector[:]]) == listed(make([5, 7]))
+            rows = it = None
+        os.remove(PATH)
+
+
+def alone(vector):
+    """What has the vector alone."""
+    return (lambda: vector.change(0, [1]), lambda: vector.resize(0), vector.clear, vector.fold, vector.compact, vector.close)
+
+
+def what_is_lent_holds_the_vector():
+    """Each call of the whole vector, and the close, is refused while an array lives, or a part, a view or a record of one; nothing else
+    is, nor does a refused one do anything."""
+    made = [lambda rows: rows, lambda rows: rows[1:], lambda rows: memoryview(rows)[1:], lambda rows: [rows[1:2], rows[:1]][1]]
+    if numpy is not None:
+        made += [lambda rows: rows.view("u1"), lambda rows: numpy.asarray(memoryview(rows)), lambda rows: rows[:2].reshape(2, 1)]
+    with Vector.create(PATH) as vector:
+        vector.grow([5, 7, 11])
+        for turn, make in enumerate(made):
+            kept = make(vector.lent()[0])
+            before, last = vector.settled(), vector.grow([13])
+            for call in alone(vector):
+                has_no(BufferError, call)
+            assert vector.settled() == before and vector.count(13) == turn + 1 and vector.find(11) == 2 and 7 in vector
+            assert vector.grow([17]) == (last.number + 1, last.start + 1, 1) and len(vector.lent()) > 1
+            del kept
+            vector.fold()
+        vector.change(0, [6])
+        assert vector[0] == 6
+    if numpy is not None:
+        with Vector.create(PATH + "2", type="pair") as pairs:
+            pairs.grow([(1, -1)])
+            kept = pairs.lent()[0][0]
+            has_no(BufferError, pairs.close)
+            assert kept.tolist() == (1, -1)
+            del kept
+
+
+def an_exception_goes_on_where_records_are_lent():
+    """Its traceback has what is lent. The vector is closed, and all of it in the file, once nobody has that."""
+    def run():
+        with Vector.create(PATH) as vector:
+            vector.grow([5, 7])
+            kept = vector.lent()
+            with vector.grow_into(2) as rows:
+                rows[0] = 11
+                raise KeyError
+
+    try:
+        run()
+    except KeyError:
+        assert refusal(Vector.open, PATH)[0] == Status.IN_USE
+    gc.collect()
+    assert records() == [5, 7]
+    with Vector.open(PATH) as vector:
+        assert list(vector) == [5, 7]
+    vector = Vector.open(PATH)
+    kept = vector.lent()
+    has_no(BufferError, vector.__exit__, None, None, None)
+    vector.grow([11])
+    del kept
+    vector.close()
+
+
+def count_and_find_need_nobody_out():
+    """Neither a call that another thread is in, nor what it lends, keeps them; what is grown meanwhile isn't found in place of none."""
+    signal.alarm(60)
+    library = cvec_vector._LIB
+    find = library.cvec_vector_find_record
+    with Vector.create(PATH, seats=2) as vector:
+        vector.grow([5, 7, 5])
+        seats = []
+        goes_on = threading.Event()
+        holder = threading.Thread(target=lambda: (seats.append(vector.seat()), goes_on.wait()))
+        holder.start()
+        while not seats:
+            time.sleep(0.001)
+        with seats[0]._gate:
+            assert (vector.count(5), vector.find(5, 1), vector.find(6), 7 in vector, 8 in vector) == (2, 2, None, True, False)
+
+        def find_late(*words):
+            status = find(*words)
+            seats[0].grow([9])
+            return status
+
+        library.cvec_vector_find_record = find_late
+        assert vector.find(8) is None and vector.find(7) == 1 and len(vector) == 5
+        library.cvec_vector_find_record = find
+        goes_on.set()
+        holder.join()
+        # As `==` has it, also of what is no record.
+        for record, is_there in ((5.0, True), (5.5, False), ("5", False), (None, False), (-1, False), (2 ** 64, False), (True, False)):
+            assert (record in vector) == is_there, record
+        if numpy is not None:
+            assert numpy.uint64(7) in vector and numpy.float64(7) in vector
+    if numpy is not None:
+        with Vector.create(PATH + "2", dtype="<f8") as vector:
+            vector.grow(numpy.array([-0.0, 2.5]))
+            assert 0.0 in vector and numpy.float64(0.0) in vector and 2.5 in vector and numpy.float64(3) not in vector
+
+
+def calls_of_c(names):
+    """Counts the calls of these functions of C from now on."""
+    library, counts = cvec_vector._LIB, collections.Counter()
+
+    def counted(name, call):
+        def run(*words):
+            counts[name] += 1
+            return call(*words)
+        return run
+
+    for name in names:
+        setattr(library, "cvec_vector_" + name, counted(name, getattr(library, "cvec_vector_" + name)))
+    return counts
+
+
+def no_call_is_made_for_each_record():
+    """200,000 records are read by a few calls, whichever way: but in a row, and where a growth is short, C copies none. None of these
+    holds any: a phase goes on."""
+    row = [7 * it % 2 ** 32 for it in range(200000)]
+    counts = calls_of_c(("read_records", "size", "pieces", "at", "find_record"))
+    with Vector.create(PATH, growths=8) as vector:
+        for at in range(0, 200000, 50000):
+            vector.grow(row[at:at + 50000])
+        ways = {
+            "a slice": lambda: vector[5:], "all": lambda: vector[:], "backwards": lambda: vector[::-1], "each second": lambda: vector[1::2],
+            "backwards by three": lambda: vector[199990:7:-3], "few": lambda: vector[3::70000], "one": lambda: vector[3::10 ** 6], "the loop": lambda: list(vector),
+            "the loop backwards": lambda: reversed(vector),
+        }
+        wanted = {
+            "a slice": row[5:], "all": row, "backwards": row[::-1], "each second": row[1::2], "backwards by three": row[199990:7:-3],
+            "few": row[3::70000], "one": row[3::10 ** 6], "the loop": row, "the loop backwards": row[::-1],
+        }
+        if numpy is not None:
+            ways["numpy"], wanted["numpy"] = lambda: numpy.asarray(vector), row
+            ways["doubles"], wanted["doubles"] = lambda: numpy.asarray(vector, dtype="f8"), row
+        for name, read in ways.items():
+            counts.clear()
+            assert list(read()) == wanted[name], name
+            assert sum(counts.values()) <= 12, (name, counts)
+            # What is left at the end may be short.
+            is_copied = name in ("a slice", "all", "backwards", "numpy", "one", "few") or name.startswith("the loop")
+            assert counts["read_records"] == is_copied, (name, counts)
+        counts.clear()
+        assert row[-1] in vector and 1 not in vector and counts["find_record"] == 2 and counts["read_records"] == 0
+        # What a slice has is the caller's own.
+        for it in (vector[:5], vector[::100], vector[4:0:-1]):
+            it[0] = 1
+            if numpy is not None:
+                assert it.flags.writeable
+        assert list(vector[:5]) == row[:5]
+        for number in range(20):
+            vector.grow([number])
+        vector.fold()
+
+
+# So many records have growths of which arrays are seen where they stand, and growths that C copies.
+LENGTHS = [20000, 1, 2, 3, 17, 30000, 5000, *[1] * 300, 100, 70000, 4, *[2] * 90, 33000]
+
+
+def passes_go_over_any_growths():
+    """Slices, loops and arrays of numpy have each record in its place, whether growths are long or short, and its bytes between fields."""
+    by = random.Random(11)
+    for words, make in forms():
+        with Vector.create(PATH, **words) as vector:
+            lengths = LENGTHS if words.get("type", "")[1:] in ("32", "64") else [max(1, it // 10) for it in LENGTHS]
+            for start, length in zip(itertools.accumulate([0, *lengths]), lengths):
+                vector.grow(make(range(start, start + length)))
+            whole = vector[:]
+            size, keys = len(whole), [slice(None, None, step) for step in (2, -1, 3, -7, 1000, -30000, 66000, 10 ** 6)]
+            assert whole.tolist() == listed(make(range(size))) and size == sum(lengths)
+            keys += [slice(by.randrange(-size, size), by.randrange(-size, size), by.choice((1, -1, 2, -2, 9, -64, 5000))) for _ in range(60)]
+            for key in keys:
+                found, wanted = vector[key], whole[key]
+                assert found.tolist() == wanted.tolist(), key
+                assert type(found) is type(wanted) and (numpy is None or found.dtype == wanted.dtype and found.flags.writeable)
+            one = vector[0]
+            for found in (list(vector), [*reversed(vector)][::-1]):
+                assert type(found[0]) is type(one) and [it if numpy is None or type(it) in (int, tuple) else it.tolist() for it in found] == whole.tolist()
+            assert vector[size - 1] in vector and vector[size // 2] in vector
+        os.remove(PATH)
+    if numpy is not None:
+        form = numpy.dtype([("flag", "?"), ("key", "<u8"), ("part", "<u2")], align=True)
+        rows = numpy.frombuffer(bytes(it % 251 if it % 24 else 1 for it in range(24 * 9000)), dtype=form)
+        with Vector.create(PATH, dtype=form) as vector:
+            for at in (0, 4000, 4001, 4010):
+                vector.grow(rows[at:at + 4990])
+            whole = vector[:].tobytes()
+            cells = [whole[at:at + 24] for at in range(0, len(whole), 24)]
+            for step in (1, -1, 3, -7, 500):
+                assert vector[::step].tobytes() == b"".join(cells[::step])
+            for found, wanted in ((vector, cells), (reversed(vector), cells[::-1])):
+                assert b"".join(it.tobytes() for it in found) == b"".join(wanted)
+            # What a loop gives is the caller's own.
+            for record in (next(iter(vector)), next(reversed(vector))):
+                record["key"] = 5
+            assert vector[:].tobytes() == whole
+
+
+def short_growths_are_copied_by_c():
+    """By a few calls: an array for each growth would take longer."""
+    counts = calls_of_c(("read_records", "size", "pieces", "at", "find_record"))
+    with Vector.create(PATH) as vector:
+        for at in range(5000):
+            vector.grow([at])
+        seen, see = [], vector.seat()._see
+        vector.seat()._see = lambda pieces, *words: (seen.extend(pieces), see(pieces, *words))[1]
+        for read, wanted in ((lambda: vector[::2], range(0, 5000, 2)), (lambda: vector[::-3], range(4999, -1, -3)), (lambda: vector, range(5000)), (lambda: reversed(vector), range(4999, -1, -1))):
+            counts.clear()
+            assert list(read()) == list(wanted) and sum(counts.values()) <= 5, counts
+        assert seen == []
+
+
+def what_equals_is_found():
+    """As `==` has it, wherever it stands, without a look at each record where no number equals one."""
+    class Like:
+        def __eq__(self, other):
+            return other == 99999
+
+    counts = calls_of_c(("read_records", "pieces", "find_record"))
+    with Vector.create(PATH) as vector:
+        vector.grow(range(100000))
+        if numpy is not None:
+            for record, is_there in ((numpy.float64(99999), True), (numpy.float32(0.5), False), (numpy.float64("inf"), False), (numpy.int8(-1), False)):
+                assert (record in vector) == is_there and counts["pieces"] == counts["read_records"] == 0, record
+        for record, is_there in ((99999, True), (99999.0, True), (fractions.Fraction(99999), True), (True, True), (99999.5, False), (fractions.Fraction(1, 2), False),
+                                 (-1, False), (2 ** 64, False), (1e300, False), (math.inf, False), (-math.inf, False), (math.nan, False)):
+            counts.clear()
+            assert (record in vector) == is_there and counts["pieces"] == counts["read_records"] == 0, record
+        for record, is_there in ((decimal.Decimal(99999), True), (99999 + 0j, True), (Like(), True), (None, False), ("99999", False), ((99999,), False), (b"9", False)):
+            assert (record in vector) == is_there, record
+
+
+def a_pass_copies_no_more_than_it_takes():
+    """By the memory that Python and numpy ask for: a slice with a step has its own records, an array of other numbers these alone."""
+    with Vector.create(PATH) as vector:
+        for _ in range(10):
+            vector.grow(array.array("Q", bytes(8 * 131000)))
+        ways = [(lambda: vector[::100], 13100 * 8), (lambda: vector[::-100], 13100 * 8), (lambda: any(it for it in vector), 0), (lambda: None in vector, 0)]
+        if numpy is not None:
+            ways += [(lambda: numpy.asarray(vector, dtype="u1"), 1310000), (lambda: vector.__array__("f8", True), 1310000 * 8)]
+        for number, (read, takes) in enumerate(ways):
+            tracemalloc.start()
+            found = read()
+            _, most = tracemalloc.get_traced_memory()
+            tracemalloc.stop()
+            # A loop has the objects of some records at a time.
+            assert most < takes + (65536 * 64 if takes == 0 else 200000), (number, most)
+            del found
+
+
+def nobody_waits_for_what_was_read():
+    """A slice, a loop that is under way and an array of numpy hold nothing, nor do those that are copies of what stands in one piece."""
+    with Vector.create(PATH, growths=8) as vector:
+        vector.grow(range(100000))
+        kept = [vector[::2], vector[::-1], vector[5:], iter(vector), reversed(vector)]
+        if numpy is not None:
+            kept += [numpy.asarray(vector), numpy.asarray(vector, dtype="f8"), vector.__array__(None, True)]
+        assert next(kept[3]) == 0 and next(kept[4]) == 99999
+        for number in range(20):
+            vector.grow([number])
+        vector.change(0, [7] * 100000)
+        vector.fold()
+        vector.clear()
+        assert list(kept[0]) == list(range(0, 100000, 2)) and list(kept[1]) == list(range(99999, -1, -1)) and kept[2][0] == 5
+        # What a loop hasn't come to is that of the vector then.
+        assert next(kept[3]) == 1 and len(list(kept[3])) < 100000 and len(list(kept[4])) < 100000
+        for found in kept[5:]:
+            assert found[99999] == 99999
+
+
+def records_stay_under_a_pass():
+    """A call of the whole vector waits until it has ended; and what an exception within it has is lent as long as that lives."""
+    signal.alarm(60)
+    with Vector.create(PATH, seats=2, version=2, type="u32") as vector:
+        for at in range(0, 200000, 50000):
+            vector.grow(range(at, at + 50000))
+        form, told = vector._form, []
+        fill = form.fill
+        reads = [lambda: vector[::-2], lambda: vector[::2], lambda: vector[::-3]] + ([lambda: numpy.asarray(vector, dtype="f8")] if numpy else [])
+        for turn, read in enumerate(reads):
+            changes = threading.Thread(target=lambda: (vector.change(0, [turn] * 200000), told.append(turn)))
+
+            def fill_late(*words):
+                if not changes.ident:
+                    changes.start()
+                changes.join(0.02)
+                assert len(told) == turn
+                fill(*words)
+
+            form.fill = fill_late
+            assert set(read()) == (set(range(1, 200000, 2)) if turn == 0 else {turn - 1})
+            changes.join()
+            assert set(vector) == {turn}
+
+        def fail(*words):
+            raise KeyError
+
+        form.fill = fail
+        try:
+            vector[::2]
+        except KeyError:
+            has_no(BufferError, vector.fold)
+        else:
+            raise AssertionError("not refused")
+        form.fill = fill
+        vector.fold()
+
+
+def numpy_takes_a_vector():
+    """As numpy 1 and 2 ask."""
+    with Vector.create(PATH) as vector:
+        for copy in (None, True, False):
+            assert vector.__array__(copy=copy).tolist() == [] and vector.__array__(copy=copy).dtype == numpy.uint64
+        vector.grow([5, 7])
+        for rows in (vector.__array__(), vector.__array__("u8"), vector.__array__(dtype=None, copy=None), vector.__array__(copy=True), numpy.asarray(vector), numpy.array(vector)):
+            rows[0] = 1
+            assert rows.tolist() == [1, 7] and vector[0] == 5
+        assert vector.__array__("f4").dtype == numpy.float32 and numpy.asarray(vector, dtype="i2").tolist() == [5, 7] and numpy.asarray(vector, dtype="i2").dtype == numpy.int16
+        assert numpy.asarray(vector, dtype="f8").dtype == float and (numpy.add(vector, 1) == [6, 8]).all()
+        # In one piece it is lent.
+        rows = vector.__array__(copy=False)
+        assert not rows.flags.writeable and address_of(rows) == address_of(vector.lent()[0])
+        has_no(BufferError, vector.fold)
+        del rows
+        has_no(ValueError, vector.__array__, "i2", copy=False)
+        vector.grow([11])
+        has_no(ValueError, vector.__array__, copy=False)
+        vector.compact()
+        assert vector.__array__("u8", False).tolist() == [5, 7, 11]
+    # Bytes between fields come along, also where a slice has a step.
+    form = numpy.dtype([("flag", "?"), ("key", "<u8"), ("part", "<u2")], align=True)
+    with Vector.create(PATH + "2", dtype=form) as vector:
+        rows = numpy.frombuffer(bytes(it % 251 if it % 24 else 1 for it in range(24 * 900)), dtype=form)
+        vector.grow(rows)
+        assert numpy.asarray(vector).tobytes() == rows.tobytes()
+        assert vector[::7].tobytes() == b"".join(it.tobytes() for it in rows[::7]) and rows[3] in vector
+
+
+def each_piece_is_put_behind_the_others():
+    """`compact` leaves the records, makes one array of them, and settles them."""
+    for words, make in forms():
+        with Vector.create(PATH, **words) as vector:
+            for number in range(100):
+                vector.grow(make([number]))
+            assert len(vector.lent()) == 100
+            vector.compact()
+            assert vector.settled() == 100
+            rows, = vector.lent()
+            assert rows.tolist() == listed(make(range(100))) and len(rows) == 100
+            del rows
+            assert vector.grow(make([100])) == (100, 100, 1)
+            assert joined(vector.lent()) == listed(make(range(101)))
+        os.remove(PATH)
+
+
+def grow_and_look(vector, count):
+    for number in range(count):
+        while True:
+            try:
+                vector.grow([number])
+                break
+            except Error as fault:
+                assert fault.status == Status.FULL
+        assert vector.lent()[-1][-1] >= 0
+
+
+def a_room_of_eight():
+    """The ninth growth is refused where an array lives, and goes on where none does any more, or none was lent; `compact` makes room."""
+    for begin in (Vector.create, Vector.open):
+        with begin(PATH, growths=8, seats=3) as vector:
+            first = len(vector)
+            for number in range(100):
+                assert vector.grow([number]) == (number, first + number, 1)
+                assert vector[first] == 0 and list(vector[first:])[-1] == number
+            vector.compact()
+            told = vector.grow([100])
+            early = vector.lent()
+            assert joined(early)[-101:] == list(range(101))
+            for number in range(101, 108):
+                vector.grow([number])
+            with vector.appender(2) as out:
+                out.push(108)
+                out.push(109)
+                for call in (lambda: vector.grow([108]), out.flush):
+                    assert refusal(call) == (Status.FULL, "it takes no more growths while records are lent: compact it")
+                assert out.kept == 2 and len(vector) == first + 108 and joined(early)[-1] == 100
+                has_no(BufferError, vector.compact)
+                del early
+            # Nobody compacts: the growth does.
+            assert vector.settled() >= 108 and vector[-1] == 109 and vector.grow([110]) == (109, first + 110, 1)
+            vector.settle(told)
+            for number in range(111, 131):
+                assert vector.grow([number]).number == number - 1 and len(vector.lent(first)) > 0
+            # By threads too: each that comes to the end of the room finds it made, by another or by itself, where no other reads.
+            run_all([lambda: grow_and_look(vector, 200)] * 2)
+            assert vector.grow([0]).number == 530
+            found = list(vector)
+        counted = collections.Counter(found[first:])
+        assert len(found) == first + 532 and [counted[it] for it in (0, 99, 100, 107, 108, 109, 110, 130, 131, 199)] == [4, 3, 3, 3, 3, 3, 3, 3, 2, 2]
+        assert records() == found
+
+
+def threads_lend_and_change():
+    """What a thread reads where it stands isn't written, moved or freed, though another changes the vector again and again."""
+    ended, changed, refused, begun = threading.Event(), [], [], threading.Barrier(4)
+
+    def look(vector):
+        begun.wait()
+        while not ended.is_set():
+            kept = vector.lent()
+            for _ in range(5):
+                values = {it for piece in kept for it in piece.tolist()}
+                assert len(values) == 1, values
+                time.sleep(0.0002)
+            del kept
+            time.sleep(0.001)
+
+    def change(vector):
+        begun.wait()
+        try:
+            end = time.monotonic() + 30
+            while (len(changed) < 100 or not refused) and time.monotonic() < end:
+                try:
+                    vector.change(0, [len(changed) + 1] * 3000)
+                    changed.append(1)
+                except BufferError:
+                    refused.append(1)
+                    time.sleep(0.0001)
+        finally:
+            ended.set()
+
+    with Vector.create(PATH) as vector:
+        vector.grow([0] * 3000)
+        run_all([lambda: change(vector)] + [lambda: look(vector)] * 3)
+        assert len(changed) >= 10 and refused, (len(changed), len(refused))
+        assert set(vector) == {len(changed)}
+
+
+# ---- its end: a fork, the collection of cycles, the end of the program
+
+# What is reserved for a phase would be filled too: with room for few growths that is little.
+SMALL = {"seats": 2, "growths": 10000}
+
+
+def fill_what_is_freed():
+    """So who reads that finds no records there, where malloc is glibc's (M_PERTURB). Vectors are small from then on."""
+    with contextlib.suppress(AttributeError):
+        ctypes.CDLL(None).mallopt(-6, 165)
+
+
+def a_forked_process_reads_what_was_lent():
+    """It reads, and closes what is its own; the parent's is lent as long as the parent has it, and no longer."""
+    fill_what_is_freed()
+    vector = Vector.create(PATH, **SMALL)
+    vector.grow(range(1000))
+    kept, other = vector.lent(), vector.lent(5, 6)
+    with vector.grow_into(3) as rows:
+        rows[0] = 5
+    child = os.fork()
+    if child == 0:
+        signal.alarm(20)
+        is_read = joined(kept) == list(range(1000)) and refusal(vector.lent)[0] == refusal(vector.fold)[0] == Status.FORKED
+        del other
+        vector.close()
+        is_read = is_read and joined(kept) == list(range(1000))
+        del kept, rows
+        gc.collect()
+        os._exit(0 if is_read else 1)
+    assert os.waitpid(child, 0)[1] == 0
+    for call in alone(vector):
+        has_no(BufferError, call)
+    assert joined(kept) == list(range(1000)) and other[0][0] == 5
+    del kept, other, rows
+    vector.change(0, [1])
+    vector.close()
+    assert records() == [1, *range(1, 1000), 5, 0, 0]
+
+
+def what_is_lent_outlives_the_vector():
+    """Nobody has the vector any more: the file is closed, and has all, with the last that is lent."""
+    fill_what_is_freed()
+    kept = Vector.create(PATH, **SMALL).lent()
+    gc.collect()
+    assert kept == [] and len(records()) == 0
+    vector = Vector.open(PATH, **SMALL)
+    vector.grow([5, 7])
+    vector.grow([11])
+    kept = vector.lent()
+    block = vector.grow_into(2)
+    with block as rows:
+        rows[0] = 13
+    del vector, block
+    gc.collect()
+    assert refusal(Vector.open, PATH, **SMALL)[0] == Status.IN_USE and joined(kept[:2]) == [5, 7, 11]
+    part = kept.pop(0)[1:]
+    del kept, rows
+    assert refusal(Vector.open, PATH, **SMALL)[0] == Status.IN_USE and part[0] == 7
+    del part
+    with Vector.open(PATH, **SMALL) as vector:
+        assert list(vector) == [5, 7, 11, 13, 0]
+
+
+class Reader:
+    """Is part of a cycle with what is lent, and looks at that at its end."""
+
+    ends = []
+
+    def __init__(self, vector, has_vector):
+        self.pieces, self.me = vector.lent(), self
+        if has_vector:
+            self.vector, vector.reader = vector, self
+
+    def __del__(self):
+        self.ends.append(joined(self.pieces))
+
+
+def cycles_of_what_is_lent_are_collected():
+    """Without numpy the vector may be one of the cycle. What stands there is read as long as anything of it lives."""
+    fill_what_is_freed()
+    for has_vector in (False, True) if numpy is None else (False,):
+        for turn in range(20):
+            if os.path.exists(PATH):
+                os.remove(PATH)
+            vector = Vector.create(PATH, **SMALL)
+            vector.grow(range(5000))
+            reader = Reader(vector, has_vector)
+            vector.note, reader.note = [reader] if has_vector else [], [vector] if has_vector else []
+            Reader.ends.clear()
+            del reader
+            if has_vector:
+                del vector
+            gc.collect()
+            assert Reader.ends == [list(range(5000))]
+            if not has_vector:
+                vector.close()
+            Vector.open(PATH, **SMALL).close()
+            assert records() == list(range(5000))
+
+
+def a_program_ends_with_what_is_lent():
+    """Whatever of it lives at its end, and whoever has it: it ends well, and says nothing."""
+    begin = """
+import sys, threading
+if sys.argv[2] == "plain":
+    sys.modules["numpy"] = None
+from cvec_vector import Vector
+vector = Vector.create(sys.argv[1], seats=4, growths=1000000)
+vector.grow(range(1000))
+"""
+    ends = ["kept = vector.lent()", "vector.kept = vector.lent()", "kept = vector.lent()\ndel vector", "kept = [vector.lent(), vector]\nkept.append(kept)",
+            "with vector.grow_into(5) as rows: rows[0] = 5", "block = vector.grow_into(5)\nrows = block.__enter__()",
+            "kept = vector.lent()\ndef end(it=vector.lent()):\n    while True: vector.grow([int(it[0][5])])\nthreading.Thread(target=end, daemon=True).start()",
+            "class Reader:\n    def __init__(self): self.kept, self.vector, self.me = vector.lent(), vector, self\n    def __del__(self): assert sum(self.kept[0]) == 499500\nreader = Reader()",
+            "import atexit\natexit.register(lambda kept=vector.lent(): sum(kept[0]))", "import cvec_vector\ncvec_vector.kept = vector.lent()", "def look(kept=vector.lent()): pass"]
+    for end in ends:
+        words = [sys.executable, "-c", begin + end + "\n", PATH, "plain" if numpy is None else "with"]
+        ended = subprocess.run(words, timeout=60, stderr=subprocess.PIPE, env={**os.environ, "MALLOC_PERTURB_": "165"})
+        assert ended.returncode == 0 and ended.stderr == b"", (end, ended)
+        assert records() == [] or records()[:1000] == list(range(1000)), end
+        os.remove(PATH)
+
+
+# ---- growth in place
+
+def rows_are_written_in_place():
+    """One growth, whose records stand where they were written; blank where nothing was."""
+    for words, make in forms():
+        with Vector.create(PATH, **words) as vector:
+            vector.grow(make([1]))
+            made = make([5, 7, 11])
+            for turn in range(3):
+                block = vector.grow_into(4)
+                assert block.receipt is None
+                with block as rows:
+                    at = address_of(rows)
+                    assert len(rows) == 4 and isinstance(rows, memoryview if numpy is None else numpy.ndarray)
+                    assert rows.tolist() == 4 * [0 if numpy is None else numpy.zeros(1, rows.dtype)[0].tolist()]
+                    rows[turn:turn + 1] = array.array(rows.format, made[turn:turn + 1]) if numpy is None else numpy.array(made[turn:turn + 1], dtype=rows.dtype)
+                    assert len(vector) == 1 + 4 * turn and len(joined(vector.lent())) == 1 + 4 * turn
+                assert block.receipt == (1 + turn, 1 + 4 * turn, 4)
+                vector.settle(block.receipt)
+                lent, = vector.lent(1 + 4 * turn)
+                assert address_of(lent) == at and lent.tolist()[turn] == listed(made)[turn]
+                if numpy is None:
+                    has_no(ValueError, lambda: rows[0])
+                else:
+                    assert rows.tolist() == lent.tolist() and not rows.flags.writeable
+                    has_no(ValueError, rows.__setitem__, 0, rows[1])
+                    for it in (rows, rows.base):
+                        has_no(ValueError, it.setflags, True)
+                    it = None
+                has_no(ValueError, block.__enter__)
+                del lent, rows
+            blank = [numpy.zeros(1, vector[:].dtype)[0].tolist()] if numpy else [0]
+            found = listed(make([1]))
+            for turn in range(3):
+                found += blank * turn + listed(made)[turn:turn + 1] + blank * (3 - turn)
+            assert vector[:].tolist() == found
+        os.remove(PATH)
+
+
+def a_block_that_is_left_by_an_exception_is_dropped():
+    with Vector.create(PATH) as vector:
+        vector.grow([5])
+        for turn in range(3):
+            block = vector.grow_into(100)
+            try:
+                with block as rows:
+                    rows[0] = 7
+                    raise KeyError
+            except KeyError:
+                assert block.receipt is None and list(vector) == [5, *range(turn)]
+            has_no((ValueError, TypeError), rows.__setitem__, 0, 8)
+            if numpy is not None:
+                # It can be read as long as it lives, and is lent.
+                assert rows[0] == 7 and rows.sum() == 7
+                has_no(BufferError, vector.fold)
+                with vector.grow_into(1) as more:
+                    more[0] = turn
+                assert rows[0] == 7 and vector[-1] == turn
+            else:
+                vector.grow([turn])
+            rows = more = None
+            vector.fold()
+        assert list(vector) == [5, 0, 1, 2]
+        # Of several behind one another nothing is left: the next is written in place.
+        for _ in range(3):
+            with contextlib.suppress(KeyError):
+                with vector.grow_into(1) as rows:
+                    raise KeyError
+            rows = None
+        with vector.grow_into(1) as rows:
+            at = address_of(rows)
+            rows[0] = 3
+        assert address_of(vector.lent(4)[0]) == at and list(vector) == [5, 0, 1, 2, 3]
+        # A loop over blocks takes each anew.
+        for number in range(50):
+            with vector.grow_into(2) as rows:
+                rows[0], rows[1] = number, number
+            rows = None
+        assert list(vector)[5:] == [it // 2 for it in range(100)]
+
+
+def what_is_kept_of_a_block_writes_no_record():
+    """Another view, a memoryview or a record of the array may be written still: then the growth is a copy."""
+    kept = [lambda rows: rows[1:], lambda rows: memoryview(rows), lambda rows: memoryview(rows)[2:].cast("B")]
+    if numpy is not None:
+        kept += [lambda rows: rows.view("u1"), lambda rows: rows.reshape(2, 2), lambda rows: numpy.asarray(memoryview(rows)), lambda rows: rows.flat, lambda rows: rows]
+    else:
+        kept += [lambda rows: (ctypes.c_uint64 * 4).from_buffer(rows), lambda rows: pickle.PickleBuffer(rows)]
+    with Vector.create(PATH) as vector:
+        for turn, keep in enumerate(kept):
+            with vector.grow_into(4) as rows:
+                rows[0], rows[3] = 5, 7
+                it = keep(rows)
+            assert list(vector[4 * turn:]) == [5, 0, 0, 7]
+            try:
+                (memoryview(it) if isinstance(it, pickle.PickleBuffer) else it)[0] = 9
+            except (ValueError, TypeError):
+                assert numpy is not None and isinstance(it, (numpy.flatiter, numpy.ndarray)), turn
+            assert list(vector[4 * turn:]) == [5, 0, 0, 7] and joined(vector.lent(4 * turn)) == [5, 0, 0, 7]
+            # What lives of the block is lent.
+            has_no(BufferError, vector.fold)
+            # Also one under no name, where a view of it is kept.
+            if numpy is not None:
+                with vector.grow_into(4) as other:
+                    other[0] = 1
+                    other = other[:1]
+                other[0] = 2
+                assert vector[-4] == 1
+            it = rows = other = None
+            vector.fold()
+            vector.resize(4 * turn + 4)
+    if numpy is not None:
+        with Vector.create(PATH + "2", type="pair") as vector:
+            with vector.grow_into(3) as rows:
+                for record in rows:
+                    record["key"] = 5
+            record["key"] = 9
+            assert vector[:].tolist() == [(5, 0)] * 3
+            del rows, record
+
+
+def a_block_is_refused_as_a_growth_is():
+    with Vector.create(PATH, seats=1, growths=8) as vector:
+        assert refusal(vector.grow_into(0).__enter__) == (Status.EMPTY, "a growth has at least one record")
+        for count in (131072, 2 ** 61, 2 ** 70):
+            assert refusal(vector.grow_into(count).__enter__)[0] == Status.TOO_LARGE
+        has_no(ValueError, vector.grow_into, -1)
+        has_no(TypeError, vector.grow_into, 1.5)
+        with vector.grow_into(131071) as rows:
+            rows[131070] = 5
+        assert len(vector) == 131071 and vector[-1] == 5
+        rows = None
+        # The vector can't be had alone or closed under it, and its seat goes on.
+        with vector.grow_into(1) as rows:
+            for call in alone(vector):
+                has_no(BufferError, call)
+            vector.grow([11])
+            with vector.grow_into(1) as more:
+                more[0] = 13
+            rows[0] = 17
+        more = rows = None
+        assert list(vector[131071:]) == [11, 13, 17]
+        for number in range(4):
+            vector.grow([number])
+        # There is no more room. Without numpy the block is grown in the next one; an array is lent, so that it isn't.
+        block = vector.grow_into(1)
+
+        def fill():
+            with block as rows:
+                rows[0] = 19
+                kept.append(rows)
+
+        kept = []
+        if numpy is None:
+            fill()
+            assert vector[-1] == 19 and block.receipt == (8, len(vector) - 1, 1)
+        else:
+            assert refusal(fill)[0] == Status.FULL and kept[0][0] == 19 and block.receipt is None
+            data = kept.pop().tolist()
+            assert vector.grow(data) == (8, len(vector) - 1, 1) and vector[-1] == 19
+        # A seat that is closed grows by nothing.
+        kept.clear()
+        block = vector.grow_into(1)
+        rows = block.__enter__()
+        vector.seat().close()
+        before = len(vector)
+        assert refusal(block.__exit__, None, None, None) == (Status.NOT_SO, "closed") and len(vector) == before
+        with vector.grow_into(1) as rows:
+            rows[0] = 23
+        assert vector[-1] == 23
+        del rows
+    if numpy is not None:
+        with Vector.create(PATH + "2", type="flagged") as vector:
+            for flag, is_record in ((1, True), (2, False), (0, True)):
+                def fill():
+                    with vector.grow_into(2) as rows:
+                        rows.view("u1")[8] = flag
+                fill() if is_record else has_no(ValueError, fill)
+                gc.collect()
+            assert vector[:].tolist() == [(0, True), (0, False), (0, False), (0, False)]
+
+
+def is_a_growth_or_none(vector, interrupt):
+    """What this answers of a growth in place. It is made once or not at all, and the seat goes on."""
+    vector.settle()
+    before, block = len(vector), vector.grow_into(3)
+
+    def fill():
+        with block as rows:
+            rows[0] = 5
+
+    came = interrupt(fill)
+    found = list(vector[before:])
+    assert found == ([5, 0, 0] if block.receipt else []) and (came or block.receipt == (block.receipt.number, before, 3))
+    vector.settle()
+    assert vector.settled() == vector.grow([7]).number
+    with vector.grow_into(1) as rows:
+        rows[0] = 9
+    del rows
+    assert list(vector[before + len(found):]) == [7, 9]
+    return came
+
+
+def blocks_are_interrupted():
+    """Ctrl-C comes at any moment of a growth in place, or as soon as C has made a call for it."""
+    signal.alarm(100)
+    library, moments = cvec_vector._LIB, 0
+    with Vector.create(PATH, seats=1) as vector:
+        for name in ("block", "publish"):
+            def interrupt_c(fill):
+                interrupted(library, "cvec_vector_" + name)
+                has_no(KeyboardInterrupt, fill)
+                return True
+
+            is_a_growth_or_none(vector, interrupt_c)
+        while is_a_growth_or_none(vector, lambda fill: is_interrupted(fill, moments)):
+            moments += 1
+        assert moments > 10
+        # So does one that is behind a block which was dropped.
+        with contextlib.suppress(KeyError):
+            with vector.grow_into(1) as rows:
+                raise KeyError
+        rows = None
+        interrupted(library, "cvec_vector_drop")
+        has_no(KeyboardInterrupt, vector.grow_into(1).__enter__)
+        assert is_a_growth_or_none(vector, lambda fill: fill()) is None
+        vector.fold()
+
+
+def threads_grow_in_place():
+    """Whole blocks, in their rows, beside threads that grow and read."""
+    told = {}
+
+    def run(vector, name):
+        for turn in range(200):
+            row = block(0, name, turn)
+            grows = vector.grow_into(len(row))
+            with grows as rows:
+                if numpy is None:
+                    rows[:] = array.array("Q", row)
+                else:
+                    rows[:] = row
+            told[0, name, turn] = grows.receipt.start
+            del rows
+            assert list(vector[grows.receipt.start:grows.receipt.start + len(row)]) == row
+            if turn % 10 == 0:
+                vector.settle(grows.receipt)
+
+    with Vector.create(PATH, seats=THREADS) as vector:
+        run_all([lambda name=name: run(vector, name) for name in range(THREADS)])
+        assert places_of(list(vector)) == told
+        vector.fold()
+    assert places_of(records()) == told
+
+
+# ---- more growths than a phase has room for
 
 MOST_GROWTHS = 1048568
 
@@ -880,7 +1829,7 @@ def grow_often(seat, first, count):
 
 
 def a_full_phase_goes_on():
-    with Vector.create(PATH, seats=1) as vector:
+    with Vector.create(PATH, seats=1, growths=MOST_GROWTHS) as vector:
         first, seat = vector.grow([0]), vector.seat()
         grow_often(seat, 1, MOST_GROWTHS - 2)
         last = vector.grow([MOST_GROWTHS - 1])
@@ -907,7 +1856,7 @@ def threads_fill_phases():
             vector.settled()
             grow_often(vector.seat(), name << 32, each)
 
-        with Vector.create(PATH, seats=threads) as vector:
+        with Vector.create(PATH, seats=threads, growths=MOST_GROWTHS) as vector:
             flusher = begin_flusher(vector, refused)
             run_all([lambda name=name: run(vector, name) for name in range(threads)])
         flusher.join()
@@ -932,7 +1881,7 @@ def phases_end_beside_threads():
                 vector.settle(receipt)
                 assert vector.settled() > receipt.number
 
-    with Vector.create(PATH, seats=THREADS) as vector:
+    with Vector.create(PATH, seats=THREADS, growths=MOST_GROWTHS) as vector:
         vector.settled()
         grow_often(vector.seat(), 0, before)
         vector.seat().close()
@@ -969,7 +1918,7 @@ def random_calls_beside_threads():
         for call in by.choices(calls, (12, 3, *[1] * 9), k=300):
             call()
 
-    with Vector.create(PATH, seats=THREADS) as vector:
+    with Vector.create(PATH, seats=THREADS, growths=100) as vector:
         flusher = begin_flusher(vector, refused)
         run_all([lambda name=name: run(vector, name) for name in range(THREADS)])
         assert sorted(it.number for it in receipts) == list(range(len(receipts)))
@@ -983,7 +1932,7 @@ def random_calls_beside_threads():
 # ---- refusals
 
 def each_refusal():
-    assert refusal(Vector.open, PATH) == (Status.DISK_OPEN, "the file can't be opened: No such file or directory")
+    assert refusal(Vector.open, PATH) == (Status.DISK_OPEN, f"the file can't be opened: No such file or directory: {PATH!r}")
     assert refusal(Vector.open, FOLDER)[0] == refusal(Vector.create, "/dev/null")[0] == Status.NOT_FILE
     vector = Vector.create(PATH, seats=1)
     assert refusal(Vector.open, PATH) == (Status.IN_USE, "the file is in use") and refusal(Vector.create, PATH)[0] == Status.IN_USE
@@ -1006,7 +1955,7 @@ def each_refusal():
         refused.append(refusal(vector.settled))
 
     run_all([ask])
-    assert refused == [(Status.NOT_SO, "every seat is taken, or there is no such version or type")]
+    assert refused == [(Status.NOT_SO, "every seat or block is taken, or there is no such block, hold, version or type")]
     # Whoever closes one leaves it to another, and growths are counted on.
     for _ in range(3):
         vector.seat().close()
@@ -1036,23 +1985,142 @@ def each_refusal():
 
 
 def each_status_has_the_sentence_of_c():
-    with open(os.path.join(os.path.dirname(os.path.abspath(__file__)), "vector_texts.txt")) as lines:
-        told = {int(number): text.rstrip("\n") for number, text in (line.split(" ", 1) for line in lines)}
-    assert {int(it) for it in Status} == told.keys() - {0, 13, 65, 70}
+    with open(os.path.join(os.path.dirname(os.path.abspath(__file__)), "statuses.txt")) as lines:
+        told = {int(number): text.rstrip("\n") for number, _, text in (line.split(" ", 2) for line in lines)}
+    assert {int(it) for it in Status} == told.keys() - {0, 11, 12, 13, 42, 65, 70}
     for it in Status:
         assert str(Error(it)) == told[it] and str(Error(it, errno=2)) == told[it] + ": No such file or directory"
         assert Error(int(it)).status is it
     assert str(Error(99)) == "an unknown status" and Error(99).status == 99
 
 
+def what_the_system_refused_is_an_os_error():
+    """Of the module's own kind too, with the file's name, and of the kind that Python has for that errno."""
+    missing, folder = os.path.join(FOLDER, "missing"), os.path.join(FOLDER, "none", "vector.cvec")
+    for call, path in ((Vector.open, missing), (Vector.open, os.fsencode(missing)), (Vector.open, pathlib.Path(missing)), (Vector.create, folder), (Vector.open_or_create, folder)):
+        try:
+            call(path)
+        except FileNotFoundError as fault:
+            name = os.fspath(path)
+            assert isinstance(fault, Error) and (fault.status, fault.errno, fault.filename, fault.strerror) == (Status.DISK_OPEN, errno.ENOENT, name, "No such file or directory")
+            assert str(fault) == f"the file can't be opened: No such file or directory: {name!r}"
+        else:
+            raise AssertionError("not refused")
+    below = os.path.join(missing, "vector.cvec")
+    open(missing, "w").close()
+    for path, number, kind in ((below, errno.ENOTDIR, OSError), (os.path.join(FOLDER, "n" * 256), errno.ENAMETOOLONG, OSError)):
+        try:
+            Vector.open(path)
+        except OSError as fault:
+            assert isinstance(fault, Error) and isinstance(fault, kind) and not isinstance(fault, FileNotFoundError) and (fault.errno, fault.filename) == (number, path)
+        else:
+            raise AssertionError("not refused")
+    # As a user who isn't root has it.
+    library = cvec_vector._LIB
+    begin = library.cvec_vector_open_with
+
+    def open_denied(*words):
+        ctypes.set_errno(errno.EACCES)
+        return Status.DISK_OPEN
+
+    library.cvec_vector_open_with = open_denied
+    has_no(PermissionError, Vector.open, missing)
+    library.cvec_vector_open_with = begin
+    # What isn't the system's is none.
+    with Vector.create(PATH):
+        for call, path in ((Vector.open, PATH), (Vector.open, missing), (Vector.create, PATH)):
+            try:
+                call(path)
+            except Error as fault:
+                assert not isinstance(fault, OSError) and fault.errno == 0
+            else:
+                raise AssertionError("not refused")
+    vector, (_, hard) = Vector.open(PATH), resource.getrlimit(resource.RLIMIT_FSIZE)
+    resource.setrlimit(resource.RLIMIT_FSIZE, (4096, hard))
+    vector.grow(range(1000))
+    try:
+        vector.settle()
+    except OSError as fault:
+        assert (fault.status, fault.errno, fault.filename) == (Status.DISK_WRITE, errno.EFBIG, PATH)
+    assert refusal(vector.close)[0] == Status.BROKEN
+
+
+def a_vector_shows_what_it_is():
+    with Vector.create(PATH, type="u32") as vector:
+        vector.grow([5, 7])
+        assert (vector.path, vector.closed, vector.shape) == (PATH, False, (2,)) and repr(vector) == f"<Vector {PATH!r} of u32>"
+        assert vector.dtype is None if numpy is None else vector.dtype == vector[:].dtype == numpy.uint32
+        for name in ("path", "closed", "shape", "dtype"):
+            has_no(AttributeError, setattr, vector, name, 1)
+    assert vector.closed and vector.path == PATH and repr(vector) == f"<Vector {PATH!r} of u32, closed>"
+    assert refusal(lambda: vector.shape) == (Status.NOT_SO, "closed")
+    with Vector.open(pathlib.Path(PATH), type="u32") as vector, Vector.create(os.fsencode(PATH + "2")) as other:
+        assert vector.path == PATH and other.path == os.fsencode(PATH + "2")
+        # A thread that only looks has no seat for it.
+        run_all([lambda: (repr(vector), vector.closed, vector.dtype)])
+        assert len(vector._seats) == 1
+    if numpy is not None:
+        with Vector.create(PATH + "3", dtype=POINT) as vector:
+            assert vector.dtype == POINT == vector[:].dtype and repr(vector) == f"<Vector {PATH + '3'!r} of {numpy.dtype(POINT)}>"
+            has_no(ValueError, Vector.create, PATH + "4", dtype="u64")
+    # A type in the place of the seats.
+    for begin in (Vector.create, Vector.open, Vector.open_or_create):
+        try:
+            begin(PATH + "4", "u64")
+        except TypeError as fault:
+            assert "type='u64'" in str(fault)
+        else:
+            raise AssertionError("not refused")
+    assert not os.path.exists(PATH + "4")
+
+
+def a_vector_is_opened_or_created():
+    library = cvec_vector._LIB
+    for turn in range(3):
+        with Vector.open_or_create(PATH, 2, version=2, growths=100) as vector:
+            assert list(vector) == list(range(turn)) and vector._limit == 2
+            assert refusal(Vector.open_or_create, PATH)[0] == Status.IN_USE
+            vector.grow([turn])
+    with open(PATH, "rb") as file:
+        assert file.read(9)[8] == 2
+    # What a stopped creation leaves is begun; what others have stays.
+    for there, status in ((b"", None), (bytes(5), None), (b"\1other than ours", Status.NOT_SEGMENT), (b"\1CVECSEG\1\4\0\0", Status.WIDTH)):
+        with open(PATH, "wb") as file:
+            file.write(there)
+        if status is None:
+            Vector.open_or_create(PATH).close()
+            assert records() == []
+        else:
+            assert refusal(Vector.open_or_create, PATH)[0] == status
+            with open(PATH, "rb") as file:
+                assert file.read() == there
+    # Another makes it, once it wasn't found.
+    os.remove(PATH)
+    create = library.cvec_vector_create_with
+
+    def create_late(*words):
+        library.cvec_vector_create_with = create
+        with Vector.create(PATH) as other:
+            other.grow([7])
+        return create(*words)
+
+    library.cvec_vector_create_with = create_late
+    with Vector.open_or_create(PATH) as vector:
+        assert list(vector) == [7]
+
+
 def a_refusal_goes_to_another_process():
     """Each as it is; and a pool, which would wait for ever, has that of its process."""
-    for it in (Error(Status.BUSY), Error(Status.DISK_OPEN, errno=errno.ENOENT), Error(99), Error(Status.NOT_SO, "closed")):
+    its = [Error(Status.BUSY), Error(Status.DISK_OPEN, errno=errno.ENOENT), Error(99), Error(Status.NOT_SO, "closed")]
+    for kind in (cvec_vector.FileError, cvec_vector.MissingFileError, cvec_vector.DeniedFileError):
+        its.append(kind(Status.DISK_WRITE, errno=errno.ENOSPC, filename=b"of"))
+    for it in its:
         for there in (copy.copy(it), *(pickle.loads(pickle.dumps(it, protocol)) for protocol in range(pickle.HIGHEST_PROTOCOL + 1))):
-            assert (type(there), there.status, there.errno, str(there)) == (Error, it.status, it.errno, str(it))
+            assert (type(there), there.status, there.errno, str(there)) == (type(it), it.status, it.errno, str(it))
+            assert [getattr(there, name, None) for name in ("filename", "strerror")] == [getattr(it, name, None) for name in ("filename", "strerror")]
     with multiprocessing.Pool(1) as pool:
         told = pool.apply_async(Vector.open, (PATH,))
-        assert refusal(told.get, 20) == (Status.DISK_OPEN, "the file can't be opened: No such file or directory")
+        assert refusal(told.get, 20) == (Status.DISK_OPEN, f"the file can't be opened: No such file or directory: {PATH!r}")
 
 
 def no_copy_is_made():
@@ -1115,7 +2183,7 @@ def a_seat_goes_to_the_next_thread():
             run_all([vector.settled])
             raise AssertionError("a third seat")
         except Error as fault:
-            assert fault.status == Status.NOT_SO and str(fault) == "every seat is taken, or there is no such version or type"
+            assert fault.status == Status.NOT_SO and str(fault) == "every seat or block is taken, or there is no such block, hold, version or type"
         goes_on.set()
         thread.join()
     assert sorted(records()) == list(range(41))
@@ -1305,10 +2373,6 @@ def a_wait_has_a_deadline():
 
 
 def a_flusher_commits_what_nobody_settles():
-    def until_settled(vector, count):
-        while vector.settled() < count:
-            time.sleep(0.001)
-
     vector, ended = Vector.create(PATH), []
 
     def run(every):
@@ -1338,14 +2402,185 @@ def a_flusher_commits_what_nobody_settles():
     with Vector.open(PATH) as vector:
         resource.setrlimit(resource.RLIMIT_FSIZE, (4096, hard))
         vector.grow(range(1000))
-        assert refusal(vector.run_flusher, math.inf) == (Status.DISK_WRITE, "the file can't be written: File too large")
+        assert refusal(vector.run_flusher, math.inf) == (Status.DISK_WRITE, f"the file can't be written: File too large: {PATH!r}")
         assert refusal(vector.close)[0] == Status.BROKEN
+
+
+def until_settled(vector, count):
+    end = time.monotonic() + 30
+    while vector.settled() < count:
+        assert time.monotonic() < end
+        time.sleep(0.001)
+
+
+def threads_that_flush():
+    return [it for it in threading.enumerate() if it.name == "cvec flusher"]
+
+
+def a_flusher_lasts_as_long_as_its_block():
+    with Vector.create(PATH, seats=1) as vector:
+        for turn in range(3):
+            with vector.flusher(0):
+                vector.grow([2 * turn])
+                until_settled(vector, 2 * turn + 1)
+            assert threads_that_flush() == []
+            vector.grow([2 * turn + 1])
+            time.sleep(0.02)
+            assert vector.settled() == 2 * turn + 1
+        flusher = vector.flusher(60)
+        with flusher:
+            until_settled(vector, 6)
+            # One of two is ended alone.
+            with vector.flusher(0):
+                pass
+            vector.grow([6])
+            assert len(threads_that_flush()) == 1 and vector.settled() == 6
+        assert vector.settled() == 7  # by its end
+        has_no(ValueError, flusher.__enter__)
+        try:
+            with vector.flusher(60):
+                until_settled(vector, 7)
+                vector.grow([7])
+                raise KeyError
+        except KeyError:
+            assert vector.settled() == 8 and threads_that_flush() == []
+        for seconds in (-1, math.nan):
+            has_no(ValueError, vector.flusher, seconds)
+        # A stop is for those that begin later too.
+        with vector.flusher(60):
+            vector.stop_flusher()
+            vector.grow([8])
+        with vector.flusher(0):
+            time.sleep(0.02)
+        assert vector.settled() == 8
+    assert refusal(vector.flusher(1).__enter__) == (Status.NOT_SO, "closed")
+    assert records() == list(range(9))
+    with Vector.open(PATH) as vector:
+        with vector.flusher(60):
+            vector.close()
+        assert threads_that_flush() == []
+
+
+def a_block_of_a_flusher_reports_what_is_refused():
+    """At its end, unless another exception leaves it."""
+    _, hard = resource.getrlimit(resource.RLIMIT_FSIZE)
+    for kind in (None, KeyError):
+        vector = Vector.create(PATH)
+        try:
+            with vector.flusher(0):
+                resource.setrlimit(resource.RLIMIT_FSIZE, (4096, hard))
+                vector.grow(range(1000))
+                while threads_that_flush():
+                    time.sleep(0.001)
+                if kind:
+                    raise kind
+        except kind or Error as fault:
+            assert kind or (fault.status, fault.errno) == (Status.DISK_WRITE, errno.EFBIG)
+        else:
+            raise AssertionError("not refused")
+        resource.setrlimit(resource.RLIMIT_FSIZE, (hard, hard))
+        assert refusal(vector.close)[0] == Status.BROKEN
+        os.remove(PATH)
+
+
+def an_interrupt_ends_a_flusher_of_the_main_thread():
+    """Ctrl-C, while it rests. The vector goes on, and its other flushers."""
+    signal.alarm(60)
+    signal.signal(signal.SIGINT, signal.default_int_handler)
+    with Vector.create(PATH) as vector, vector.flusher(0.01):
+        vector.grow([5])
+        threading.Timer(0.3, os.kill, (os.getpid(), signal.SIGINT)).start()
+        begun = time.monotonic()
+        has_no(KeyboardInterrupt, vector.run_flusher, 50)
+        assert time.monotonic() - begun < 10
+        vector.grow([7])
+        until_settled(vector, 2)
+    assert records() == [5, 7]
+
+
+def a_program_ends_beside_flushers():
+    """However its main thread ends: what was grown is durable, and a flusher goes on as long as another thread works."""
+    begin = """
+import ctypes, sys, threading, time
+from cvec_vector import Vector
+vector = Vector.create(sys.argv[1])
+ctypes.pythonapi.Py_IncRef(ctypes.py_object(vector))  # its own end commits nothing
+vector.grow([5])
+def rest():
+    while not vector.settled(): time.sleep(0.001)
+    vector.grow([7])
+"""
+    by_thread = "threading.Thread(target=vector.run_flusher, args=(60,)).start()\nrest()\n"
+    by_block = "with vector.flusher(60):\n    rest()\n    "
+    # The thread is left, as where an exception comes before its block's end.
+    left = "flusher = vector.flusher(60)\nflusher.__enter__()\nrest()\n"
+    worker = """
+def work():
+    while threading.main_thread().is_alive(): time.sleep(0.001)
+    time.sleep(0.5)
+    receipt, end = vector.grow([7]), time.monotonic() + 20
+    while vector.settled() <= receipt.number and time.monotonic() < end: time.sleep(0.001)
+    print(vector.settled())
+threading.Thread(target=work).start()
+threading.Thread(target=vector.run_flusher, args=(0.01,)).start()
+"""
+    cases = [(by_thread + "raise KeyError", 1, "KeyError"), (by_block + "raise KeyError", 1, "KeyError"), (left + "raise KeyError", 1, "KeyError"), (left, 0, ""),
+             (by_thread + "import os, signal; os.kill(os.getpid(), signal.SIGINT); time.sleep(60)", -signal.SIGINT, "KeyboardInterrupt"),
+             (by_block + "import os, signal; os.kill(os.getpid(), signal.SIGINT); time.sleep(60)", -signal.SIGINT, "KeyboardInterrupt"),
+             ("threading.Timer(0.3, __import__('os').kill, (__import__('os').getpid(), 2)).start(); vector.grow([7]); vector.run_flusher(60)", -signal.SIGINT, "KeyboardInterrupt"),
+             (by_thread.replace("))", "), daemon=True)", 1) + "vector.settle()", 0, ""), (worker, 0, "")]
+    for text, status, last in cases:
+        begun = time.monotonic()
+        ended = subprocess.run([sys.executable, "-c", begin + text, PATH], timeout=60, stdout=subprocess.PIPE, stderr=subprocess.PIPE)
+        assert (ended.returncode, ended.stderr.decode().strip().rpartition("\n")[2]) == (status, last), (text, ended)
+        assert records() == [5, 7] and time.monotonic() - begun < 20, text
+        assert ended.stdout == (b"2\n" if text == worker else b"")
+        os.remove(PATH)
+
+
+def a_vector_that_is_given_up_ends_its_flusher():
+    for is_cycle in (False, True):
+        vector = Vector.create(PATH)
+        flusher = vector.flusher(60)
+        flusher.__enter__()
+        vector.grow([5])
+        if is_cycle:
+            vector.note = flusher
+        thread, = threads_that_flush()
+        del vector, flusher
+        # It has the vector while it commits.
+        end = time.monotonic() + 20
+        while thread.is_alive() and time.monotonic() < end:
+            gc.collect()
+            thread.join(0.01)
+        assert not thread.is_alive()
+        gc.collect()
+        Vector.open(PATH).close()
+        assert records() == [5]
+        os.remove(PATH)
+
+
+def a_forked_process_leaves_the_block_of_a_flusher():
+    with Vector.create(PATH) as vector:
+        child = None
+        try:
+            with vector.flusher(0):
+                vector.grow([5])
+                child = os.fork()
+                if child == 0:
+                    signal.alarm(20)
+        finally:
+            if child == 0:
+                os._exit(0 if sys.exc_info()[0] is None else 1)
+        assert os.waitpid(child, 0)[1] == 0
+        vector.grow([7])
+    assert records() == [5, 7]
 
 
 def a_close_waits_for_a_flusher_that_is_late():
     """One that has begun, and comes to the library when the close has begun too."""
     library, order, begun, closed = cvec_vector._LIB, [], threading.Event(), threading.Event()
-    run, close = library.cvec_vector_run_flusher, library.cvec_vector_close
+    run, close = library.cvec_vector_flush, library.cvec_vector_close
 
     def run_late(*words):
         begun.set()
@@ -1359,7 +2594,7 @@ def a_close_waits_for_a_flusher_that_is_late():
         closed.set()
         return close(*words)
 
-    library.cvec_vector_run_flusher, library.cvec_vector_close = run_late, close_noted
+    library.cvec_vector_flush, library.cvec_vector_close = run_late, close_noted
     vector = Vector.create(PATH)
     thread = threading.Thread(target=vector.run_flusher, args=(math.inf,))
     thread.start()
@@ -1380,9 +2615,9 @@ def a_forked_process_is_refused():
     child = os.fork()
     if child == 0:
         signal.alarm(20)
-        calls = (vector.seat, vector.settle, vector.settled, lambda: vector.run_flusher(1), vector.stop_flusher, lambda: vector.grow([6]), lambda: len(vector), lambda: vector[0],
+        calls = (vector.seat, vector.settle, vector.settled, lambda: vector.run_flusher(1), vector.flusher(1).__enter__, vector.stop_flusher, lambda: vector.grow([6]), lambda: len(vector), lambda: vector[0],
                  seat.settle, seat.size, lambda: seat.grow([7]), seat.close, vector.clear, vector.fold, lambda: vector.change(0, [1]),
-                 lambda: vector.resize(0), lambda: vector.count(5), lambda: vector.find(5))
+                 lambda: vector.resize(0), lambda: vector.count(5), lambda: vector.find(5), vector.compact, vector.lent, lambda: vector.grow_into(1))
         refused = all(refusal(call)[0] == Status.FORKED for call in calls)
         vector.close()
         vector.close()
@@ -1413,14 +2648,14 @@ def a_forked_process_with_its_parents_number_is_refused():
 def a_close_that_is_interrupted_is_made_again():
     """Ctrl-C comes while it waits for a flusher."""
     library, begun, goes_on = cvec_vector._LIB, threading.Event(), threading.Event()
-    run = library.cvec_vector_run_flusher
+    run = library.cvec_vector_flush
 
     def run_late(*words):
         begun.set()
         goes_on.wait()
         return run(*words)
 
-    library.cvec_vector_run_flusher = run_late
+    library.cvec_vector_flush = run_late
     signal.signal(signal.SIGINT, signal.default_int_handler)
     vector = Vector.create(PATH)
     vector.grow([5])
@@ -1448,7 +2683,7 @@ def a_full_device_leaves_what_is_settled():
             vector.settle()
             settled += 1
     except Error as fault:
-        assert (fault.status, fault.errno, str(fault)) == (Status.DISK_WRITE, errno.EFBIG, "the file can't be written: File too large")
+        assert (fault.status, fault.errno, str(fault)) == (Status.DISK_WRITE, errno.EFBIG, f"the file can't be written: File too large: {PATH!r}")
     assert vector.settled() == settled > 3
     for call in (lambda: vector.grow([1]), vector.settle, vector.close):
         assert refusal(call)[0] == Status.BROKEN

@@ -1,9 +1,10 @@
 //! Tests of cvec_vector.rs: vector_cases NAME FILE, where NAME is that of a test below; and writers that vector_killed.py and
 //! vector_steps.py kill: vector_cases write FILE ROUND THREADS TURNS, vector_cases steps FILE. What a file holds is read by others.
-use cvec_vector::{Error, Flagged, MOST_SEATS, Pair, Receipt, Record, Seat, Vector, Version};
+use cvec_vector::{Error, Flagged, MOST_SEATS, Options, Pair, Receipt, Record, Seat, Vector, Version, View};
 use std::fmt::Debug;
 use std::fs;
 use std::io::{Write, stdout};
+use std::panic::{AssertUnwindSafe, catch_unwind, set_hook, take_hook};
 use std::path::Path;
 use std::sync::atomic::{AtomicU64, Ordering};
 use std::thread;
@@ -26,12 +27,13 @@ fn block(round: u64, name: u64, turn: u64) -> Vec<u64> {
     std::iter::once(head).chain((1..length).map(|at| head.wrapping_mul(31).wrapping_add(at))).collect()
 }
 
-const TOO_LARGE: &str = "more than 1,048,568 bytes of records in a growth, or not 1 to 64 seats";
+const TOO_LARGE: &str = "more records than fit one growth, not 1 to 64 seats, or room for more than 536,870,904 growths";
 const IN_USE: &str = "the file is in use";
 const LATE: &str = "the time has passed: what was waited for may yet come";
 const UNFOLDED: &str = "a change isn't folded: fold first";
 const OUT_OF_RANGE: &str = "there is no such growth or position, or the vector would pass 2^32 records";
-const BUSY: &str = "another thread is inside a call, or a seat isn't closed";
+const BUSY: &str = "another thread is inside a call, a seat isn't closed, or the vector is held";
+const FULL: &str = "it takes no more growths while records are lent: compact it";
 const BROKEN: &str = "a write or a sync has failed before: open the file again";
 
 fn refused<T: Debug>(answer: Result<T, Error>, text: &str) -> Error {
@@ -39,6 +41,15 @@ fn refused<T: Debug>(answer: Result<T, Error>, text: &str) -> Error {
     assert_eq!(error.to_string(), text);
     let _: &dyn std::error::Error = &error;
     error
+}
+
+/// What it panics with, which isn't printed.
+fn panic_of<T: Debug>(run: impl FnOnce() -> T) -> String {
+    let hook = take_hook();
+    set_hook(Box::new(|_| ()));
+    let ended = catch_unwind(AssertUnwindSafe(run));
+    set_hook(hook);
+    *ended.expect_err("it panics").downcast().unwrap()
 }
 
 fn grows_and_reads(path: &Path) -> Result<(), Error> {
@@ -73,8 +84,58 @@ fn grows_and_reads(path: &Path) -> Result<(), Error> {
     Ok(())
 }
 
+cvec_vector::record! {
+    /// Of 24 bytes: three words.
+    #[derive(Debug, PartialEq)]
+    struct Sample {
+        sensor: u32,
+        second: u32,
+        value: f64,
+        /// Of each channel.
+        more: [u16; 4],
+    }
+
+    /// Of 8 bytes, none of its fields.
+    #[derive(Debug, PartialEq)]
+    #[repr(align(8))]
+    pub struct Point {
+        pub x: f32,
+        pub(crate) y: f32,
+    }
+
+    #[derive(Debug, PartialEq)]
+    struct Color {
+        all: u32,
+    }
+
+    #[derive(Debug, PartialEq)]
+    struct Span {
+        from: i64,
+        to: i64,
+    }
+
+    /// Of 256 bytes, as many as a record has.
+    #[derive(Debug, PartialEq)]
+    struct Line {
+        first: u64,
+        others: [u64; 31],
+    }
+}
+
+fn sample(number: u64) -> Sample {
+    Sample { sensor: number as u32, second: (number >> 32) as u32, value: number as f64 / 2.0, more: [number as u16, 0, 1, 2] }
+}
+
+fn point(number: u64) -> Point {
+    Point { x: number as f32, y: -1.0 }
+}
+
+fn line(number: u64) -> Line {
+    Line { first: number, others: [!number; 31] }
+}
+
 /// Of this type: grown, read, opened again, searched and changed.
-fn has_records_of<R: Record>(path: &Path, width: u8, records: [R; 4]) -> Result<(), Error> {
+fn has_records_of<R: Record + PartialEq + Debug>(path: &Path, width: u8, records: [R; 4]) -> Result<(), Error> {
     let _ = fs::remove_file(path);
     let vector = Vector::<R>::create_of(path, 2, Version::Two)?;
     let seat = vector.seat()?;
@@ -90,7 +151,11 @@ fn has_records_of<R: Record>(path: &Path, width: u8, records: [R; 4]) -> Result<
     vector.close()?;
     assert_eq!(fs::read(path).unwrap()[9..11], [width, 0]);
     let mut vector = Vector::<R>::open_of(path, 2)?;
-    assert_eq!((vector.count(records[3])?, vector.find(records[3], 0)?, vector.find(records[0], 1)?), (1, Some(3), None));
+    let seat = vector.seat()?;
+    assert_eq!((seat.count(records[3])?, seat.find(records[3], 0)?, seat.find(records[0], 1)?), (1, Some(3), None));
+    assert_eq!([seat.at(0)?, seat.at(3)?, seat.at(4)?, seat.at(u64::MAX)?], [Some(records[0]), Some(records[3]), None, None]);
+    assert_eq!(seat.piece(0)?, Some(&records[..]));
+    drop(seat);
     vector.change(1, &records[..2])?;
     vector.resize(6, records[3])?;
     vector.fold()?;
@@ -113,6 +178,62 @@ fn has_types(path: &Path) -> Result<(), Error> {
     has_records_of(path, 9, [(1, true), (u64::MAX, false), (1, false), (0, true)].map(|(key, flag)| Flagged { key, flag }))?;
     refused(Vector::<Pair>::open_of(path, 1), WIDTH);
     Ok(())
+}
+
+/// Structs of the caller's are kept as one record of their size, or as several of 8 bytes.
+fn has_own_structs(path: &Path) -> Result<(), Error> {
+    has_records_of(path, 4, [1, 2, 0, 7].map(|all| Color { all }))?;
+    assert_eq!(Vector::<u32>::open_of(path, 1)?.seat()?.read(..)?, [1, 1, 2, 7, 7]);
+    has_records_of(path, 4, [0.5, -1.0, f32::INFINITY, 7.0_f32])?;
+    has_records_of(path, 8, [1, 2, 3, 4].map(point))?;
+    assert_eq!(Vector::open(path, 1)?.seat()?.read(..1)?, [0xbf80_0000_3f80_0000]);
+    has_records_of(path, 8, [0.5, -1.0, f64::MAX, 7.0])?;
+    has_records_of(path, 16, [1, 2, 3, 4].map(|from| Span { from, to: -from }))?;
+    assert_eq!(Vector::<Pair>::open_of(path, 1)?.seat()?.read(3..4)?, [Pair { key: 4, value: -4 }]);
+    has_records_of(path, 8, [1, 2, 3, 4].map(line))?;
+    has_records_of(path, 8, [0, 1 << 32, 3, 4].map(sample))?;
+    // Five samples are fifteen words, by hand: of sensor 0 and second 1, 2^31 as a double, and the four numbers.
+    let words = Vector::open(path, 1)?.seat()?.read(..)?;
+    assert_eq!((words.len(), &words[6..9]), (15, &[1 << 32, 0x41e0_0000_0000_0000, 0x0002_0001_0000_0000][..]));
+    refused(Vector::<Line>::open_of(path, 1), "the records have another width");
+    refused(Vector::<Span>::open_of(path, 1), "the records have another width");
+    Ok(())
+}
+
+/// As records that C has, but that a growth, a change and a resize are of whole ones.
+fn searches_and_resizes_own_structs(path: &Path) -> Result<(), Error> {
+    let mut vector = Vector::<Sample>::create_with(path, &Options::default().seats(1).growths(2))?;
+    let (a, b) = (sample(1), Sample { sensor: 0, second: 0, value: 0.0, more: [0; 4] });
+    let seat = vector.seat()?;
+    // The second and third words of one and the first of the next are no record.
+    seat.grow(&[Sample { value: 8.0, more: [0; 4], ..a }, Sample { sensor: 9, ..b }])?;
+    let within = Sample { sensor: 0, second: 0x4020_0000, value: 0.0, more: [9, 0, 0, 0] };
+    assert_eq!((seat.count(within)?, seat.find(within, 0)?), (0, None));
+    let receipt = seat.grow(&(0..3_000).map(sample).collect::<Vec<_>>())?;
+    assert_eq!(receipt, Receipt { number: 1, start: 2, length: 3_000 });
+    assert_eq!((seat.len()?, seat.count(a)?, seat.find(a, 0)?, seat.find(a, 4)?), (3_002, 1, Some(3), None));
+    let last = sample(2_999);
+    assert_eq!([seat.find(last, 0)?, seat.find(last, 3_001)?, seat.find(last, 3_002)?], [Some(3_001), Some(3_001), None]);
+    assert_eq!((seat.piece(3_001)?, seat.piece(3_002)?), (Some(&[last][..]), None));
+    drop(seat);
+    // The phase is full, of which records were lent: that stands in no way of a resize, by rows of whole ones.
+    let c = Sample { sensor: 1, second: 2, value: 3.0, more: [4, 5, 6, 7] };
+    vector.resize(3_004, c)?;
+    assert_eq!(vector.seat()?.read(3_000..)?, [sample(2_998), last, c, c]);
+    vector.change(3_001, &[a])?;
+    refused(vector.change(3_003, &[a, a]), OUT_OF_RANGE);
+    refused(vector.change(u64::MAX, &[a]), OUT_OF_RANGE);
+    let seat = vector.seat()?;
+    assert_eq!((seat.read(3_000..)?, seat.count(a)?), (vec![sample(2_998), a, c, c], 2));
+    drop(seat);
+    refused(vector.resize(3_004 + 43_691, b), TOO_LARGE);
+    refused(vector.resize((1 << 32) / 3 + 1, b), OUT_OF_RANGE);
+    refused(vector.resize(u64::MAX, b), OUT_OF_RANGE);
+    assert_eq!(refused(vector.resize(1, b), UNFOLDED), Error::Unfolded);
+    vector.fold()?;
+    vector.resize(2, b)?;
+    assert_eq!(vector.seat()?.len()?, 2);
+    vector.close()
 }
 
 fn appends(path: &Path) -> Result<(), Error> {
@@ -167,11 +288,14 @@ fn has_the_sentences_of_c() {
     ];
     let mut told: Vec<_> = disk.iter().chain(&plain).map(|it| (it.status().unwrap(), it.to_string())).collect();
     told.sort();
-    let lines = include_str!("vector_texts.txt").lines().map(|it| it.split_once(' ').unwrap());
+    // A number, a name, and a sentence.
+    let lines = include_str!("statuses.txt").lines().map(|it| it.split_once(' ').unwrap());
+    let lines = lines.map(|(number, rest)| (number, rest.split_once(' ').unwrap().1));
     let of_system = |number: u32| if (35..40).contains(&number) { ": No such file or directory (os error 2)" } else { "" };
-    let wanted: Vec<_> = lines.map(|it| (it.0.parse().unwrap(), it.1)).filter(|it| ![0, 13, 65, 70].contains(&it.0)).collect();
+    let wanted: Vec<_> = lines.map(|it| (it.0.parse().unwrap(), it.1)).filter(|it| ![0, 11, 12, 13, 42, 65, 70].contains(&it.0)).collect();
     assert_eq!(told, wanted.iter().map(|it| (it.0, format!("{}{}", it.1, of_system(it.0)))).collect::<Vec<_>>());
     assert_eq!((Error::Unknown(99).to_string(), Error::Seats.status(), Error::Path.status()), ("an unknown status".into(), None, None));
+    assert_eq!((Error::Filling.status(), Error::OtherVector.status()), (None, None));
 }
 
 fn each_refusal(path: &Path) -> Result<(), Error> {
@@ -198,7 +322,7 @@ fn each_refusal(path: &Path) -> Result<(), Error> {
         assert_eq!(vector.seat()?.grow(&[3])?.number, number);
     }
     let other = vector.seat()?;
-    assert_eq!(refused(vector.seat(), "every seat is taken, or there is no such version or type"), Error::NoSeat);
+    assert_eq!(refused(vector.seat(), "every seat or block is taken, or there is no such block, hold, version or type"), Error::NoSeat);
     drop((seat, other));
     let seat = vector.seat()?;
     assert_eq!((seat.grow(&[3])?.number, seat.settled()?), (4, 1));
@@ -215,9 +339,10 @@ fn each_refusal(path: &Path) -> Result<(), Error> {
     refused(vector.fold(), BUSY);
     refused(vector.change(0, &[9]), BUSY);
     refused(vector.resize(0, 0), BUSY);
-    refused(vector.count(1), BUSY);
-    refused(vector.find(1, 0), BUSY);
-    assert_eq!(vector.seat()?.len()?, 131_075);
+    refused(vector.compact(), BUSY);
+    let seat = vector.seat()?;
+    assert_eq!((seat.count(3)?, seat.find(3, 0)?, seat.len()?), (4, Some(131_071), 131_075));
+    drop(seat);
     refused(vector.close(), BUSY);
     refused(Vector::open(path, 1), IN_USE);
     let other = path.with_extension("other");
@@ -299,7 +424,7 @@ fn flushes(path: &Path) -> Result<(), Error> {
 /// Where a phase is full it goes on by the same seats: each record of an appender is a growth, and numbers count on.
 fn is_full(path: &Path) -> Result<(), Error> {
     const MOST: u64 = 1_048_568;
-    let vector = Vector::create(path, 2)?;
+    let vector = Vector::create_with(path, &Options::default().seats(2).growths(MOST))?;
     let (seat, other) = (vector.seat()?, vector.seat()?);
     let first = seat.grow(&[0])?;
     let mut out = seat.appender(1)?;
@@ -330,7 +455,7 @@ fn is_full(path: &Path) -> Result<(), Error> {
 fn is_full_by_threads(path: &Path) -> Result<(), Error> {
     const THREADS: u64 = 16;
     const EACH: u64 = 70_000;
-    let vector = &Vector::<u32>::create_of(path, 16, Version::Two)?;
+    let vector = &Vector::<u32>::create_with(path, &Options::default().seats(16).version(Version::Two).growths(1_048_568))?;
     let run = |name: u64| -> Result<(), Error> {
         let seat = vector.seat()?;
         for number in 0..EACH {
@@ -391,6 +516,286 @@ fn waits_for_a_seat(path: &Path) -> Result<(), Error> {
     })
 }
 
+/// Threads that grow these records, each of which keeps what it was lent: nothing of that moves or changes, nor ends with a seat.
+fn lends_of<R: Record + PartialEq + Debug>(path: &Path, record: fn(u64) -> R) -> Result<(), Error> {
+    const EACH: u64 = 2_500;
+    let block_of = |name: u64, turn: u64| (0..1 + turn % 3).map(|it| record(name << 16 | turn << 2 | it)).collect::<Vec<R>>();
+    let _ = fs::remove_file(path);
+    let mut vector = Vector::<R>::create_with(path, &Options::default().seats(5).growths(20_000))?;
+    let first = block_of(4, 2);
+    let early = {
+        let seat = vector.seat()?;
+        seat.grow(&first)?;
+        seat.piece(0)?.unwrap()
+    };
+    let at = early.as_ptr();
+    let grow = |name| -> Result<Vec<(u64, &[R])>, Error> {
+        let seat = vector.seat()?;
+        let lend = |turn| {
+            let start = seat.grow(&block_of(name, turn))?.start;
+            Ok((start, seat.piece(start)?.unwrap()))
+        };
+        (0..EACH).map(lend).collect()
+    };
+    let grow = &grow;
+    let all = thread::scope(|scope| {
+        let threads: Vec<_> = (0..4).map(|name| scope.spawn(move || grow(name))).collect();
+        while !threads.iter().all(|it| it.is_finished()) {
+            assert_eq!(early, first);
+        }
+        threads.into_iter().map(|it| it.join().unwrap()).collect::<Result<Vec<_>, _>>()
+    })?;
+    let seat = vector.seat()?;
+    assert_eq!((early, early.as_ptr(), seat.piece(0)?.unwrap().as_ptr()), (&first[..], at, at));
+    for (name, found) in (0..).zip(&all) {
+        for (turn, (start, lent)) in (0..).zip(found) {
+            let block = block_of(name, turn);
+            assert_eq!((&lent[..block.len()], seat.piece(*start)?.unwrap().as_ptr()), (&block[..], lent.as_ptr()));
+        }
+    }
+    let (pieces, records) = (seat.pieces(0).collect::<Result<Vec<_>, _>>()?, seat.read(..)?);
+    assert_eq!((pieces.concat(), records.len()), (records.clone(), 3 + 4 * 4_999));
+    assert_eq!(seat.pieces(7_001).collect::<Result<Vec<_>, _>>()?.concat(), records[7_001..]);
+    assert_eq!((seat.pieces(records.len() as u64).count(), seat.pieces(u64::MAX).count()), (0, 0));
+    drop(seat);
+    vector.compact()?;
+    assert_eq!(vector.seat()?.pieces(0).collect::<Result<Vec<_>, _>>()?.concat(), records);
+    vector.close()
+}
+
+fn lends(path: &Path) -> Result<(), Error> {
+    lends_of::<u32>(path, |it| it as u32)?;
+    lends_of::<i64>(path, |it| -(it as i64))?;
+    lends_of::<Pair>(path, |key| Pair { key, value: !key as i64 })?;
+    lends_of::<Flagged>(path, |key| Flagged { key, flag: key % 3 == 0 })?;
+    lends_of::<f64>(path, |it| it as f64 / 2.0)?;
+    lends_of(path, point)?;
+    lends_of(path, line)?;
+    lends_of(path, sample)?;
+    lends_of::<u64>(path, |it| it)
+}
+
+/// With room for eight growths: the ninth ends the phase, but where records of it are lent.
+fn is_full_where_it_lends(path: &Path) -> Result<(), Error> {
+    let mut vector = Vector::create_with(path, &Options::default().seats(2).growths(8))?;
+    let seat = vector.seat()?;
+    for number in 0..20 {
+        assert_eq!(seat.grow(&[number])?.number, number);
+    }
+    // Of the third phase there are four growths.
+    let lent = seat.piece(19)?.unwrap();
+    let at = lent.as_ptr();
+    for number in 20..24 {
+        seat.grow(&[number])?;
+    }
+    for _ in 0..3 {
+        assert_eq!(refused(seat.grow(&[24]), FULL), Error::Full);
+        assert_eq!(refused(seat.grow_with(1, |it| it[0] = 24), FULL), Error::Full);
+    }
+    assert_eq!((lent, seat.piece(19)?.unwrap().as_ptr(), seat.len()?), (&[19][..], at, 24));
+    seat.settle(&Receipt { number: 23, start: 23, length: 1 })?;
+    drop(seat);
+    // Other seats change nothing of it.
+    refused(vector.seat()?.grow(&[24]), FULL);
+    assert_eq!((lent, lent.as_ptr()), (&[19][..], at));
+    vector.compact()?;
+    let seat = vector.seat()?;
+    assert_eq!((seat.len()?, seat.settled()?), (24, 24));
+    for number in 24..50 {
+        assert_eq!(seat.grow(&[number])?.number, number);
+    }
+    assert_eq!(seat.read(..)?, (0..50).collect::<Vec<_>>());
+    // Copies and searches lend nothing, and what was written in place is lent.
+    assert_eq!((seat.at(49)?, seat.count(49)?, seat.find(49, 0)?), (Some(49), 1, Some(49)));
+    for number in 50..60 {
+        seat.grow(&[number])?;
+    }
+    seat.grow_with(1, |it| it[0] = 60)?;
+    for number in 61..64 {
+        seat.grow(&[number])?;
+    }
+    refused(seat.grow(&[64]), FULL);
+    drop(seat);
+    vector.compact()?;
+    vector.seat()?.grow(&[64])?;
+    assert_eq!(vector.seat()?.read(..)?, (0..65).collect::<Vec<_>>());
+    vector.close()
+}
+
+/// By layouts of short and long pieces, learned of one after the other: at each position is the record that was grown there.
+fn views(path: &Path) -> Result<(), Error> {
+    is_shared::<View<'static>>();
+    let other = Vector::create(&path.with_extension("other"), 1)?;
+    let vector = Vector::create(path, 2)?;
+    let seat = vector.seat()?;
+    let (mut view, early) = (seat.view()?, seat.view()?);
+    assert_eq!((view.is_empty(), view.len(), view.get(0), view.get(u64::MAX)), (true, 0, None, None));
+    let mut len = 0;
+    for (count, length) in [(1, 1), (300, 1), (1, 90_000), (700, 16), (2_000, 1), (40, 5_000), (129, 3), (1, 1), (0, 0)] {
+        for _ in 0..count {
+            seat.grow(&(len..len + length).collect::<Vec<_>>())?;
+            len += length;
+        }
+        view.learn(&seat)?;
+        let anew = seat.view()?;
+        assert_eq!((view.len(), anew.len(), view.get(len), view.is_empty()), (len, len, None, false));
+        assert!((0..len).all(|k| view[k] == k && anew.get(k) == Some(&k)));
+        assert!(view.pieces().flatten().copied().eq(0..len));
+    }
+    assert_eq!(early.len(), 0);
+    assert_eq!(view.learn(&other.seat()?), Err(Error::OtherVector));
+    assert_eq!(Error::OtherVector.to_string(), "the seat is one of another vector");
+    assert_eq!(panic_of(|| view[len]), format!("position {len} of a view of {len} records"));
+    // What it gives lasts as long as the vector is borrowed: longer than the seat, and than the view.
+    drop(seat);
+    let last = view.get(len - 1).unwrap();
+    thread::scope(|scope| scope.spawn(|| assert!((0..len).all(|k| view[k] == k))).join().unwrap());
+    drop(view);
+    assert_eq!(*last, len - 1);
+    Ok(())
+}
+
+/// What a caller's own closure answers.
+#[derive(Debug, PartialEq)]
+enum Stopped {
+    Refused(Error),
+    Own(u8),
+}
+
+impl From<Error> for Stopped {
+    fn from(error: Error) -> Stopped {
+        Stopped::Refused(error)
+    }
+}
+
+/// Of this type: the records are zero at first, and stay where they were written. A growth has at most so many.
+fn fills_of<R: Record + PartialEq + Debug>(path: &Path, most: usize, zero: R, record: fn(u64) -> R) -> Result<(), Error> {
+    let _ = fs::remove_file(path);
+    let vector = Vector::<R>::create_of(path, 1, Version::One)?;
+    let seat = vector.seat()?;
+    for turn in 0..3 {
+        let (mut at, records) = (std::ptr::null(), [record(turn), record(5), record(7)]);
+        let receipt = seat.grow_with(3, |lent| {
+            assert_eq!(lent, [zero; 3]);
+            lent.copy_from_slice(&records);
+            at = lent.as_ptr();
+        })?;
+        assert_eq!(receipt, Receipt { number: turn, start: turn * 3, length: 3 });
+        let lent = seat.piece(receipt.start)?.unwrap();
+        assert_eq!((lent, lent.as_ptr()), (&records[..], at));
+    }
+    refused(seat.grow_with(0, |_| panic!("no records are lent")), "a growth has at least one record");
+    // The last ones have few words, or none, where those are counted by 64 bits.
+    let kept = (size_of::<R>() / 8).max(2);
+    for count in [most + 1, usize::MAX / 8, usize::MAX, usize::MAX / kept + 1, usize::MAX / kept + 2] {
+        refused(seat.grow_with(count, |_| panic!("no records are lent")), TOO_LARGE);
+    }
+    assert_eq!(seat.grow_with(most, |lent| lent.fill(record(9)))?.length, most as u64);
+    assert_eq!((seat.len()?, seat.at(9)?, seat.at(8 + most as u64)?), (9 + most as u64, Some(record(9)), Some(record(9))));
+    drop(seat);
+    vector.close()
+}
+
+/// Where the closure fails nothing was grown, and nothing is left of its records: the seat lends others.
+fn fills_nothing(path: &Path) -> Result<(), Error> {
+    let vector = Vector::create(path, 2)?;
+    let seat = vector.seat()?;
+    for turn in 0..100 {
+        let stopped = seat.try_grow_with(70_000, |lent| {
+            lent.fill(turn);
+            Err(Stopped::Own(7))
+        });
+        assert_eq!(stopped, Err(Stopped::Own(7)));
+        let panicked = panic_of(|| seat.grow_with(70_000, |lent| assert_ne!(lent[0], 0, "stopped")));
+        assert!(panicked.contains("stopped"));
+    }
+    assert_eq!(seat.try_grow_with(0, |_| Ok(())), Err(Stopped::Refused(Error::Empty)));
+    assert_eq!((seat.len()?, seat.is_empty()?), (0, true));
+    // Other calls by the seat are made before it has grown.
+    let receipt = seat.try_grow_with(2, |lent| -> Result<(), Stopped> {
+        assert_eq!(refused(seat.grow_with(1, |_| ()), "the seat's records of another growth are being filled"), Error::Filling);
+        assert_eq!(seat.grow(&[1, 2, 3])?, Receipt { number: 0, start: 0, length: 3 });
+        lent.copy_from_slice(&[seat.len()?, seat.at(1)?.unwrap()]);
+        Ok(())
+    });
+    assert_eq!(receipt, Ok(Receipt { number: 1, start: 3, length: 2 }));
+    assert_eq!(seat.read(..)?, [1, 2, 3, 3, 2]);
+    seat.settle(&receipt.unwrap())?;
+    drop(seat);
+    vector.close()
+}
+
+fn fills_in_place(path: &Path) -> Result<(), Error> {
+    fills_of::<u32>(path, 262_142, 0, |it| it as u32)?;
+    fills_of::<i64>(path, 131_071, 0, |it| -(it as i64))?;
+    fills_of(path, 65_535, Pair::default(), |key| Pair { key, value: -1 })?;
+    fills_of(path, 116_507, Flagged::default(), |key| Flagged { key, flag: true })?;
+    fills_of(path, 131_071, Point { x: 0.0, y: 0.0 }, point)?;
+    fills_of(path, 43_690, Sample { sensor: 0, second: 0, value: 0.0, more: [0; 4] }, sample)?;
+    fills_of(path, 4_095, Line { first: 0, others: [0; 31] }, line)?;
+    fs::remove_file(path).unwrap();
+    fills_nothing(path)
+}
+
+/// Records are counted and found while threads grow.
+fn searches_beside_growers(path: &Path) -> Result<(), Error> {
+    const TURNS: u64 = 3_000;
+    let vector = &Vector::create(path, 5)?;
+    let early = vector.seat()?;
+    thread::scope(|scope| {
+        let grow = |name: u64| {
+            let seat = vector.seat()?;
+            (0..TURNS).try_for_each(|turn| seat.grow(&[7, 100 + name, 1_000 + turn]).map(drop))
+        };
+        let threads: Vec<_> = (0..3).map(|name| scope.spawn(move || grow(name))).collect();
+        let (seat, mut last) = (vector.seat()?, 0);
+        while !threads.iter().all(|it| it.is_finished()) {
+            let before = seat.len()?;
+            let sevens = seat.count(7)?;
+            assert!(sevens >= before / 3 && sevens >= last && sevens <= seat.len()? / 3);
+            // What comes meanwhile is no record that isn't there.
+            assert_eq!((seat.find(99, 0)?, seat.find(7, before)?.is_none_or(|it| it >= before && it % 3 == 0)), (None, true));
+            last = sevens;
+        }
+        threads.into_iter().try_for_each(|it| it.join().unwrap())
+    })?;
+    // A seat that has called nothing since it was taken looks at what others grew.
+    assert_eq!(early.count(7)?, 3 * TURNS);
+    let seat = vector.seat()?;
+    assert_eq!((seat.count(7)?, seat.count(102)?, seat.count(1_000 + TURNS)?), (3 * TURNS, TURNS, 0));
+    assert_eq!((seat.find(7, 1)?, seat.find(7, 9_000 * 3 - 2)?), (Some(3), None));
+    Ok(())
+}
+
+fn has_options(path: &Path) -> Result<(), Error> {
+    let usual = Options::default();
+    for seats in [0, MOST_SEATS + 1] {
+        refused(Vector::<u64>::create_with(path, &usual.seats(seats)), "a vector has 1 to 64 seats");
+        refused(Vector::<u64>::open_with(path, &usual.seats(seats)), "a vector has 1 to 64 seats");
+    }
+    assert_eq!(Vector::<u64>::create_with(path, &usual.growths(536_870_905)).unwrap_err(), Error::TooLarge);
+    assert!(!path.exists());
+    let vector = Vector::<u64>::create_with(path, &usual)?;
+    let seats: Vec<_> = (0..MOST_SEATS).map(|_| vector.seat().unwrap()).collect();
+    assert_eq!(vector.seat().unwrap_err(), Error::NoSeat);
+    seats[0].grow(&[5])?;
+    drop(seats);
+    vector.close()?;
+    assert_eq!(fs::read(path).unwrap()[8], 1);
+    assert_eq!(Vector::<u64>::open_with(path, &usual.growths(u64::MAX)).unwrap_err(), Error::TooLarge);
+    let vector = Vector::<u64>::open_with(path, &usual.growths(1).seats(1))?;
+    let seat = vector.seat()?;
+    assert_eq!((seat.piece(0)?, vector.seat().unwrap_err()), (Some(&[5][..]), Error::NoSeat));
+    seat.grow(&[7])?;
+    refused(seat.grow(&[9]), FULL);
+    drop(seat);
+    vector.close()?;
+    fs::remove_file(path).unwrap();
+    Vector::<u64>::create_with(path, &usual.version(Version::Two))?.close()?;
+    assert_eq!(fs::read(path).unwrap()[8], 2);
+    Ok(())
+}
+
 /// It reads just these records.
 fn has(vector: &Vector, records: &[u64]) {
     assert_eq!(vector.seat().unwrap().read(..).unwrap(), records);
@@ -401,10 +806,12 @@ fn is_changed(path: &Path) -> Result<(), Error> {
     let first = vector.seat()?.grow(&[0, 1, 2, 3, 4, 5])?;
     vector.change(2, &[12, 13, 12])?;
     has(&vector, &[0, 1, 12, 13, 12, 5]);
-    assert_eq!([vector.count(12)?, vector.count(5)?, vector.count(2)?], [2, 1, 0]);
-    let found = [0, 2, 3, 4, 5, 6, u64::MAX].map(|from| vector.find(12, from).unwrap());
+    let seat = vector.seat()?;
+    assert_eq!([seat.count(12)?, seat.count(5)?, seat.count(2)?], [2, 1, 0]);
+    let found = [0, 2, 3, 4, 5, 6, u64::MAX].map(|from| seat.find(12, from).unwrap());
     assert_eq!(found, [Some(2), Some(2), Some(4), Some(4), None, None, None]);
-    assert_eq!((vector.find(0, 0)?, vector.find(5, 0)?, vector.find(2, 0)?, vector.find(0, 1)?), (Some(0), Some(5), None, None));
+    assert_eq!((seat.find(0, 0)?, seat.find(5, 0)?, seat.find(2, 0)?, seat.find(0, 1)?), (Some(0), Some(5), None, None));
+    drop(seat);
     // What is refused, and what changes nothing, leaves the file.
     let before = fs::read(path).unwrap();
     for (start, records) in [(4, &[1, 2, 3][..]), (6, &[1]), (u64::MAX, &[1, 2])] {
@@ -438,8 +845,8 @@ fn is_changed(path: &Path) -> Result<(), Error> {
     vector.clear()?;
     vector.clear()?;
     has(&vector, &[]);
-    assert_eq!(vector.find(0, 0)?, None);
     let seat = vector.seat()?;
+    assert_eq!((seat.find(0, 0)?, seat.count(0)?), (None, 0));
     assert_eq!((seat.settled()?, seat.grow(&[5, 6])?), (3, Receipt { number: 3, start: 0, length: 2 }));
     seat.settle(&second)?;
     drop(seat);
@@ -469,15 +876,15 @@ fn is_refused(path: &Path) -> Result<(), Error> {
 fn is_broken(path: &Path) -> Result<(), Error> {
     let mut vector = Vector::create(path, 1)?;
     let receipt = vector.seat()?.grow(&[5; 300])?;
-    assert_eq!(vector.count(5)?, 300);
+    assert_eq!(vector.seat()?.count(5)?, 300);
+    vector.compact()?;
     assert_eq!(vector.change(0, &[7; 300]), Err(Error::DiskWrite(27)));
     refused(vector.seat(), BROKEN);
     refused(vector.clear(), BROKEN);
     refused(vector.fold(), BROKEN);
     refused(vector.change(0, &[9]), BROKEN);
     refused(vector.resize(0, 0), BROKEN);
-    refused(vector.count(1), BROKEN);
-    refused(vector.find(1, 0), BROKEN);
+    refused(vector.compact(), BROKEN);
     refused(vector.close(), BROKEN);
     // Where what was grown can't be committed the seats stay, by which it is read.
     let mut vector = Vector::open(path, 1)?;
@@ -485,7 +892,7 @@ fn is_broken(path: &Path) -> Result<(), Error> {
     assert_eq!(vector.clear(), Err(Error::DiskWrite(27)));
     refused(vector.clear(), BROKEN);
     let seat = vector.seat()?;
-    assert_eq!((seat.len()?, seat.settled()?), (600, 0));
+    assert_eq!((seat.len()?, seat.settled()?, seat.count(7)?, seat.find(7, 0)?), (600, 0, 300, Some(300)));
     refused(seat.settle(&receipt), BROKEN);
     drop(seat);
     refused(vector.close(), BROKEN);
@@ -561,17 +968,20 @@ fn forks(path: &Path) -> Result<(), Error> {
     let mut vector = Vector::create(path, 2)?;
     let seat = vector.seat()?;
     let receipt = seat.grow(&[5])?;
+    let (lent, mut view) = (seat.piece(0)?.unwrap(), seat.view()?);
     // SAFETY: no other thread runs, and the child calls nothing but what it tries.
     let child = unsafe { fork() };
     if child == 0 {
         let looks = [seat.settled().map(drop), seat.len().map(drop), seat.read(..).map(drop), seat.read_into(0, &mut [1]).map(drop)];
-        let answers = [seat.grow(&[6]).map(drop), seat.settle(&receipt), vector.seat().map(drop)];
+        let lends = [seat.piece(0).map(drop), seat.view().map(drop), view.learn(&seat), seat.pieces(0).next().unwrap().map(drop)];
+        let found = [seat.at(0).map(drop), seat.count(5).map(drop), seat.find(5, 0).map(drop)];
+        let answers = [seat.grow(&[6]).map(drop), seat.grow_with(1, |_| ()).map(drop), seat.settle(&receipt), vector.seat().map(drop)];
+        let is_lent = lent == [5] && view[0] == 5 && view.get(1).is_none();
         drop(seat);
-        let changes = [vector.change(0, &[1]), vector.resize(0, 0), vector.clear(), vector.fold(), vector.count(5).map(drop)];
-        let found = vector.find(5, 0).map(drop);
-        let refused = looks.iter().chain(&answers).chain(&changes).chain([&found, &vector.close()]).all(|it| *it == Err(Error::Forked));
+        let changes = [vector.change(0, &[1]), vector.resize(0, 0), vector.clear(), vector.fold(), vector.compact(), vector.close()];
+        let refused = looks.iter().chain(&lends).chain(&found).chain(&answers).chain(&changes).all(|it| *it == Err(Error::Forked));
         // SAFETY: it ends the child, with none of the parent's buffers.
-        unsafe { _exit(if refused { 0 } else { 1 }) };
+        unsafe { _exit(if refused && is_lent { 0 } else { 1 }) };
     }
     let mut status = 1;
     // SAFETY: the place for the status lasts for the call.
@@ -637,6 +1047,14 @@ fn main() {
     match words[0].as_str() {
         "grows_and_reads" => grows_and_reads(path),
         "has_types" => has_types(path),
+        "has_own_structs" => has_own_structs(path),
+        "searches_and_resizes_own_structs" => searches_and_resizes_own_structs(path),
+        "lends" => lends(path),
+        "is_full_where_it_lends" => is_full_where_it_lends(path),
+        "views" => views(path),
+        "fills_in_place" => fills_in_place(path),
+        "searches_beside_growers" => searches_beside_growers(path),
+        "has_options" => has_options(path),
         "appends" => appends(path),
         "each_refusal" => each_refusal(path),
         "has_a_deadline" => has_a_deadline(path),

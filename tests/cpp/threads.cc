@@ -5,6 +5,7 @@
 
 #include <cinttypes>
 #include <cstdio>
+#include <unistd.h>
 
 struct row {
     std::uint64_t thread, turn, mixed;

@@ -3,6 +3,7 @@
 #include <cvec/concurrent_vector.hpp>
 
 #include <cstdio>
+#include <unistd.h>
 
 using numbers = cvec::concurrent_vector<std::uint64_t>;
 

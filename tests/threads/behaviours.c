@@ -1,7 +1,6 @@
 /* Behaviours of cvec_vector.c, each by its name: ./behaviours NAME FILE. The calls of the system that change a file may be
  * cut, refused or interrupted. The status is 0 where the behaviour is as it is promised; else a line says what isn't. */
-#define _DEFAULT_SOURCE 1
-#define _POSIX_C_SOURCE 200809L
+#define _GNU_SOURCE 1
 #include <errno.h>
 #include <fcntl.h>
 #include <inttypes.h>
@@ -205,9 +204,7 @@ static pid_t test_getpid(void) { return number_of_all != 0 ? number_of_all : get
 
 static void *test_malloc(size_t len) { return mallocs >= 0 && mallocs-- == 0 ? NULL : malloc(len); }
 
-/* A phase may be full behind so many growths, below the library's own number; 0 is none. What asks the library for memory may be
- * refused. */
-static uint64_t phase_limit, grown_in_phase;
+/* What asks the library for memory may be refused. */
 static int requests = -1; /* of the library's that pass before one is refused; none is below 0 */
 
 #include "cvec_vector.h"
@@ -218,19 +215,6 @@ static int is_refused(void) { return requests >= 0 && requests-- == 0; }
 void *__wrap_malloc(size_t len) { return is_refused() ? NULL : __real_malloc(len); }
 void *__wrap_realloc(void *there, size_t len) { return is_refused() ? NULL : __real_realloc(there, len); }
 
-static uint32_t test_grow(cvec_handle *grower, const uint64_t *records, size_t count, cvec_receipt *receipt) {
-    if (phase_limit > 0 && __atomic_add_fetch(&grown_in_phase, 1, __ATOMIC_SEQ_CST) > phase_limit) return CVEC_FULL;
-    return cvec_phase_grow_u64(grower, records, count, receipt);
-}
-
-static uint32_t test_share(cvec_handle *vault, uint16_t seats, cvec_handle *phase) {
-    const uint32_t answer = cvec_phase_share(vault, seats, phase);
-    if (answer == CVEC_DONE) __atomic_store_n(&grown_in_phase, 0, __ATOMIC_SEQ_CST);
-    return answer;
-}
-
-#define cvec_phase_grow_u64 test_grow
-#define cvec_phase_share test_share
 #define getpid test_getpid
 #define malloc test_malloc
 #define nanosleep test_nanosleep
@@ -242,9 +226,9 @@ static uint32_t test_share(cvec_handle *vault, uint16_t seats, cvec_handle *phas
 #define open test_open
 #define pthread_cond_timedwait test_timedwait
 #define pthread_cond_wait test_wait
+#include "system.c"
+#include "types.c"
 #include "cvec_vector.c"
-#undef cvec_phase_grow_u64
-#undef cvec_phase_share
 #undef pthread_cond_wait
 #undef pthread_cond_timedwait
 #undef malloc
@@ -256,6 +240,8 @@ static uint32_t test_share(cvec_handle *vault, uint16_t seats, cvec_handle *phas
 #undef fstat
 #undef stat
 #undef open
+
+#include "typed.h"
 
 static int wrong;
 
@@ -271,13 +257,17 @@ static int wrong;
 static cvec_vector *vector;
 static cvec_vector_seat *seat;
 
-/* A new vector with so many seats, one of them taken. */
-static void make(const char *path, uint16_t seats) {
-    HOLDS(cvec_vector_create(&vector, path, 1, seats) == CVEC_DONE);
+/* A new vector with so many seats, one of them taken, and with phases of so many growths. */
+static void make_narrow(const char *path, uint16_t seats, uint64_t growths) {
+    const cvec_options options = {1, seats, growths};
+    HOLDS(cvec_vector_create_with(&vector, path, CVEC_U64, &options) == CVEC_DONE);
     if (wrong) exit(1);
     HOLDS(cvec_vector_take_seat(vector, &seat) == CVEC_DONE);
     if (wrong) exit(1);
 }
+
+/* With as many as there can be. */
+static void make(const char *path, uint16_t seats) { make_narrow(path, seats, 0); }
 
 static uint32_t grow(uint64_t record, uint64_t *number) {
     cvec_receipt receipt;
@@ -374,6 +364,14 @@ static void looks_for_its_name(const char *path) {
     }
 }
 
+/* The vector says that its file is the one that has this name. */
+static void is_named(const char *path) {
+    struct stat named;
+    uint64_t device = 0, file = 0;
+    HOLDS((stat)(path, &named) == 0 && cvec_vector_identity(vector, &device, &file) == CVEC_DONE);
+    HOLDS(device == named.st_dev && file == named.st_ino);
+}
+
 /* The file is opened that has the name once its lock is had, whichever had it before. */
 static void replaced(const char *path) {
     char other[4096];
@@ -386,6 +384,7 @@ static void replaced(const char *path) {
     HOLDS(cvec_vector_close_seat(seat) == CVEC_DONE && cvec_vector_close(vector) == CVEC_DONE);
     HOLDS(beside_move(opens_it, path, other, path) == CVEC_DONE);
     if (wrong) exit(1);
+    is_named(path);
     HOLDS(cvec_vector_take_seat(vector, &seat) == CVEC_DONE && grow(2, &number) == CVEC_DONE);
     HOLDS(cvec_vector_close_seat(seat) == CVEC_DONE && cvec_vector_close(vector) == CVEC_DONE);
     HOLDS(found(path) == 3);
@@ -444,7 +443,9 @@ static void streams(const char *path) {
 static void is_busy(const char *path) {
     uint64_t number = 0, count = 0;
     const void *records;
+    void *block;
     size_t kept;
+    cvec_piece piece;
     make(path, 1);
     seat->busy = true; /* as another thread inside a call leaves it */
     HOLDS(grow(0, &number) == CVEC_BUSY);
@@ -458,6 +459,12 @@ static void is_busy(const char *path) {
     HOLDS(cvec_vector_push_block(seat, 5) == CVEC_BUSY);
     HOLDS(cvec_vector_grow_pushed(seat, NULL) == CVEC_BUSY);
     HOLDS(cvec_vector_pushed(seat, &records, &kept) == CVEC_BUSY);
+    HOLDS(cvec_vector_block(seat, 1, &block) == CVEC_BUSY);
+    HOLDS(cvec_vector_publish(seat, NULL) == CVEC_BUSY);
+    HOLDS(cvec_vector_drop(seat) == CVEC_BUSY);
+    HOLDS(cvec_vector_pieces(seat, 0, &piece, 1, &kept) == CVEC_BUSY);
+    HOLDS(cvec_vector_count(seat, 0, &count) == CVEC_BUSY);
+    HOLDS(cvec_vector_find(seat, 0, 0, &count) == CVEC_BUSY);
     HOLDS(cvec_vector_close_seat(seat) == CVEC_BUSY);
     seat->busy = false;
     /* Each call leaves the seat free. */
@@ -471,6 +478,14 @@ static void is_busy(const char *path) {
     HOLDS(cvec_vector_push(seat, &number) == CVEC_DONE);
     HOLDS(cvec_vector_pushed(seat, &records, &kept) == CVEC_DONE && kept == 1);
     HOLDS(cvec_vector_grow_pushed(seat, NULL) == CVEC_DONE);
+    HOLDS(cvec_vector_block(seat, 1, &block) == CVEC_DONE);
+    HOLDS(cvec_vector_block(seat, 1, &block) == CVEC_NOT_SO);
+    HOLDS(cvec_vector_publish(seat, NULL) == CVEC_DONE);
+    HOLDS(cvec_vector_publish(seat, NULL) == CVEC_NOT_SO);
+    HOLDS(cvec_vector_drop(seat) == CVEC_NOT_SO);
+    HOLDS(cvec_vector_pieces(seat, 0, &piece, 1, &kept) == CVEC_DONE && kept == 1);
+    HOLDS(cvec_vector_count(seat, 0, &count) == CVEC_DONE && count == 3);
+    HOLDS(cvec_vector_find(seat, 1, 0, &count) == CVEC_DONE && count == 3);
     HOLDS(cvec_vector_close_seat(seat) == CVEC_DONE);
     HOLDS(cvec_vector_close(vector) == CVEC_DONE);
 }
@@ -478,13 +493,20 @@ static void is_busy(const char *path) {
 static int is_refused_in_a_fork(void) {
     uint64_t number = 0;
     const void *records;
+    void *block;
     size_t kept;
+    cvec_piece piece;
     cvec_vector_seat *other;
-    return grow(7, &number) == CVEC_FORKED && cvec_vector_await(seat, 0) == CVEC_FORKED &&
+    return cvec_vector_block(seat, 1, &block) == CVEC_FORKED && cvec_vector_publish(seat, NULL) == CVEC_FORKED &&
+           cvec_vector_drop(seat) == CVEC_FORKED && cvec_vector_pieces(seat, 0, &piece, 1, &kept) == CVEC_FORKED &&
+           cvec_vector_count(seat, 0, &number) == CVEC_FORKED && cvec_vector_find(seat, 0, 0, &number) == CVEC_FORKED &&
+           cvec_vector_hold(vector) == CVEC_FORKED && cvec_vector_release(vector) == CVEC_FORKED &&
+           cvec_vector_compact(vector) == CVEC_FORKED && grow(7, &number) == CVEC_FORKED && cvec_vector_await(seat, 0) == CVEC_FORKED &&
            cvec_vector_size(seat, &number) == CVEC_FORKED && cvec_vector_settled(seat, &number) == CVEC_FORKED &&
            cvec_vector_read(seat, 0, &number, 1, &number) == CVEC_FORKED && cvec_vector_take_seat(vector, &other) == CVEC_FORKED &&
            cvec_vector_await_for(seat, 0, 1) == CVEC_FORKED && cvec_vector_run_flusher(vector, 1) == CVEC_FORKED &&
-           cvec_vector_seat_within(vector, 1, &other) == CVEC_FORKED && cvec_vector_stop_flusher(vector) == CVEC_FORKED && cvec_vector_at(seat, 0, &number) == CVEC_FORKED &&
+           cvec_vector_seat_within(vector, 1, &other) == CVEC_FORKED && cvec_vector_stop_flusher(vector) == CVEC_FORKED &&
+           cvec_vector_flush(vector) == CVEC_FORKED && cvec_vector_at(seat, 0, &number) == CVEC_FORKED &&
            cvec_vector_push(seat, &number) == CVEC_FORKED && cvec_vector_push_block(seat, 5) == CVEC_FORKED &&
            cvec_vector_grow_pushed(seat, NULL) == CVEC_FORKED && cvec_vector_pushed(seat, &records, &kept) == CVEC_FORKED &&
            cvec_vector_close_seat(seat) == CVEC_FORKED && cvec_vector_close(vector) == CVEC_FORKED;
@@ -503,7 +525,7 @@ static int has_its_own_in_a_fork(const char *path) {
 }
 
 static void *run_this_process(void *number) {
-    *(uint64_t *)number = this_process();
+    *(uint64_t *)number = cvec_process();
     return NULL;
 }
 
@@ -515,9 +537,9 @@ static int has_one_number_in_a_fork(void) {
     int status = 1, differ = 0;
     for (int k = 0; k < THREADS; k++) pthread_create(&threads[k], NULL, run_this_process, &numbers[k]);
     for (int k = 0; k < THREADS; k++) pthread_join(threads[k], NULL);
-    for (int k = 0; k < THREADS; k++) differ |= numbers[k] != this_process();
+    for (int k = 0; k < THREADS; k++) differ |= numbers[k] != cvec_process();
     const pid_t child = fork();
-    if (child == 0) _exit(this_process() != numbers[0] && this_process() != vector->process ? 0 : 1);
+    if (child == 0) _exit(cvec_process() != numbers[0] && cvec_process() != vector->process ? 0 : 1);
     return waitpid(child, &status, 0) == child && status == 0 && !differ && numbers[0] != vector->process;
 }
 
@@ -527,7 +549,7 @@ static void forks(const char *path) {
     uint64_t number = 0;
     int status = 1;
     make(path, 2);
-    if (noted_process != NULL) number_of_all = getpid();
+    if (noted_process != &no_process) number_of_all = getpid();
     HOLDS(cvec_vector_push(seat, &pushed) == CVEC_DONE);
     pid_t child = fork();
     if (child == 0) _exit(is_refused_in_a_fork() ? 0 : 1);
@@ -536,7 +558,7 @@ static void forks(const char *path) {
     if (child == 0) _exit(has_its_own_in_a_fork(path) ? 0 : 1);
     HOLDS(waitpid(child, &status, 0) == child && status == 0);
     child = fork();
-    if (child == 0) _exit(noted_process == NULL || has_one_number_in_a_fork() ? 0 : 1);
+    if (child == 0) _exit(noted_process == &no_process || has_one_number_in_a_fork() ? 0 : 1);
     HOLDS(waitpid(child, &status, 0) == child && status == 0);
     HOLDS(grow(0, &number) == CVEC_DONE);
     HOLDS(cvec_vector_close_seat(seat) == CVEC_DONE);
@@ -770,16 +792,6 @@ static void foreign(const char *path) {
     HOLDS(cvec_vector_create(&vector, path, 2, 1) == CVEC_DONE && cvec_vector_close(vector) == CVEC_DONE);
 }
 
-/* Tells each status that has a sentence of its own. */
-static void texts(const char *path) {
-    const char *unknown = cvec_vector_status_text(UINT32_MAX);
-    for (uint32_t status = 0; status < 1000; status++) {
-        const char *text = cvec_vector_status_text(status);
-        if (strcmp(text, unknown) != 0) printf("%" PRIu32 " %s\n", status, text);
-    }
-    HOLDS(access(path, F_OK) != 0);
-}
-
 /* Where memory that is asked for ahead is refused, a growth is made all the same; and a file that can't be read isn't opened. */
 static void memory(const char *path) {
     uint64_t number = 0;
@@ -818,11 +830,11 @@ static void leaves_positions(const char *path, uint64_t len) {
 
 /* Seats stay open where a phase is full, and numbers count on; those from before are durable. */
 static void full(const char *path) {
-    enum { MOST = 1048568 };
+    enum { MOST = 1000 };
     uint64_t number = 0, count = 9;
     cvec_vector_seat *other;
     cvec_receipt receipt;
-    make(path, 2);
+    make_narrow(path, 2, MOST);
     HOLDS(cvec_vector_take_seat(vector, &other) == CVEC_DONE);
     for (uint64_t k = 0; k < 2 * MOST + 1; k++) {
         if (grow(k, &number) != CVEC_DONE || number != k) HOLDS(!"it was grown");
@@ -1106,9 +1118,46 @@ static void flushes_all(const char *path) {
     HOLDS(cvec_vector_size(seat, &size) == CVEC_DONE && size == 5 * 131071 + 2);
     for (int k = 0; k < 2; k++) HOLDS(cvec_vector_grow(seat, many, 131071, NULL) == CVEC_DONE);
     HOLDS(cvec_vector_close_seat(seat) == CVEC_DONE);
-    HOLDS(cvec_vector_count(vector, 1, &size) == CVEC_DONE && size == 1);
-    HOLDS(cvec_vector_find(vector, 7, 0, &size) == CVEC_DONE && size == 7 * 131071 + 2);
+    HOLDS(cvec_vector_compact(vector) == CVEC_DONE && cvec_vector_take_seat(vector, &seat) == CVEC_DONE && settled() == 2);
+    HOLDS(cvec_vector_size(seat, &size) == CVEC_DONE && size == 7 * 131071 + 2);
+    HOLDS(cvec_vector_close_seat(seat) == CVEC_DONE);
     HOLDS(cvec_vector_close(vector) == CVEC_DONE);
+}
+
+/* A turn of its own takes all that there is, of each seat, and takes none itself; behind a stop it takes nothing. */
+static void flushes_once(const char *path) {
+    static uint64_t many[131071];
+    cvec_vector_seat *other = NULL;
+    uint64_t number = 0;
+    make(path, 2);
+    HOLDS(cvec_vector_flush(vector) == CVEC_DONE && settled() == 0);
+    HOLDS(cvec_vector_take_seat(vector, &other) == CVEC_DONE && grow(0, &number) == CVEC_DONE);
+    for (uint64_t k = 0; k < 2 * 131071; k++) {
+        many[k % 131071] = k + 1;
+        if (k % 131071 == 131070) HOLDS(cvec_vector_grow(other, many, 131071, NULL) == CVEC_DONE);
+    }
+    HOLDS(settled() == 0 && cvec_vector_flush(vector) == CVEC_DONE && settled() == 3 && flushers() == 0);
+    HOLDS(grow(2 * 131071 + 1, &number) == CVEC_DONE && cvec_vector_stop_flusher(vector) == CVEC_DONE);
+    HOLDS(cvec_vector_flush(vector) == CVEC_DONE && settled() == 3);
+    HOLDS(cvec_vector_close_seat(other) == CVEC_DONE && cvec_vector_close_seat(seat) == CVEC_DONE && cvec_vector_close(vector) == CVEC_DONE);
+    HOLDS(found(path) == 2 * 131071 + 2);
+}
+
+/* A block that was published is among what it takes. */
+static void flushes_blocks(const char *path) {
+    pthread_t flusher;
+    void *block = NULL;
+    make(path, 1);
+    begin_flusher(&flusher, &soon);
+    for (uint64_t k = 0; k < 20; k++) {
+        HOLDS(cvec_vector_block(seat, 1, &block) == CVEC_DONE);
+        if (wrong) exit(1);
+        *(uint64_t *)block = k;
+        HOLDS(cvec_vector_publish(seat, NULL) == CVEC_DONE);
+        until_settled(k + 1);
+    }
+    HOLDS(cvec_vector_close_seat(seat) == CVEC_DONE && cvec_vector_close(vector) == CVEC_DONE);
+    HOLDS(end_of_flusher(flusher) == CVEC_DONE && found(path) == 20);
 }
 
 /* A commit that is refused ends the loop. */
@@ -1122,7 +1171,7 @@ static void flusher_fails(const char *path) {
     left = 0;
     HOLDS(grow(1, &number) == CVEC_DONE);
     HOLDS(end_of_flusher(flusher) == CVEC_DISK_WRITE);
-    HOLDS(grow(2, &number) == CVEC_BROKEN && cvec_vector_run_flusher(vector, 1) == CVEC_BROKEN);
+    HOLDS(grow(2, &number) == CVEC_BROKEN && cvec_vector_run_flusher(vector, 1) == CVEC_BROKEN && cvec_vector_flush(vector) == CVEC_BROKEN);
     HOLDS(cvec_vector_close_seat(seat) == CVEC_DONE && cvec_vector_close(vector) == CVEC_BROKEN);
     HOLDS(found(path) == 1);
 }
@@ -1150,14 +1199,27 @@ static void has(const char *path, const uint64_t *records, uint64_t len) {
 
 /* What each call of the whole vector answers. */
 static void all_answer(uint32_t answer) {
-    uint64_t record = 1, found = 9;
+    uint64_t record = 1;
     HOLDS(cvec_vector_change(vector, 0, &record, 1) == answer);
     HOLDS(cvec_vector_resize(vector, 1, 0) == answer);
     HOLDS(cvec_vector_clear(vector) == answer);
     HOLDS(cvec_vector_fold(vector) == answer);
-    HOLDS(cvec_vector_count(vector, 1, &found) == answer);
-    HOLDS(cvec_vector_find(vector, 1, 0, &found) == answer);
-    HOLDS(found == 9);
+    HOLDS(cvec_vector_compact(vector) == answer);
+}
+
+/* How many records equal this one, and the first position from there on that has it, as a new seat finds them. */
+static uint64_t counted(uint64_t record) {
+    uint64_t count = 9;
+    HOLDS(cvec_vector_take_seat(vector, &seat) == CVEC_DONE && cvec_vector_count(seat, record, &count) == CVEC_DONE);
+    HOLDS(cvec_vector_close_seat(seat) == CVEC_DONE);
+    return count;
+}
+
+static uint64_t first_of(uint64_t record, uint64_t from) {
+    uint64_t place = 9;
+    HOLDS(cvec_vector_take_seat(vector, &seat) == CVEC_DONE && cvec_vector_find(seat, record, from, &place) == CVEC_DONE);
+    HOLDS(cvec_vector_close_seat(seat) == CVEC_DONE);
+    return place;
 }
 
 /* Two seats that grew 0, 1, .. 5, and are closed; the growths of the second weren't awaited. */
@@ -1183,12 +1245,8 @@ static void alone(const char *path) {
     cvec_vector_seat *second;
     grown(path);
     HOLDS(cvec_vector_change(vector, 2, over, 3) == CVEC_DONE);
-    HOLDS(cvec_vector_count(vector, 12, &place) == CVEC_DONE && place == 2);
-    HOLDS(cvec_vector_count(vector, 2, &place) == CVEC_DONE && place == 0);
-    HOLDS(cvec_vector_find(vector, 12, 0, &place) == CVEC_DONE && place == 2);
-    HOLDS(cvec_vector_find(vector, 12, 3, &place) == CVEC_DONE && place == 4);
-    HOLDS(cvec_vector_find(vector, 12, 5, &place) == CVEC_DONE && place == 6);
-    HOLDS(cvec_vector_find(vector, 0, 0, &place) == CVEC_DONE && place == 0);
+    HOLDS(counted(12) == 2 && counted(2) == 0);
+    HOLDS(first_of(12, 0) == 2 && first_of(12, 3) == 4 && first_of(12, 5) == 6 && first_of(0, 0) == 0);
     has(path, changed, 6);
     /* Outside it, and shorter while the change isn't folded: nothing is written. */
     int before = writes;
@@ -1212,7 +1270,7 @@ static void alone(const char *path) {
     HOLDS(cvec_vector_resize(vector, 6, 0) == CVEC_DONE);
     has(path, changed, 6);
     HOLDS(cvec_vector_clear(vector) == CVEC_DONE);
-    HOLDS(cvec_vector_find(vector, 0, 0, &place) == CVEC_DONE && place == 0);
+    HOLDS(first_of(0, 0) == 0);
     /* Each seat is given again, and their growths are counted on from when it was opened. */
     HOLDS(cvec_vector_take_seat(vector, &seat) == CVEC_DONE);
     HOLDS(cvec_vector_take_seat(vector, &second) == CVEC_DONE);
@@ -1232,18 +1290,18 @@ static void alone_fails_at(const char *path, int call) {
     uint64_t count = 9;
     remove(path);
     grown(path);
-    HOLDS(cvec_vector_count(vector, 9, &count) == CVEC_DONE && count == 0);
+    HOLDS(cvec_vector_compact(vector) == CVEC_DONE);
     left = call;
     HOLDS(cvec_vector_change(vector, 0, over, 1) == (call % 2 == 0 ? CVEC_DISK_WRITE : CVEC_DISK_SYNC));
     left = -1;
     int before = writes;
-    count = 9;
     all_answer(CVEC_BROKEN);
     HOLDS(cvec_vector_take_seat(vector, &seat) == CVEC_BROKEN && seat == NULL);
     HOLDS(cvec_vector_close(vector) == CVEC_BROKEN);
     HOLDS(writes == before);
     HOLDS(cvec_vector_open(&vector, path, 2) == CVEC_DONE);
-    HOLDS(cvec_vector_count(vector, 9, &count) == CVEC_DONE && count <= (call < 2 ? 0 : 1));
+    count = counted(9);
+    HOLDS(count <= (call < 2 ? 0 : 1));
     has(path, count == 0 ? was : is, 6);
     HOLDS(cvec_vector_close(vector) == CVEC_DONE);
 }
@@ -1352,7 +1410,7 @@ static void seat_is_had_again(const char *path) {
 static void alone_beside_a_late_flusher(const char *path) {
     pthread_t flusher;
     struct wait first;
-    uint64_t number = 0, count = 9;
+    uint64_t number = 0;
     make(path, 1);
     for (uint64_t k = 0; k < 3; k++) HOLDS(grow(k, &number) == CVEC_DONE);
     first.seat = seat;
@@ -1366,11 +1424,11 @@ static void alone_beside_a_late_flusher(const char *path) {
     shut_gate(0);
     HOLDS(end_of(&first) == CVEC_DONE && cvec_vector_close_seat(seat) == CVEC_DONE);
     HOLDS(cvec_vector_take_seat(vector, &seat) == CVEC_DONE && grow(3, &number) == CVEC_DONE && number == 3);
-    HOLDS(cvec_vector_close_seat(seat) == CVEC_DONE && cvec_vector_count(vector, 3, &count) == CVEC_DONE && count == 1);
+    HOLDS(cvec_vector_close_seat(seat) == CVEC_DONE && cvec_vector_compact(vector) == CVEC_DONE);
     before = __atomic_load_n(&timed_waits, __ATOMIC_SEQ_CST);
     __atomic_store_n(&dozing, 0, __ATOMIC_SEQ_CST);
     while (__atomic_load_n(&timed_waits, __ATOMIC_SEQ_CST) == before && flushers() > 0) nap();
-    HOLDS(cvec_vector_count(vector, 3, &count) == CVEC_DONE && cvec_vector_close(vector) == CVEC_DONE);
+    HOLDS(cvec_vector_compact(vector) == CVEC_DONE && cvec_vector_close(vector) == CVEC_DONE);
     HOLDS(end_of_flusher(flusher) == CVEC_DONE);
     HOLDS(found(path) == 4);
 }
@@ -1386,59 +1444,19 @@ static void alone_flushes(const char *path) {
         HOLDS(grow(k, &number) == CVEC_DONE && number == k);
         HOLDS(cvec_vector_close_seat(seat) == CVEC_DONE);
         HOLDS(cvec_vector_change(vector, k, over, 1) == CVEC_DONE);
-        HOLDS(cvec_vector_count(vector, 7, &place) == CVEC_DONE && place == k + 1);
         HOLDS(cvec_vector_take_seat(vector, &seat) == CVEC_DONE);
+        HOLDS(cvec_vector_count(seat, 7, &place) == CVEC_DONE && place == k + 1);
     }
     HOLDS(grow(8, &number) == CVEC_DONE && number == 50);
     until_settled(51);
     HOLDS(cvec_vector_close_seat(seat) == CVEC_DONE && cvec_vector_close(vector) == CVEC_DONE);
     HOLDS(end_of_flusher(flusher) == CVEC_DONE);
     HOLDS(cvec_vector_open(&vector, path, 1) == CVEC_DONE);
-    HOLDS(cvec_vector_find(vector, 8, 0, &place) == CVEC_DONE && place == 50);
+    HOLDS(first_of(8, 0) == 50);
     HOLDS(cvec_vector_close(vector) == CVEC_DONE);
 }
 
 /* ---- records of each type */
-
-/* Any record, by its type. */
-union record {
-    uint32_t u32;
-    uint64_t u64;
-    int64_t i64;
-    cvec_pair pair;
-    cvec_flagged flagged;
-};
-
-/* Record k of a type, and whether this is it. No two are equal, and each has bits that a narrower one hasn't. */
-static union record record_of(cvec_type type, uint64_t k) {
-    union record record;
-    memset(&record, 0, sizeof record);
-    switch (type) {
-    case CVEC_U32: record.u32 = UINT32_MAX - (uint32_t)k; break;
-    case CVEC_I64: record.i64 = -(int64_t)k - 1; break;
-    case CVEC_PAIR: record.pair = (cvec_pair){UINT64_MAX - k / 2, k % 2 == 0 ? INT64_MIN : (int64_t)k}; break;
-    case CVEC_FLAGGED: record.flagged = (cvec_flagged){UINT64_MAX - k / 2, k % 2 == 0}; break;
-    default: record.u64 = UINT64_MAX - k;
-    }
-    return record;
-}
-
-static int is_record(cvec_type type, const void *there, uint64_t k) {
-    const union record wanted = record_of(type, k);
-    if (type == CVEC_FLAGGED) {
-        const cvec_flagged *seen = there;
-        return seen->key == wanted.flagged.key && seen->flag == wanted.flagged.flag;
-    }
-    return memcmp(there, &wanted, size_of(type)) == 0;
-}
-
-/* Records of these numbers, one behind the other. */
-static void put_records(cvec_type type, const uint64_t *numbers, size_t count, uint8_t *out) {
-    for (size_t k = 0; k < count; k++) {
-        const union record record = record_of(type, numbers[k]);
-        memcpy(out + k * size_of(type), &record, size_of(type));
-    }
-}
 
 static uint32_t grow_typed(cvec_type type, const uint64_t *numbers, size_t count, cvec_receipt *receipt) {
     union record records[16];
@@ -1464,8 +1482,10 @@ static void reads_typed(cvec_type type, const uint64_t *numbers, uint64_t len) {
 static void has_typed(const char *path, cvec_type type, const uint64_t *numbers, uint64_t len) {
     reads_typed(type, numbers, len);
     HOLDS(cvec_vector_close(vector) == CVEC_DONE);
-    for (cvec_type other = CVEC_U32; other <= CVEC_FLAGGED; other++)
+    for (int k = 0; k < VECTOR_TYPES; k++) {
+        const cvec_type other = vector_types[k];
         if (width_of(other) != width_of(type)) HOLDS(cvec_vector_open_as(&vector, path, other, 2) == CVEC_WIDTH && vector == NULL);
+    }
     HOLDS(cvec_vector_open_as(&vector, path, type, 2) == CVEC_DONE);
     if (wrong) exit(1);
     reads_typed(type, numbers, len);
@@ -1486,19 +1506,21 @@ static void grows_most(cvec_type type) {
 static void searches(cvec_type type, uint64_t number, uint64_t from, uint64_t count, uint64_t place) {
     const union record sought = record_of(type, number);
     uint64_t found_count = 9, found_place = 9;
-    HOLDS(cvec_vector_count_record(vector, &sought, &found_count) == CVEC_DONE && found_count == count);
-    HOLDS(cvec_vector_find_record(vector, &sought, from, &found_place) == CVEC_DONE && found_place == place);
+    HOLDS(cvec_vector_take_seat(vector, &seat) == CVEC_DONE);
+    HOLDS(cvec_vector_count_record(seat, &sought, &found_count) == CVEC_DONE && found_count == count);
+    HOLDS(cvec_vector_find_record(seat, &sought, from, &found_place) == CVEC_DONE && found_place == place);
+    HOLDS(cvec_vector_close_seat(seat) == CVEC_DONE);
 }
 
 /* What names one record of u64 is for these alone. */
 static void is_for_words(cvec_type type) {
     const uint32_t answer = width_of(type) == 8 ? CVEC_DONE : CVEC_WIDTH;
     uint64_t out = 9, record = 9;
-    HOLDS(cvec_vector_count(vector, UINT64_MAX - 100, &out) == answer && out == (answer == CVEC_DONE ? 0 : 9));
-    HOLDS(cvec_vector_find(vector, UINT64_MAX - 100, 0, &out) == answer);
     HOLDS(cvec_vector_resize(vector, 6, 0) == answer);
     HOLDS(cvec_vector_change(vector, 6, &out, 0) == answer);
     HOLDS(cvec_vector_take_seat(vector, &seat) == CVEC_DONE);
+    HOLDS(cvec_vector_count(seat, UINT64_MAX - 100, &out) == answer && out == (answer == CVEC_DONE ? 0 : 9));
+    HOLDS(cvec_vector_find(seat, UINT64_MAX - 100, 0, &out) == answer && out == (answer == CVEC_DONE ? 6 : 9));
     HOLDS(cvec_vector_grow(seat, &out, 0, NULL) == (answer == CVEC_DONE ? CVEC_EMPTY : CVEC_WIDTH));
     HOLDS(cvec_vector_read(seat, 6, &record, 1, &out) == answer);
     HOLDS(cvec_vector_close_seat(seat) == CVEC_DONE);
@@ -1547,9 +1569,11 @@ static void refuses_type(const char *path, cvec_type type) {
 }
 
 static void typed(const char *path) {
-    for (cvec_type type = CVEC_U32; type <= CVEC_FLAGGED; type++)
-        for (uint8_t version = 1; version <= 2; version++) typed_of(path, type, version);
-    for (uint32_t type = CVEC_FLAGGED + 1; type <= CVEC_F64 + 1; type++) refuses_type(path, (cvec_type)type);
+    static const cvec_type of_files[] = {CVEC_U8,      CVEC_U16,     CVEC_I32,     CVEC_F32,     CVEC_F64,
+                                         CVEC_BYTES16, CVEC_BYTES24, CVEC_BYTES32, CVEC_BYTES64, CVEC_TYPE_COUNT};
+    for (int k = 0; k < VECTOR_TYPES; k++)
+        for (uint8_t version = 1; version <= 2; version++) typed_of(path, vector_types[k], version);
+    for (size_t k = 0; k < sizeof of_files / sizeof *of_files; k++) refuses_type(path, of_files[k]);
 }
 
 /* A flag is 0 or 1: no call takes another byte for one, and nothing is grown or changed then. */
@@ -1566,13 +1590,33 @@ static void flags(const char *path) {
     HOLDS(cvec_vector_grow_records(seat, records, 2, &receipt) == CVEC_NO_RECORD && receipt.number == 9);
     HOLDS(cvec_vector_push(seat, &records[1]) == CVEC_NO_RECORD);
     HOLDS(cvec_vector_grow_pushed(seat, &receipt) == CVEC_EMPTY && receipt.number == 9);
+    HOLDS(cvec_vector_count_record(seat, &records[1], &out) == CVEC_NO_RECORD);
+    HOLDS(cvec_vector_find_record(seat, &records[1], 0, &out) == CVEC_NO_RECORD && out == 9);
     HOLDS(cvec_vector_close_seat(seat) == CVEC_DONE);
     HOLDS(cvec_vector_change_records(vector, 0, records, 2) == CVEC_NO_RECORD);
     HOLDS(cvec_vector_resize_by(vector, 3, &records[1]) == CVEC_NO_RECORD);
-    HOLDS(cvec_vector_count_record(vector, &records[1], &out) == CVEC_NO_RECORD);
-    HOLDS(cvec_vector_find_record(vector, &records[1], 0, &out) == CVEC_NO_RECORD && out == 9);
     has_typed(path, CVEC_FLAGGED, first, 2);
     HOLDS(cvec_vector_close(vector) == CVEC_DONE);
+}
+
+/* A block is of its grower's width: one of another vector of that width publishes it, and none else. */
+static void blocks_have_one_width(void) {
+    cvec_handle file = {0}, phase = {0}, grower = {0}, block = {0};
+    cvec_receipt receipt = {9, 9, 9, 9, 9};
+    uint64_t size = 9;
+    void *records = &receipt;
+    HOLDS(cvec_phase_file(0, 4, &file) == CVEC_DONE && cvec_phase_create(&file, 1, 8, 1, &phase) == CVEC_DONE);
+    HOLDS(cvec_phase_seat(&phase, &grower) == CVEC_DONE);
+    HOLDS(cvec_phase_publish(&grower, &block, &receipt) == CVEC_NOT_SO);
+    HOLDS(cvec_phase_block(&phase, 1, &block, &records) == CVEC_NOT_SO && !block.full && records == &receipt);
+    HOLDS(cvec_phase_block(&seat->grower, 2, &block, &records) == CVEC_DONE && block.full && records != &receipt);
+    ((uint64_t *)records)[1] = 7;
+    HOLDS(cvec_phase_publish(&grower, &block, &receipt) == CVEC_WIDTH && block.full && receipt.number == 9);
+    HOLDS(cvec_phase_publish(&vector->phase, &block, &receipt) == CVEC_NOT_SO && block.full && receipt.number == 9);
+    HOLDS(cvec_phase_publish(&seat->grower, &seat->grower, &receipt) == CVEC_NOT_SO && seat->grower.full);
+    HOLDS(((uint64_t *)records)[1] == 7 && cvec_phase_close(&block) == CVEC_DONE && !block.full);
+    HOLDS(cvec_phase_size(&seat->grower, &size) == CVEC_DONE && size == 1);
+    HOLDS(cvec_phase_close(&grower) == CVEC_DONE && cvec_phase_close(&phase) == CVEC_DONE && cvec_phase_close(&file) == CVEC_DONE);
 }
 
 /* A handle of the library has one width: a call of another changes nothing. */
@@ -1583,12 +1627,14 @@ static void widths(const char *path) {
     make(path, 1);
     HOLDS(cvec_phase_grow_u32(&seat->grower, &small, 1, &receipt) == CVEC_WIDTH && receipt.number == 9);
     HOLDS(cvec_phase_read_pair(&seat->grower, 0, (cvec_pair[1]){{1, 2}}, 1, &count) == CVEC_WIDTH && count == 9);
-    HOLDS(cvec_vault_count_u32(&seat->grower, 5, &count) == CVEC_WIDTH && count == 9);
-    HOLDS(cvec_vault_count_u64(&seat->grower, 5, &count) == CVEC_NOT_SO && count == 9);
+    HOLDS(cvec_phase_count_u32(&seat->grower, 5, &count) == CVEC_WIDTH && count == 9);
+    HOLDS(cvec_phase_find_pair(&seat->grower, (cvec_pair[1]){{1, 2}}, 0, &count) == CVEC_WIDTH && count == 9);
+    HOLDS(cvec_phase_count_u64(&vector->committer, 5, &count) == CVEC_NOT_SO && count == 9);
     HOLDS(grow(5, &out) == CVEC_DONE && out == 0);
+    blocks_have_one_width();
     HOLDS(cvec_phase_file(0, 5, &seat->grower) == CVEC_WIDTH);
     HOLDS(cvec_phase_feed(&seat->grower, (const uint8_t *)"x", 1) == CVEC_NOT_SO);
-    HOLDS(cvec_phase_open(&seat->grower, 1, &vector->phase) == CVEC_NOT_SO);
+    HOLDS(cvec_phase_open(&seat->grower, 5, 1, &vector->phase) == CVEC_NOT_SO);
     HOLDS(cvec_vector_close_seat(seat) == CVEC_DONE);
     HOLDS(cvec_vector_clear(vector) == CVEC_DONE);
     HOLDS(cvec_vault_change_flagged(&vector->committer, 0, (cvec_flagged[1]){{1, true}}, 1) == CVEC_WIDTH);
@@ -1807,24 +1853,25 @@ static void push_memory(const char *path) {
 
 /* What is pushed beside a full phase waits as it did before: a block is grown in the next one, and so is what a close grows. */
 static void push_full(const char *path) {
+    enum { MOST = 1000 };
     uint64_t number = 0;
     cvec_vector_seat *other;
-    make(path, 2);
+    make_narrow(path, 2, MOST);
     HOLDS(cvec_vector_take_seat(vector, &other) == CVEC_DONE);
     HOLDS(cvec_vector_push_block(seat, 2) == CVEC_DONE);
-    for (uint64_t k = 0; k < 1048567; k++)
+    for (uint64_t k = 0; k < MOST - 1; k++)
         if (grow(k, &number) != CVEC_DONE) HOLDS(!"it was grown");
-    push_all(1048567, 1048570);
-    keeps(1048569, 1);
+    push_all(MOST - 1, MOST + 2);
+    keeps(MOST + 1, 1);
     HOLDS(settled() == 0);
-    number = 1048571;
+    number = MOST + 3;
     HOLDS(cvec_vector_push(other, &number) == CVEC_DONE);
-    push_all(1048570, 1048571);
-    HOLDS(settled() == 1048568);
-    is_last(1048568, 1048569, 2);
+    push_all(MOST + 2, MOST + 3);
+    HOLDS(settled() == MOST);
+    is_last(MOST, MOST + 1, 2);
     HOLDS(cvec_vector_close_seat(other) == CVEC_DONE);
-    push_all(1048572, 1048573);
-    leaves_positions(path, 1048573);
+    push_all(MOST + 4, MOST + 5);
+    leaves_positions(path, MOST + 5);
 }
 
 /* Behind a write that failed no block is grown. What waits does so until the close of the seat, which says that it is lost;
@@ -1885,8 +1932,8 @@ static void pushes_of(const char *path, cvec_type type, uint8_t version) {
 }
 
 static void pushes_typed(const char *path) {
-    for (cvec_type type = CVEC_U32; type <= CVEC_FLAGGED; type++)
-        for (uint8_t version = 1; version <= 2; version++) pushes_of(path, type, version);
+    for (int k = 0; k < VECTOR_TYPES; k++)
+        for (uint8_t version = 1; version <= 2; version++) pushes_of(path, vector_types[k], version);
 }
 
 /* The record of this number stands at that position, and what follows it in memory stays. */
@@ -1933,7 +1980,7 @@ static void at_of(const char *path, cvec_type type) {
 }
 
 static void at(const char *path) {
-    for (cvec_type type = CVEC_U32; type <= CVEC_FLAGGED; type++) at_of(path, type);
+    for (int k = 0; k < VECTOR_TYPES; k++) at_of(path, vector_types[k]);
 }
 
 /* ---- renewals: a phase that is full ends beside seats, and the next one begins */
@@ -1944,9 +1991,7 @@ static cvec_vector_seat *beside;
 static void make_renewing(const char *path, uint64_t grown_before) {
     uint64_t number = 0;
     remove(path);
-    phase_limit = 5;
-    grown_in_phase = 0;
-    make(path, 2);
+    make_narrow(path, 2, 5);
     HOLDS(cvec_vector_take_seat(vector, &beside) == CVEC_DONE);
     for (uint64_t k = 0; k < grown_before; k++) HOLDS(grow(k, &number) == CVEC_DONE && number == k);
 }
@@ -1965,7 +2010,6 @@ static void renewal_fails_at(const char *path, int call) {
     HOLDS(cvec_vector_at(beside, 4, &count) == CVEC_DONE && count == 4);
     HOLDS(cvec_vector_close_seat(beside) == CVEC_DONE && cvec_vector_close_seat(seat) == CVEC_DONE);
     HOLDS(cvec_vector_close(vector) == CVEC_BROKEN);
-    phase_limit = 0;
     count = found(path);
     HOLDS(count == (call < 2 ? 4 : count == 4 ? 4 : 5));
 }
@@ -1976,18 +2020,39 @@ static void renewal_fails(const char *path) {
 
 static int halfway; /* how many renewals had closed the growers when they were refused */
 
-/* Each request for memory in a renewal is refused, once and then once more: the growth says so, calls by the other seat are made or
- * refused so too, and later all goes on. Where the vault itself is lost the file has all; where a commit is, what was awaited. Whether
- * there are so many requests. */
-static int renewal_lacks(const char *path, int request, int times, int is_awaited) {
+/* The seat has a block of one record. */
+static uint64_t *lend_one(uint64_t record) {
+    void *block = NULL;
+    HOLDS(cvec_vector_block(seat, 1, &block) == CVEC_DONE && block != NULL);
+    if (block == NULL) exit(1);
+    *(uint64_t *)block = record;
+    return block;
+}
+
+/* Publishes it. Where that is refused it is as it was. */
+static uint32_t publish_one(uint64_t record, uint64_t *number) {
+    cvec_receipt receipt;
+    const uint64_t *block = seat->blank;
+    const uint32_t answer = cvec_vector_publish(seat, &receipt);
+    HOLDS(*block == record && seat->block.full == (answer != CVEC_DONE));
+    if (answer == CVEC_DONE) *number = receipt.number;
+    return answer;
+}
+
+/* Each request for memory in a renewal is refused, once and then once more: the growth, by copies or by a block, says so, calls by the
+ * other seat are made or refused so too, and later all goes on. Where the vault itself is lost the file has all; where a commit is,
+ * what was awaited. Whether there are so many requests. */
+static int renewal_lacks(const char *path, int request, int times, int is_awaited, int is_block) {
+    uint32_t (*const next)(uint64_t, uint64_t *) = is_block ? publish_one : grow;
     uint64_t number = 9, count = 9;
     uint32_t answer = CVEC_MEMORY;
     make_renewing(path, 5);
+    if (is_block) lend_one(5);
     if (is_awaited) HOLDS(cvec_vector_await(beside, 4) == CVEC_DONE);
     push_all(6, 7);
     for (int k = 0; k < times && answer == CVEC_MEMORY; k++) {
         requests = request;
-        answer = grow(5, &number);
+        answer = next(5, &number);
     }
     const int is_one = requests < 0;
     requests = -1;
@@ -1999,26 +2064,25 @@ static int renewal_lacks(const char *path, int request, int times, int is_awaite
         HOLDS(is_broken(vector) == was_broken);
         answer = cvec_vector_size(beside, &count);
         HOLDS(answer == CVEC_BROKEN || (answer == CVEC_DONE && count == 5));
-        if (answer == CVEC_DONE) answer = grow(5, &number);
+        if (answer == CVEC_DONE) answer = next(5, &number);
     }
     HOLDS(answer == CVEC_BROKEN || (answer == CVEC_DONE && number == 5));
     keeps(6, 1);
     if (answer == CVEC_DONE) HOLDS(settled() == 5);
     HOLDS(cvec_vector_close_seat(beside) == CVEC_DONE);
     HOLDS(cvec_vector_close_seat(seat) == answer && cvec_vector_close(vector) == answer);
-    phase_limit = 0;
     count = found(path);
     HOLDS(answer == CVEC_DONE ? count == 7 : count == 5 || (count == 0 && !is_awaited));
     return is_one;
 }
 
 static void renewal_memory(const char *path) {
-    for (int is_awaited = 0; is_awaited < 2; is_awaited++) {
+    for (int way = 0; way < 4; way++) {
         int request = 0;
-        while (!wrong && renewal_lacks(path, request, 1, is_awaited)) renewal_lacks(path, request++, 2, is_awaited);
+        while (!wrong && renewal_lacks(path, request, 1, way % 2, way / 2)) renewal_lacks(path, request++, 2, way % 2, way / 2);
         HOLDS(request > 5);
     }
-    HOLDS(halfway > 5);
+    HOLDS(halfway > 10);
 }
 
 /* Killed in place of each call of a renewal, what was settled stands. */
@@ -2082,7 +2146,6 @@ static void renewal_waits(const char *path) {
     HOLDS(answer == CVEC_DONE && (size == 5 || size == 6));
     HOLDS(cvec_vector_stop_flusher(vector) == CVEC_DONE && end_of_flusher(flusher) == CVEC_DONE);
     HOLDS(cvec_vector_close_seat(beside) == CVEC_DONE);
-    phase_limit = 0;
     leaves_positions(path, 6);
 }
 
@@ -2104,13 +2167,12 @@ static void renewal_after_commit(const char *path) {
     pthread_join(grower, NULL);
     HOLDS(end_of(&first) == CVEC_DONE && answer == CVEC_DONE && settled() == 5);
     HOLDS(cvec_vector_close_seat(beside) == CVEC_DONE);
-    phase_limit = 0;
     leaves_positions(path, 6);
 }
 
 static int is_held(void) {
     pthread_mutex_lock(&vector->mutex);
-    const int held_now = vector->held;
+    const int held_now = vector->claimed;
     pthread_mutex_unlock(&vector->mutex);
     return held_now;
 }
@@ -2129,7 +2191,6 @@ static void renewal_after_call(const char *path) {
     __atomic_store_n(&beside->busy, FREE, __ATOMIC_SEQ_CST);
     pthread_join(grower, NULL);
     HOLDS(answer == CVEC_DONE && settled() == 5 && cvec_vector_close_seat(beside) == CVEC_DONE);
-    phase_limit = 0;
     leaves_positions(path, 6);
 }
 
@@ -2183,13 +2244,13 @@ static void *run_whole(void *ends) {
 
 static void renewals(const char *path) {
     static uint64_t seen[RENEWERS * (TURNS + 200)], next[RENEWERS];
+    const cvec_options narrow = {0, 8, 50};
     pthread_t threads[RENEWERS], flusher, whole;
     uint64_t count = 0;
     int ends = 0;
     make_renewing(path, 0);
     HOLDS(cvec_vector_close_seat(beside) == CVEC_DONE && cvec_vector_close_seat(seat) == CVEC_DONE);
-    HOLDS(cvec_vector_close(vector) == CVEC_DONE && cvec_vector_open(&vector, path, 8) == CVEC_DONE);
-    phase_limit = 50;
+    HOLDS(cvec_vector_close(vector) == CVEC_DONE && cvec_vector_open_with(&vector, path, CVEC_U64, &narrow) == CVEC_DONE);
     begin_flusher(&flusher, &soon);
     pthread_create(&whole, NULL, run_whole, &ends);
     for (int k = 0; k < RENEWERS; k++) pthread_create(&threads[k], NULL, run_renewer, NULL);
@@ -2197,12 +2258,230 @@ static void renewals(const char *path) {
     __atomic_store_n(&ends, 1, __ATOMIC_SEQ_CST);
     pthread_join(whole, NULL);
     HOLDS(cvec_vector_close(vector) == CVEC_DONE && end_of_flusher(flusher) == CVEC_DONE);
-    phase_limit = 0;
     HOLDS(cvec_vector_open(&vector, path, 1) == CVEC_DONE && cvec_vector_take_seat(vector, &seat) == CVEC_DONE);
     HOLDS(cvec_vector_read(seat, 0, seen, sizeof seen / sizeof *seen, &count) == CVEC_DONE);
     for (uint64_t k = 0; k < count && !wrong; k++) HOLDS(seen[k] >> 32 < RENEWERS && (uint32_t)seen[k] == next[seen[k] >> 32]++);
     for (int k = 0; k < RENEWERS; k++) HOLDS(next[k] >= TURNS && next[k] < TURNS + 101);
     HOLDS(cvec_vector_close_seat(seat) == CVEC_DONE && cvec_vector_close(vector) == CVEC_DONE);
+}
+
+/* ---- holds: while there is one, nobody has the whole vector, nor closes it */
+
+/* A vector of 0, 1 and 2, which are durable and lent, and whose seat is closed. */
+static const uint64_t *make_lent(const char *path) {
+    const uint64_t block[] = {0, 1, 2};
+    cvec_receipt receipt = {9, 9, 9, 9, 9};
+    cvec_piece lent = {9, NULL, 9};
+    size_t count = 0;
+    make_narrow(path, 2, 5);
+    HOLDS(cvec_vector_grow(seat, block, 3, &receipt) == CVEC_DONE && cvec_vector_await(seat, receipt.number) == CVEC_DONE);
+    HOLDS(cvec_vector_pieces(seat, 0, &lent, 1, &count) == CVEC_DONE && count == 1 && lent.len == 3);
+    HOLDS(cvec_vector_close_seat(seat) == CVEC_DONE);
+    if (wrong) exit(1);
+    return lent.records;
+}
+
+static int are_lent(const uint64_t *lent) { return lent[0] == 0 && lent[1] == 1 && lent[2] == 2; }
+
+/* Each call of the whole vector is refused, and does nothing. */
+static void is_held_back(const uint64_t *lent) {
+    const int before = writes;
+    all_answer(CVEC_BUSY);
+    HOLDS(cvec_vector_close(vector) == CVEC_BUSY);
+    if (wrong) exit(1);
+    HOLDS(writes == before && are_lent(lent));
+}
+
+/* Seats are taken, growths made and committed, by others and by a flusher. */
+static void goes_on_held(uint64_t record) {
+    pthread_t flusher;
+    uint64_t number = 9;
+    HOLDS(cvec_vector_take_seat(vector, &seat) == CVEC_DONE && grow(record, &number) == CVEC_DONE);
+    HOLDS(cvec_vector_await(seat, number) == CVEC_DONE && grow(record + 1, &number) == CVEC_DONE);
+    begin_flusher(&flusher, &soon);
+    until_settled(number + 1);
+    HOLDS(cvec_vector_stop_flusher(vector) == CVEC_DONE && end_of_flusher(flusher) == CVEC_DONE);
+    vector->stopped = false; /* for the next one */
+    HOLDS(cvec_vector_close_seat(seat) == CVEC_DONE);
+}
+
+/* Until each of two holders has released. */
+static void hold_refuses(const char *path) {
+    const uint64_t *const lent = make_lent(path);
+    HOLDS(cvec_vector_release(vector) == CVEC_NOT_SO);
+    HOLDS(cvec_vector_hold(vector) == CVEC_DONE);
+    is_held_back(lent);
+    HOLDS(cvec_vector_hold(vector) == CVEC_DONE);
+    goes_on_held(3);
+    is_held_back(lent);
+    HOLDS(cvec_vector_release(vector) == CVEC_DONE);
+    is_held_back(lent);
+    goes_on_held(5);
+    HOLDS(cvec_vector_release(vector) == CVEC_DONE && cvec_vector_release(vector) == CVEC_NOT_SO);
+    HOLDS(are_lent(lent) && cvec_vector_compact(vector) == CVEC_DONE && cvec_vector_clear(vector) == CVEC_DONE);
+    /* So again, though nothing is lent. */
+    HOLDS(cvec_vector_hold(vector) == CVEC_DONE);
+    all_answer(CVEC_BUSY);
+    HOLDS(cvec_vector_release(vector) == CVEC_DONE && cvec_vector_close(vector) == CVEC_DONE);
+}
+
+static void *run_hold(void *answer) {
+    __atomic_store_n((uint32_t *)answer, cvec_vector_hold(vector), __ATOMIC_SEQ_CST);
+    return NULL;
+}
+
+/* It waits for a call that has the whole vector, which is held in its sync. */
+static void hold_waits(const char *path) {
+    pthread_t caller, holder;
+    uint32_t answer = CVEC_BUSY, cleared = CVEC_BUSY;
+    make_lent(path);
+    shut_gate(1);
+    pthread_create(&caller, NULL, run_clear, &cleared);
+    until_held();
+    const int before = __atomic_load_n(&waits, __ATOMIC_SEQ_CST);
+    pthread_create(&holder, NULL, run_hold, &answer);
+    while (__atomic_load_n(&waits, __ATOMIC_SEQ_CST) == before && __atomic_load_n(&answer, __ATOMIC_SEQ_CST) == CVEC_BUSY) nap();
+    for (int k = 0; k < 20; k++) nap();
+    HOLDS(__atomic_load_n(&answer, __ATOMIC_SEQ_CST) == CVEC_BUSY && holds() == 1 && cvec_vector_close(vector) == CVEC_BUSY);
+    /* No close comes between that call's end and the hold. */
+    __atomic_store_n(&dozing, 1, __ATOMIC_SEQ_CST);
+    shut_gate(0);
+    pthread_join(caller, NULL);
+    HOLDS(cvec_vector_close(vector) == CVEC_BUSY);
+    if (wrong) exit(1);
+    __atomic_store_n(&dozing, 0, __ATOMIC_SEQ_CST);
+    pthread_join(holder, NULL);
+    HOLDS(cleared == CVEC_DONE && answer == CVEC_DONE && counted(0) == 0);
+    all_answer(CVEC_BUSY);
+    HOLDS(cvec_vector_release(vector) == CVEC_DONE && cvec_vector_close(vector) == CVEC_DONE && found(path) == 0);
+}
+
+/* A call of the whole vector that waits for a flusher's commit hasn't begun: a hold that comes meanwhile waits for neither, and the
+ * call is refused. */
+static void hold_comes_first(const char *path) {
+    pthread_t flusher, caller;
+    uint32_t cleared = CVEC_DONE;
+    uint64_t number = 9;
+    const uint64_t *const lent = make_lent(path);
+    HOLDS(cvec_vector_take_seat(vector, &seat) == CVEC_DONE && grow(3, &number) == CVEC_DONE);
+    HOLDS(cvec_vector_close_seat(seat) == CVEC_DONE);
+    shut_gate(1);
+    begin_flusher(&flusher, &never);
+    until_held();
+    const int before = __atomic_load_n(&waits, __ATOMIC_SEQ_CST);
+    pthread_create(&caller, NULL, run_clear, &cleared);
+    while (__atomic_load_n(&waits, __ATOMIC_SEQ_CST) == before) nap();
+    HOLDS(cvec_vector_hold(vector) == CVEC_DONE && holds() == 1 && cvec_vector_close(vector) == CVEC_BUSY);
+    if (wrong) exit(1);
+    shut_gate(0);
+    pthread_join(caller, NULL);
+    HOLDS(cleared == CVEC_BUSY && are_lent(lent) && counted(3) == 1);
+    HOLDS(cvec_vector_stop_flusher(vector) == CVEC_DONE && end_of_flusher(flusher) == CVEC_DONE);
+    HOLDS(cvec_vector_release(vector) == CVEC_DONE && cvec_vector_close(vector) == CVEC_DONE && found(path) == 4);
+}
+
+/* What nobody lent moves beside a hold: a phase ends as ever. */
+static void hold_renews(const char *path) {
+    uint64_t number = 9;
+    make_narrow(path, 1, 5);
+    HOLDS(cvec_vector_hold(vector) == CVEC_DONE);
+    for (uint64_t k = 0; k < 22; k++) HOLDS(grow(k, &number) == CVEC_DONE && number == k && settled() == k / 5 * 5);
+    HOLDS(cvec_vector_close_seat(seat) == CVEC_DONE && cvec_vector_compact(vector) == CVEC_BUSY);
+    HOLDS(cvec_vector_release(vector) == CVEC_DONE && cvec_vector_close(vector) == CVEC_DONE && found(path) == 22);
+}
+
+/* What was lent stays in a broken vector too, and is held there. */
+static void hold_broken(const char *path) {
+    uint64_t number = 9;
+    const uint64_t *const lent = make_lent(path);
+    HOLDS(cvec_vector_take_seat(vector, &seat) == CVEC_DONE && grow(3, &number) == CVEC_DONE);
+    const uint64_t *const block = lend_one(4);
+    left = 0;
+    HOLDS(cvec_vector_await(seat, number) == CVEC_DISK_WRITE && are_lent(lent));
+    HOLDS(publish_one(4, &number) == CVEC_BROKEN && publish_one(4, &number) == CVEC_BROKEN && *block == 4);
+    HOLDS(cvec_vector_drop(seat) == CVEC_DONE && cvec_vector_block(seat, 1, (void **)&number) == CVEC_BROKEN);
+    HOLDS(cvec_vector_close_seat(seat) == CVEC_DONE && cvec_vector_hold(vector) == CVEC_DONE);
+    is_held_back(lent);
+    HOLDS(cvec_vector_release(vector) == CVEC_DONE);
+    all_answer(CVEC_BROKEN);
+    HOLDS(are_lent(lent) && cvec_vector_close(vector) == CVEC_BROKEN && found(path) == 3);
+}
+
+/* A forked process reads what was lent, also behind its close, and writes to a block of its own, which its parent's isn't. Its
+ * parent's hold stays. */
+static void hold_forks(const char *path) {
+    uint64_t number = 9;
+    int status = 1;
+    const uint64_t *const lent = make_lent(path);
+    HOLDS(cvec_vector_hold(vector) == CVEC_DONE && cvec_vector_take_seat(vector, &seat) == CVEC_DONE);
+    uint64_t *const block = lend_one(3);
+    pid_t child = fork();
+    if (child == 0) {
+        *block = 9;
+        HOLDS(is_refused_in_a_fork() && are_lent(lent) && *block == 9);
+        _exit(wrong);
+    }
+    HOLDS(waitpid(child, &status, 0) == child && status == 0);
+    HOLDS(*block == 3 && publish_one(3, &number) == CVEC_DONE && cvec_vector_close_seat(seat) == CVEC_DONE);
+    is_held_back(lent);
+    HOLDS(cvec_vector_release(vector) == CVEC_DONE && cvec_vector_close(vector) == CVEC_DONE && found(path) == 4);
+}
+
+/* ---- memory that is refused beside what is lent */
+
+/* A call of the whole vector that was refused before it closed the phase leaves what was lent, and the phase isn't renewed. Whether
+ * there was such a request. */
+static int compaction_lacks(const char *path, int request) {
+    uint64_t number = 9;
+    remove(path);
+    const uint64_t *const lent = make_lent(path);
+    HOLDS(cvec_vector_take_seat(vector, &seat) == CVEC_DONE);
+    for (uint64_t k = 3; k < 7; k++) HOLDS(grow(k, &number) == CVEC_DONE);
+    HOLDS(cvec_vector_close_seat(seat) == CVEC_DONE);
+    requests = request;
+    uint32_t answer = cvec_vector_compact(vector);
+    const int was_refused = requests < 0;
+    requests = -1;
+    if (answer == CVEC_MEMORY && vector->lent) {
+        HOLDS(cvec_vector_take_seat(vector, &seat) == CVEC_DONE && grow(7, &number) == CVEC_FULL && are_lent(lent));
+        HOLDS(cvec_vector_close_seat(seat) == CVEC_DONE);
+        halfway++;
+    }
+    if (answer == CVEC_MEMORY) answer = cvec_vector_compact(vector);
+    HOLDS(answer == CVEC_DONE || answer == CVEC_BROKEN);
+    HOLDS(cvec_vector_close(vector) == answer);
+    number = found(path);
+    HOLDS(number == 7 || (number == 3 && answer == CVEC_BROKEN));
+    return was_refused;
+}
+
+static void compaction_memory(const char *path) {
+    int request = 0;
+    while (!wrong && compaction_lacks(path, request)) request++;
+    HOLDS(request > 3 && halfway > 0);
+}
+
+/* A taker whose memory is refused takes a seat of the phase with it. Where none is left another phase begins; but records that are
+ * lent stay, and a call of the whole vector makes seats. */
+static void seats_are_lost(const char *path) {
+    uint64_t number = 9;
+    cvec_vector_seat *second = NULL;
+    for (int is_lent = 0; is_lent < 2; is_lent++) {
+        remove(path);
+        const uint64_t *const lent = make_lent(path);
+        if (!is_lent) HOLDS(cvec_vector_compact(vector) == CVEC_DONE);
+        HOLDS(cvec_vector_take_seat(vector, &seat) == CVEC_DONE && grow(3, &number) == CVEC_DONE);
+        requests = 0;
+        HOLDS(cvec_vector_take_seat(vector, &second) == CVEC_MEMORY && second == NULL && requests == -1);
+        const uint32_t answer = cvec_vector_take_seat(vector, &second);
+        HOLDS(answer == (is_lent ? CVEC_FULL : CVEC_DONE) && (second == NULL) == is_lent);
+        HOLDS(grow(4, &number) == CVEC_DONE && (!is_lent || are_lent(lent)));
+        if (second != NULL) HOLDS(cvec_vector_close_seat(second) == CVEC_DONE);
+        HOLDS(cvec_vector_close_seat(seat) == CVEC_DONE && cvec_vector_compact(vector) == CVEC_DONE);
+        HOLDS(cvec_vector_take_seat(vector, &seat) == CVEC_DONE && cvec_vector_take_seat(vector, &second) == CVEC_DONE);
+        HOLDS(cvec_vector_close_seat(second) == CVEC_DONE && cvec_vector_close_seat(seat) == CVEC_DONE);
+        HOLDS(cvec_vector_close(vector) == CVEC_DONE && found(path) == 5);
+    }
 }
 
 /* ---- more threads than seats */
@@ -2375,7 +2654,6 @@ int main(int argc, char **argv) {
                       {"too_large", too_large},
                       {"refusals", refusals},
                       {"foreign", foreign},
-                      {"texts", texts},
                       {"leader", leads},
                       {"gathers", gathers},
                       {"gathers_no_large", gathers_no_large},
@@ -2383,6 +2661,8 @@ int main(int argc, char **argv) {
                       {"late_between", late_between},
                       {"flusher", flushes},
                       {"flusher_takes_all", flushes_all},
+                      {"flusher_takes_blocks", flushes_blocks},
+                      {"flusher_once", flushes_once},
                       {"flusher_fails", flusher_fails},
                       {"alone", alone},
                       {"alone_faults", alone_faults},
@@ -2410,6 +2690,14 @@ int main(int argc, char **argv) {
                       {"renewal_after_commit", renewal_after_commit},
                       {"renewal_after_call", renewal_after_call},
                       {"renewals", renewals},
+                      {"hold_refuses", hold_refuses},
+                      {"hold_waits", hold_waits},
+                      {"hold_comes_first", hold_comes_first},
+                      {"hold_renews", hold_renews},
+                      {"hold_broken", hold_broken},
+                      {"hold_forks", hold_forks},
+                      {"compaction_memory", compaction_memory},
+                      {"seats_are_lost", seats_are_lost},
                       {"seat_within", seat_within},
                       {"seats_in_line", seats_in_line},
                       {"seat_within_change", seat_within_change},

@@ -1,9 +1,9 @@
-/* Threads that fill phases: ./fill FILE THREADS GROWTHS [told]
+/* Threads that fill phases: ./fill FILE THREADS GROWTHS ROOM [told]
  *
- * They make a file of u32, and grow it by so many growths of one record each. Each record has the name of its thread and how many
- * that one grew before. Beside them a thread reads, one asks for the whole vector, and a flusher commits. The vector is closed, opened
- * and read: the line that is printed says what is there. `told`: no flusher; each thread prints its name and how many of its growths
- * are settled, right behind the first ones, and as its last ones are. */
+ * They make a file of u32, and grow it by so many growths of one record each, in phases of ROOM. Each record has the name of its
+ * thread and how many that one grew before. Beside them a thread reads, one asks for the whole vector, and a flusher commits. The
+ * vector is closed, opened and read: the line that is printed says what is there. `told`: no flusher; each thread prints its name and
+ * how many of its growths are settled, right behind the first ones, and as its last ones are. */
 #define _POSIX_C_SOURCE 200809L
 #include "cvec_vector.h"
 
@@ -13,7 +13,7 @@
 #include <time.h>
 #include <unistd.h>
 
-enum { MOST_THREADS = 16, NAME_PLACE = 24, FIRST_TOLD = 1000, BETWEEN_WAITS = 100000 };
+enum { MOST_THREADS = 16, NAME_PLACE = 24, FIRST_TOLD = 1000, BETWEEN_WAITS = 10000 };
 
 static cvec_vector *vector;
 static uint64_t each;
@@ -78,11 +78,10 @@ static void *run_reader(void *unused) {
 /* Seats are taken all the while. */
 static void *run_whole(void *unused) {
     const uint32_t record = 0;
-    uint64_t count;
     (void)unused;
     while (!has_ended()) {
         REQUIRE(cvec_vector_change_records(vector, 0, &record, 1) == CVEC_BUSY);
-        REQUIRE(cvec_vector_count_record(vector, &record, &count) == CVEC_BUSY);
+        REQUIRE(cvec_vector_compact(vector) == CVEC_BUSY);
         const struct timespec time = {0, 1000000};
         nanosleep(&time, NULL);
     }
@@ -130,12 +129,13 @@ static void look(const char *path, uint32_t threads) {
 }
 
 int main(int argc, char **argv) {
-    if (argc < 4) return 2;
+    if (argc < 5) return 2;
     const uint32_t threads = (uint32_t)strtoul(argv[2], NULL, 10);
     if (threads == 0 || threads > MOST_THREADS) return 2;
+    const cvec_options options = {2, (uint16_t)(threads + 1), strtoull(argv[4], NULL, 10)};
     each = strtoull(argv[3], NULL, 10) / threads;
-    is_told = argc > 4;
-    REQUIRE(cvec_vector_create_as(&vector, argv[1], CVEC_U32, 2, (uint16_t)(threads + 1)) == CVEC_DONE);
+    is_told = argc > 5;
+    REQUIRE(cvec_vector_create_with(&vector, argv[1], CVEC_U32, &options) == CVEC_DONE);
     fill(threads);
     look(argv[1], threads);
     return 0;

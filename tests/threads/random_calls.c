@@ -98,6 +98,22 @@ static void push(struct thread *own) {
     note_growth(own, len);
 }
 
+/* In place: now and then the block is dropped, and grown by copies. */
+static void grow_in_place(struct thread *own) {
+    void *block = NULL;
+    if (own->turns == MOST_TURNS) return;
+    const uint64_t len = 1 + below(&own->random, below(&own->random, 40) == 0 ? 5000 : 60);
+    HOLDS(cvec_vector_block(own->seat, len, &block) == CVEC_DONE && block != NULL);
+    if (block == NULL) return;
+    for (uint64_t at = 0; at < len; at++) ((uint64_t *)block)[at] = record(own->name, own->turns, len, at);
+    if (below(&own->random, 4) == 0) {
+        HOLDS(cvec_vector_drop(own->seat) == CVEC_DONE && cvec_vector_publish(own->seat, NULL) == CVEC_NOT_SO);
+        return;
+    }
+    HOLDS(cvec_vector_publish(own->seat, &own->receipts[own->turns]) == CVEC_DONE);
+    note_growth(own, len);
+}
+
 static void grow_what_is_refused(struct thread *own) {
     cvec_receipt receipt = {7, 7, 7, 7, 7};
     HOLDS(cvec_vector_grow(own->seat, own->room, 0, &receipt) == CVEC_EMPTY);
@@ -132,17 +148,57 @@ static void read_one(struct thread *own) {
     HOLDS(cvec_vector_at(own->seat, UINT64_C(1) << 32, &seen) == CVEC_OUT_OF_RANGE);
 }
 
+static void ask_size(struct thread *own) {
+    uint64_t size = 0;
+    HOLDS(cvec_vector_size(own->seat, &size) == CVEC_DONE && size >= own->size);
+    own->size = size;
+}
+
+/* Reads what was lent, of any growth of its own, once before and once behind another call. */
+static void read_lent(struct thread *own) {
+    enum { PIECES = 8 };
+    cvec_piece pieces[PIECES];
+    uint64_t turn, at = 0;
+    size_t count = 0;
+    if (own->turns == 0) return;
+    const cvec_receipt *receipt = any(own, &turn);
+    const size_t room = 1 + below(&own->random, PIECES);
+    HOLDS(cvec_vector_pieces(own->seat, receipt->start, pieces, room, &count) == CVEC_DONE && count > 0 && count <= room);
+    if (count == 0) return;
+    HOLDS(pieces[0].start == receipt->start && pieces[0].len >= receipt->len);
+    for (size_t k = 1; k < count; k++) HOLDS(pieces[k].start == pieces[k - 1].start + pieces[k - 1].len && pieces[k].len > 0);
+    ask_size(own);
+    for (; at < receipt->len; at++)
+        if (((const uint64_t *)pieces[0].records)[at] != record(own->name, turn, receipt->len, at)) HOLDS(!"its own growth is lent");
+}
+
+/* While it holds the vector, no call of the whole vector is made. */
+static void hold(struct thread *own) {
+    HOLDS(cvec_vector_hold(vector) == CVEC_DONE && cvec_vector_compact(vector) == CVEC_BUSY);
+    read_lent(own);
+    HOLDS(cvec_vector_release(vector) == CVEC_DONE);
+}
+
+static void count_a_head(struct thread *own) {
+    uint64_t turn, count = 0;
+    if (own->turns == 0) return;
+    const cvec_receipt *receipt = any(own, &turn);
+    HOLDS(cvec_vector_count(own->seat, record(own->name, turn, receipt->len, 0), &count) == CVEC_DONE && count == 1);
+}
+
+static void find_a_head(struct thread *own) {
+    uint64_t turn, place = 0;
+    if (own->turns == 0) return;
+    const cvec_receipt *receipt = any(own, &turn);
+    const uint64_t from = below(&own->random, receipt->start + 1);
+    HOLDS(cvec_vector_find(own->seat, record(own->name, turn, receipt->len, 0), from, &place) == CVEC_DONE && place == receipt->start);
+}
+
 static void read_any(struct thread *own) {
     const uint64_t from = below(&own->random, own->size + 100), room = below(&own->random, 500);
     uint64_t count = UINT64_MAX;
     HOLDS(cvec_vector_read(own->seat, from, own->room, room, &count) == CVEC_DONE && count <= room);
     HOLDS(from >= own->size || count >= (own->size - from < room ? own->size - from : room));
-}
-
-static void ask_size(struct thread *own) {
-    uint64_t size = 0;
-    HOLDS(cvec_vector_size(own->seat, &size) == CVEC_DONE && size >= own->size);
-    own->size = size;
 }
 
 static void ask_settled(struct thread *own) {
@@ -200,8 +256,9 @@ static void close_too_early(struct thread *own) {
 }
 
 static void (*const calls[])(struct thread *) = {
-    grow,     grow,     grow,        grow,      push,          push,       grow_what_is_refused, read_own,    read_one,
-    read_any, ask_size, ask_settled, await_own, await_own_for, await_none, change_seat,          call_common, close_too_early,
+    grow,     grow,     grow,        grow,      push,          push,       grow_in_place, grow_in_place, grow_what_is_refused,
+    read_own, read_one, read_lent,   read_lent, count_a_head,  find_a_head, hold,
+    read_any, ask_size, ask_settled, await_own, await_own_for, await_none, change_seat,   call_common,   close_too_early,
 };
 
 /* ---- the calls of the whole vector, of what this thread has grown */
@@ -214,25 +271,17 @@ static void change_to_the_same(struct thread *own) {
     HOLDS(cvec_vector_change(vector, receipt->start + skipped, own->room, count) == CVEC_DONE);
 }
 
-static void count_a_head(struct thread *own) {
-    uint64_t turn, count = 0;
-    const cvec_receipt *receipt = any(own, &turn);
-    HOLDS(cvec_vector_count(vector, record(own->name, turn, receipt->len, 0), &count) == CVEC_DONE && count == 1);
-}
-
-static void find_a_head(struct thread *own) {
-    uint64_t turn, place = 0;
-    const cvec_receipt *receipt = any(own, &turn);
-    const uint64_t from = below(&own->random, receipt->start + 1);
-    HOLDS(cvec_vector_find(vector, record(own->name, turn, receipt->len, 0), from, &place) == CVEC_DONE && place == receipt->start);
-}
-
 static void fold(struct thread *own) {
     (void)own;
     HOLDS(cvec_vector_fold(vector) == CVEC_DONE);
 }
 
-static void (*const whole_calls[])(struct thread *) = {change_to_the_same, change_to_the_same, count_a_head, find_a_head, fold};
+static void compact(struct thread *own) {
+    (void)own;
+    HOLDS(cvec_vector_compact(vector) == CVEC_DONE && cvec_vector_release(vector) == CVEC_NOT_SO);
+}
+
+static void (*const whole_calls[])(struct thread *) = {change_to_the_same, change_to_the_same, compact, fold};
 
 /* ---- a round */
 

@@ -52,12 +52,12 @@ int posix_memalign(void **at, size_t align, size_t len) {
         if (answer == CVEC_MEMORY) answer = call; \
     } while (0)
 
-/* How many records each growth has. The records of the vector are 0, 1, 2 and so on. */
+/* How many records each growth has. The records of the vector are 0, 1, 2 and so on. The second seat learns what the first grew. */
 static const size_t lengths[GROWTHS] = {3, 4, 1, 5, 4, 1, 2, 4, 1, 3, 4, 1};
 static uint64_t records[ROOM];
 
 static cvec_vector *vector;
-static cvec_vector_seat *seat;
+static cvec_vector_seat *seat, *other;
 
 /* The push that fills a block grows by it, and of fewer records who asks for the receipt. */
 static uint32_t push(uint64_t start, uint64_t end, cvec_receipt *receipt) {
@@ -67,29 +67,73 @@ static uint32_t push(uint64_t start, uint64_t end, cvec_receipt *receipt) {
     return answer;
 }
 
-/* The growth of that number, behind so many records. An even length is pushed. */
+/* Where it is refused no block is lent, and what was written to one waits to be published. */
+static uint32_t publish(uint64_t start, size_t len, cvec_receipt *receipt) {
+    void *block = NULL;
+    uint32_t answer;
+    AGAIN(cvec_vector_block(seat, len, &block), answer);
+    HOLDS(answer == CVEC_DONE && block != NULL);
+    for (uint64_t at = 0; at < len; at++) ((uint64_t *)block)[at] = start + at;
+    AGAIN(cvec_vector_publish(seat, receipt), answer);
+    HOLDS(answer == CVEC_DONE && cvec_vector_drop(seat) == CVEC_NOT_SO);
+    return answer;
+}
+
+/* The growth of that number, behind so many records. An even length is pushed; of an odd one every second growth is in place. */
 static void grow(size_t number, uint64_t start) {
     cvec_receipt receipt = {7, 7, 7, 7, 7};
     uint32_t answer;
     if (lengths[number] % 2 == 0) {
         answer = push(start, start + lengths[number], &receipt);
+    } else if (number % 2 != 0) {
+        answer = publish(start, lengths[number], &receipt);
     } else {
         AGAIN(cvec_vector_grow(seat, records + start, lengths[number], &receipt), answer);
     }
     HOLDS(answer == CVEC_DONE && receipt.number == number && receipt.start == start && receipt.len == lengths[number]);
 }
 
-/* The vector has just so many records. */
-static void expect(uint64_t count) {
+/* So they are lent to the other seat. */
+static void expect_pieces(uint64_t count) {
+    cvec_piece pieces[ROOM];
+    uint64_t end = 0;
+    size_t told = 0;
+    uint32_t answer;
+    AGAIN(cvec_vector_pieces(other, 0, pieces, ROOM, &told), answer);
+    HOLDS(answer == CVEC_DONE);
+    for (size_t k = 0; k < told; k++) {
+        HOLDS(pieces[k].start == end);
+        for (uint64_t at = 0; at < pieces[k].len; at++, end++) HOLDS(((const uint64_t *)pieces[k].records)[at] == end);
+    }
+    HOLDS(end == count);
+}
+
+/* And it counts and finds each. */
+static void expect_each(uint64_t count) {
+    uint64_t equal = 9, place = 9;
+    uint32_t answer;
+    AGAIN(cvec_vector_count(other, count - 1, &equal), answer);
+    HOLDS(answer == CVEC_DONE && equal == 1);
+    AGAIN(cvec_vector_find(other, count - 1, 0, &place), answer);
+    HOLDS(answer == CVEC_DONE && place == count - 1);
+}
+
+/* The vector has just so many records. By turns the other seat learns it by each call first. */
+static void expect(uint64_t count, size_t turn) {
     uint64_t found[ROOM + 1], there = 0;
     HOLDS(cvec_vector_read(seat, 0, found, ROOM + 1, &there) == CVEC_DONE && there == count);
     for (uint64_t at = 0; at < count; at++) HOLDS(found[at] == at);
+    if (turn % 2 == 0) expect_pieces(count);
+    if (count > 0) expect_each(count);
+    expect_pieces(count);
 }
 
-static void take_seat(void) {
+static void take_seats(void) {
     uint32_t answer;
     AGAIN(cvec_vector_take_seat(vector, &seat), answer);
     HOLDS(answer == CVEC_DONE && cvec_vector_push_block(seat, BLOCK) == CVEC_DONE);
+    AGAIN(cvec_vector_take_seat(vector, &other), answer);
+    HOLDS(answer == CVEC_DONE);
 }
 
 /* Every second growth is awaited. Where the calls of a commit couldn't be listed, the vector is broken. How many records are
@@ -100,7 +144,7 @@ static uint64_t grow_all(void) {
         uint32_t answer;
         grow(number, start);
         start += lengths[number];
-        expect(start);
+        expect(start, number);
         if (number % 2 == 0) continue;
         AGAIN(cvec_vector_await(seat, number), answer);
         if (answer == CVEC_BROKEN) return durable;
@@ -114,11 +158,12 @@ static uint64_t grow_all(void) {
 static void expect_file(const char *path, uint64_t durable) {
     uint64_t size = 0, whole = 0;
     HOLDS(cvec_vector_open(&vector, path, 2) == CVEC_DONE);
-    take_seat();
+    take_seats();
     HOLDS(cvec_vector_size(seat, &size) == CVEC_DONE && size >= durable);
     for (size_t number = 0; number < GROWTHS && whole < size; number++) whole += lengths[number];
     HOLDS(whole == size);
-    expect(size);
+    expect(size, 0);
+    HOLDS(cvec_vector_close_seat(other) == CVEC_DONE);
     HOLDS(cvec_vector_close_seat(seat) == CVEC_DONE && cvec_vector_close(vector) == CVEC_DONE);
 }
 
@@ -130,8 +175,9 @@ static bool refuse(const char *path, uint64_t number) {
     AGAIN(cvec_vector_create(&vector, path, 1, 2), answer);
     if (answer == CVEC_BROKEN) answer = cvec_vector_create(&vector, path, 1, 2); /* of its commit the calls couldn't be listed */
     HOLDS(answer == CVEC_DONE);
-    take_seat();
+    take_seats();
     const uint64_t durable = grow_all();
+    cvec_vector_close_seat(other);
     cvec_vector_close_seat(seat);
     cvec_vector_close(vector);
     const bool was_refused = seen >= number;

@@ -1,4 +1,4 @@
-//! Segment files of a durable vector from plain Rust, over libcvec_c.a and cvec_file.c (docs/use/install.md says
+//! Segment files of a durable vector from plain Rust, over libcvec_c.a and the files of C around it (docs/use/install.md says
 //! how they are built and linked).
 //!
 //! ```no_run
@@ -127,33 +127,23 @@ fn told(status: u32, fault: Fault) -> Result<(), Error> {
 #[repr(C)]
 struct RawFile {
     fd: c_int,
-    kind: c_int,
+    kind: u32,
     broken: bool,
     read_only: bool,
-    process: c_int,
+    process: u64,
     stat: Stat,
     bytes: *mut u8,
     room: usize,
 }
 
-type Check = unsafe extern "C" fn(*const u8, usize, *mut Stat, *mut Fault) -> u32;
-
 unsafe extern "C" {
-    fn cvec_check_u8(image: *const u8, len: usize, stat: *mut Stat, fault: *mut Fault) -> u32;
-    fn cvec_check_u16(image: *const u8, len: usize, stat: *mut Stat, fault: *mut Fault) -> u32;
-    fn cvec_check_u32(image: *const u8, len: usize, stat: *mut Stat, fault: *mut Fault) -> u32;
-    fn cvec_check_u64(image: *const u8, len: usize, stat: *mut Stat, fault: *mut Fault) -> u32;
-    fn cvec_check_i64(image: *const u8, len: usize, stat: *mut Stat, fault: *mut Fault) -> u32;
-    fn cvec_check_pair(image: *const u8, len: usize, stat: *mut Stat, fault: *mut Fault) -> u32;
-    fn cvec_check_flagged(image: *const u8, len: usize, stat: *mut Stat, fault: *mut Fault) -> u32;
-    fn cvec_check_bytes16(image: *const u8, len: usize, stat: *mut Stat, fault: *mut Fault) -> u32;
-    fn cvec_check_bytes24(image: *const u8, len: usize, stat: *mut Stat, fault: *mut Fault) -> u32;
-    fn cvec_check_bytes32(image: *const u8, len: usize, stat: *mut Stat, fault: *mut Fault) -> u32;
-    fn cvec_check_bytes64(image: *const u8, len: usize, stat: *mut Stat, fault: *mut Fault) -> u32;
-    fn cvec_frame_at(image: *const u8, len: usize, at: u64, version: u8, width: u16, frame: *mut Frame) -> u32;
-    fn cvec_create(file: *mut RawFile, path: *const c_char, kind: c_int) -> u32;
-    fn cvec_open(file: *mut RawFile, path: *const c_char, kind: c_int, fault: *mut Fault) -> u32;
-    fn cvec_open_to_read(file: *mut RawFile, path: *const c_char, kind: c_int, fault: *mut Fault) -> u32;
+    fn cvec_image_read(
+        kind: u32, image: *const u8, len: usize, from: u64, out: *mut u8, room: usize, count: *mut u64, stat: *mut Stat, fault: *mut Fault,
+    ) -> u32;
+    fn cvec_image_frame(image: *const u8, len: usize, at: u64, version: u8, width: u16, frame: *mut Frame) -> u32;
+    fn cvec_create(file: *mut RawFile, path: *const c_char, kind: u32) -> u32;
+    fn cvec_open(file: *mut RawFile, path: *const c_char, kind: u32, fault: *mut Fault) -> u32;
+    fn cvec_open_to_read(file: *mut RawFile, path: *const c_char, kind: u32, fault: *mut Fault) -> u32;
     fn cvec_append(file: *mut RawFile, records: *const u8, count: usize) -> u32;
     fn cvec_read(file: *mut RawFile, from: u64, out: *mut u8, room: usize, count: *mut u64, fault: *mut Fault) -> u32;
     fn cvec_close(file: *mut RawFile);
@@ -162,10 +152,9 @@ unsafe extern "C" {
 }
 
 mod sealed {
-    /// The number of a type in `cvec.h`, and what checks an image of it.
+    /// The number of a type in `cvec.h`.
     pub trait Kind {
-        const KIND: std::ffi::c_int;
-        const CHECK: super::Check;
+        const KIND: u32;
     }
 }
 
@@ -174,11 +163,10 @@ mod sealed {
 pub trait Record: sealed::Kind + Copy + Default {}
 
 macro_rules! records {
-    ($($of:ty, $kind:literal, $check:ident;)*) => {
+    ($($of:ty, $kind:literal;)*) => {
         $(
             impl sealed::Kind for $of {
-                const KIND: c_int = $kind;
-                const CHECK: Check = $check;
+                const KIND: u32 = $kind;
             }
             impl Record for $of {}
         )*
@@ -186,28 +174,28 @@ macro_rules! records {
 }
 
 records! {
-    u32, 0, cvec_check_u32;
-    u64, 1, cvec_check_u64;
-    i64, 2, cvec_check_i64;
-    Pair, 3, cvec_check_pair;
-    Flagged, 4, cvec_check_flagged;
-    Bytes<16>, 5, cvec_check_bytes16;
-    Bytes<24>, 6, cvec_check_bytes24;
-    Bytes<32>, 7, cvec_check_bytes32;
-    Bytes<64>, 8, cvec_check_bytes64;
-    u8, 9, cvec_check_u8;
-    u16, 10, cvec_check_u16;
-    // By those of numbers with the same bytes.
-    i32, 11, cvec_check_u32;
-    f32, 12, cvec_check_u32;
-    f64, 13, cvec_check_u64;
+    u8, 0;
+    u16, 1;
+    u32, 2;
+    u64, 3;
+    i32, 4;
+    i64, 5;
+    f32, 6;
+    f64, 7;
+    Pair, 8;
+    Flagged, 9;
+    Bytes<16>, 10;
+    Bytes<24>, 11;
+    Bytes<32>, 12;
+    Bytes<64>, 13;
 }
 
 /// What the image holds, or its first fault.
 pub fn check<R: Record>(image: &[u8]) -> Result<Stat, Error> {
-    let (mut stat, mut fault) = (Stat::default(), Fault::default());
-    // SAFETY: the pointer and the length are those of one slice, which is lent for the call.
-    let status = unsafe { (R::CHECK)(image.as_ptr(), image.len(), &mut stat, &mut fault) };
+    let (mut stat, mut fault, mut none, mut count) = (Stat::default(), Fault::default(), 0, 0);
+    // SAFETY: the pointer and the length are those of one slice, which is lent for the call; there is room for no record.
+    let status =
+        unsafe { cvec_image_read(R::KIND, image.as_ptr(), image.len(), 0, &mut none, 0, &mut count, &mut stat, &mut fault) };
     told(status, fault).map(|()| stat)
 }
 
@@ -215,7 +203,7 @@ pub fn check<R: Record>(image: &[u8]) -> Result<Stat, Error> {
 pub fn frame_at(image: &[u8], at: u64, version: u8, width: u16) -> Option<Frame> {
     let mut frame = Frame::default();
     // SAFETY: as above.
-    let status = unsafe { cvec_frame_at(image.as_ptr(), image.len(), at, version, width, &mut frame) };
+    let status = unsafe { cvec_image_frame(image.as_ptr(), image.len(), at, version, width, &mut frame) };
     (status == 0).then_some(frame)
 }
 

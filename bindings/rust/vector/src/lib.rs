@@ -1,4 +1,4 @@
-//! A durable vector that threads of this process grow, over cvec_vector.c and libcvec_threads.a (docs/use/threads.md
+//! A durable vector that threads of this process grow, over libcvec_threads.a and the files of C around it (docs/use/threads.md
 //! says how they are built and linked). `std` alone is used, and no function of this module is called back by C.
 //!
 //! ```no_run
@@ -13,19 +13,30 @@
 //!         });
 //!     }
 //! });
+//! let lent = vector.seat()?.piece(0)?; // where they stand, as long as the vector is borrowed
+//! println!("{lent:?}");
 //! vector.close()?;
 //! # Ok::<(), cvec_vector::Error>(())
 //! ```
 //!
-//! Its records are of `u64`, or of another [`Record`] type: `Vector::<u32>::create_of` and `open_of`.
+//! Its records are of `u64`, or of another [`Record`] type, as structs that [`record!`] writes: `Vector::<Sample>::create_of`,
+//! `open_of`. [`Seat::piece`] and [`Seat::view`] lend them where they stand.
 #![deny(unsafe_op_in_unsafe_fn)]
 #![warn(missing_docs)]
 
+mod filling;
+mod lent;
+mod record;
+
+pub use lent::{Pieces, View};
+pub use record::{Flagged, Kept, Pair, Plain, Record};
+
+use lent::RawPiece;
 use std::ffi::{CStr, CString, c_char, c_void};
 use std::fmt;
 use std::io;
 use std::marker::PhantomData;
-use std::mem::ManuallyDrop;
+use std::mem::{ManuallyDrop, MaybeUninit};
 use std::ops::{Bound, RangeBounds};
 use std::os::unix::ffi::OsStrExt;
 use std::path::Path;
@@ -34,6 +45,13 @@ use std::time::Duration;
 
 /// A vector has at most so many seats.
 pub const MOST_SEATS: u16 = 64;
+
+/// A vector has at most so many records of C, and a growth so many bytes of them.
+const MOST_KEPT: u64 = 1 << 32;
+const LARGEST_GROWTH: usize = (1 << 20) - 8;
+
+/// So many records are copied at once where C can't search for one.
+const SEARCHED_AT_ONCE: usize = 1024;
 
 /// Why a call was refused. It grew nothing. Where a call of the system failed, the system's number says why.
 #[derive(Clone, Copy, Debug, PartialEq, Eq)]
@@ -81,7 +99,7 @@ pub enum Error {
     NotFile,
     /// Every seat is taken, or waited for.
     NoSeat,
-    /// No call answers it any more: where growths come to 1,048,568 the next one settles them, and goes on.
+    /// Records were lent, so none can be moved to make room for more growths. `Vector::compact` does.
     Full,
     /// A seat was forgotten (`std::mem::forget`): the vector stays as it is, and open.
     Busy,
@@ -93,6 +111,10 @@ pub enum Error {
     Seats,
     /// A path has a zero byte.
     Path,
+    /// Of `grow_with`: another one fills its records by this seat.
+    Filling,
+    /// Of a view: the seat is one of another vector.
+    OtherVector,
     /// A number that this module doesn't know.
     Unknown(u32),
 }
@@ -102,8 +124,7 @@ impl fmt::Display for Error {
         match self.status() {
             // SAFETY: it gives a text that lasts, whatever the number.
             Some(status) => f.write_str(&unsafe { CStr::from_ptr(cvec_vector_status_text(status)) }.to_string_lossy())?,
-            None if *self == Error::Seats => f.write_str("a vector has 1 to 64 seats")?,
-            None => f.write_str("a path has a zero byte")?,
+            None => f.write_str(self.own_text())?,
         }
         match self.errno() {
             Some(errno) => write!(f, ": {}", io::Error::from_raw_os_error(errno)),
@@ -125,6 +146,16 @@ impl Error {
             Error::DiskSync(_) => Some(39),
             Error::Unknown(status) => Some(status),
             _ => REFUSALS.iter().find(|it| it.1 == *self).map(|it| it.0),
+        }
+    }
+
+    /// The sentence of what this module refuses.
+    fn own_text(&self) -> &'static str {
+        match self {
+            Error::Seats => "a vector has 1 to 64 seats",
+            Error::Filling => "the seat's records of another growth are being filled",
+            Error::OtherVector => "the seat is one of another vector",
+            _ => "a path has a zero byte",
         }
     }
 
@@ -177,48 +208,6 @@ fn told(status: u32) -> Result<(), Error> {
     })
 }
 
-mod sealed {
-    pub trait Sealed {}
-}
-
-/// A type of records. A file has the width of its records and no name for their type: one of `u64` is opened as `i64` too.
-pub trait Record: Copy + Default + PartialEq + fmt::Debug + Send + Sync + sealed::Sealed + 'static {
-    /// The number that C has for it.
-    #[doc(hidden)]
-    const TYPE: u32;
-}
-
-macro_rules! records {
-    ($($name:ty = $number:literal),*) => {
-        $(impl sealed::Sealed for $name {}
-        impl Record for $name {
-            const TYPE: u32 = $number;
-        })*
-    };
-}
-
-records!(u32 = 0, u64 = 1, i64 = 2, Pair = 3, Flagged = 4);
-
-/// A record with a key and a value, of 16 bytes.
-#[repr(C)]
-#[derive(Clone, Copy, Debug, Default, PartialEq, Eq, Hash)]
-pub struct Pair {
-    /// The first 8 bytes.
-    pub key: u64,
-    /// The last 8 bytes.
-    pub value: i64,
-}
-
-/// A record with a key and a flag: 9 bytes in a file.
-#[repr(C)]
-#[derive(Clone, Copy, Debug, Default, PartialEq, Eq, Hash)]
-pub struct Flagged {
-    /// The first 8 bytes.
-    pub key: u64,
-    /// The last byte, 0 or 1.
-    pub flag: bool,
-}
-
 /// What C has behind a vector's pointer.
 #[repr(C)]
 struct RawVector {
@@ -241,9 +230,22 @@ struct RawReceipt {
     seat: u16,
 }
 
+impl RawReceipt {
+    fn of<R: Record>(&self) -> Receipt {
+        Receipt { number: self.number, start: self.start / R::KEPT.count, length: self.len / R::KEPT.count }
+    }
+}
+
+#[repr(C)]
+struct RawOptions {
+    version: u8,
+    seats: u16,
+    growths: u64,
+}
+
 unsafe extern "C" {
-    fn cvec_vector_create_as(vector: *mut *mut RawVector, path: *const c_char, record: u32, version: u8, seats: u16) -> u32;
-    fn cvec_vector_open_as(vector: *mut *mut RawVector, path: *const c_char, record: u32, seats: u16) -> u32;
+    fn cvec_vector_create_with(vector: *mut *mut RawVector, path: *const c_char, record: u32, options: *const RawOptions) -> u32;
+    fn cvec_vector_open_with(vector: *mut *mut RawVector, path: *const c_char, record: u32, options: *const RawOptions) -> u32;
     fn cvec_vector_close(vector: *mut RawVector) -> u32;
     fn cvec_vector_take_seat(vector: *mut RawVector, seat: *mut *mut RawSeat) -> u32;
     fn cvec_vector_seat_within(vector: *mut RawVector, milliseconds: u64, seat: *mut *mut RawSeat) -> u32;
@@ -256,12 +258,18 @@ unsafe extern "C" {
     fn cvec_vector_settled(seat: *mut RawSeat, count: *mut u64) -> u32;
     fn cvec_vector_size(seat: *mut RawSeat, size: *mut u64) -> u32;
     fn cvec_vector_read_records(seat: *mut RawSeat, from: u64, out: *mut c_void, room: usize, count: *mut u64) -> u32;
+    fn cvec_vector_at(seat: *mut RawSeat, position: u64, record: *mut c_void) -> u32;
+    fn cvec_vector_pieces(seat: *mut RawSeat, from: u64, out: *mut RawPiece, room: usize, count: *mut usize) -> u32;
+    fn cvec_vector_block(seat: *mut RawSeat, count: usize, records: *mut *mut c_void) -> u32;
+    fn cvec_vector_publish(seat: *mut RawSeat, receipt: *mut RawReceipt) -> u32;
+    fn cvec_vector_drop(seat: *mut RawSeat) -> u32;
+    fn cvec_vector_count_record(seat: *mut RawSeat, record: *const c_void, count: *mut u64) -> u32;
+    fn cvec_vector_find_record(seat: *mut RawSeat, record: *const c_void, from: u64, place: *mut u64) -> u32;
+    fn cvec_vector_compact(vector: *mut RawVector) -> u32;
     fn cvec_vector_change_records(vector: *mut RawVector, start: u64, records: *const c_void, count: usize) -> u32;
     fn cvec_vector_resize_by(vector: *mut RawVector, size: u64, record: *const c_void) -> u32;
     fn cvec_vector_clear(vector: *mut RawVector) -> u32;
     fn cvec_vector_fold(vector: *mut RawVector) -> u32;
-    fn cvec_vector_count_record(vector: *mut RawVector, record: *const c_void, count: *mut u64) -> u32;
-    fn cvec_vector_find_record(vector: *mut RawVector, record: *const c_void, from: u64, place: *mut u64) -> u32;
     fn cvec_vector_status_text(status: u32) -> *const c_char;
 }
 
@@ -280,8 +288,21 @@ fn pointer_to<R: Record>(record: &R) -> *const c_void {
     ptr::from_ref(record).cast()
 }
 
-fn check_seats(seats: u16) -> Result<(), Error> {
-    if (1..=MOST_SEATS).contains(&seats) { Ok(()) } else { Err(Error::Seats) }
+/// The position, in records of C, of what is kept of the record at this one. Past all that there can be it stays so.
+fn first_kept<R: Record>(position: u64) -> u64 {
+    position.saturating_mul(R::KEPT.count)
+}
+
+/// How many records of C these are: a slice in memory has no more bytes than fit.
+fn all_kept<R: Record>(records: &[R]) -> usize {
+    records.len() * R::KEPT.count as usize
+}
+
+/// The words of records that are each kept as several.
+fn words_of<R: Record>(records: &[R]) -> &[u64] {
+    assert!(R::KEPT.count > 1);
+    // SAFETY: such records are plain, so each byte is set, and they have so many words and their alignment (`Kept`).
+    unsafe { std::slice::from_raw_parts(records.as_ptr().cast(), all_kept(records)) }
 }
 
 /// The version of a new file, which sets how much one commit puts into a frame.
@@ -294,12 +315,56 @@ pub enum Version {
     Two,
 }
 
+/// How a vector is made or opened: `Vector::create_with` and `open_with` take it. Each has its default, which stands there.
+#[derive(Clone, Copy, Debug, PartialEq, Eq)]
+pub struct Options {
+    version: Version,
+    seats: u16,
+    growths: u64,
+}
+
+impl Default for Options {
+    fn default() -> Self {
+        Options { version: Version::One, seats: MOST_SEATS, growths: 0 }
+    }
+}
+
+impl Options {
+    /// The version of a file that is made: `Version::One`.
+    pub fn version(self, version: Version) -> Options {
+        Options { version, ..self }
+    }
+
+    /// For so many threads at once: 64, or fewer. Others are refused as `Seats`.
+    pub fn seats(self, seats: u16) -> Options {
+        Options { seats, ..self }
+    }
+
+    /// For so many growths a phase has room: 536,870,904 at most, else `TooLarge`; 0 is the default, 4,129,776 with 64 seats. With more
+    /// than 1,048,568 it reserves 4 bytes of addresses for each of them and seat; where the system refuses those it has room for
+    /// 1,048,568. Behind a full phase another one begins by itself; but growths are `Full` where records of it were lent.
+    pub fn growths(self, growths: u64) -> Options {
+        Options { growths, ..self }
+    }
+
+    fn raw(&self) -> Result<RawOptions, Error> {
+        let version = match self.version {
+            Version::One => 1,
+            Version::Two => 2,
+        };
+        if !(1..=MOST_SEATS).contains(&self.seats) {
+            return Err(Error::Seats);
+        }
+        Ok(RawOptions { version, seats: self.seats, growths: self.growths })
+    }
+}
+
 /// A durable vector of a file, which is locked until the vector is closed. Threads share it, and each takes a seat. A drop closes
 /// it, and can't report what fails: `close` does.
 ///
-/// What takes `&mut self` is of the whole vector: no seat is there then. It settles what was grown, and what it makes is durable
-/// when it returns. `Memory` and `FileFull` lose nothing. Where a write or a sync failed all is `Broken` from then on, reads too.
-#[derive(Debug)]
+/// What takes `&mut self` is of the whole vector: no seat is there then, and nothing that was lent. It settles what was grown, and
+/// what it makes is durable when it returns. `Memory` and `FileFull` lose nothing. Where a write or a sync failed all is `Broken`
+/// from then on, reads too.
 pub struct Vector<R: Record = u64> {
     raw: NonNull<RawVector>,
     of: PhantomData<R>,
@@ -307,7 +372,8 @@ pub struct Vector<R: Record = u64> {
 
 // SAFETY: C guards all that its calls on a vector have in common by a mutex, and any thread may make them. Records go anywhere.
 unsafe impl<R: Record> Send for Vector<R> {}
-// SAFETY: as above; the calls that want the vector alone take it by value, by `&mut` or on its drop.
+// SAFETY: as above; the calls that want the vector alone take it by value, by `&mut` or on its drop. Records that are lent are
+// shared by threads that take seats: they are `Sync`, as each record is, and nobody writes them while the vector is borrowed.
 unsafe impl<R: Record> Sync for Vector<R> {}
 
 impl Vector {
@@ -331,24 +397,31 @@ impl<R: Record> Vector<R> {
     /// Makes a file of such records, of that version, and a vector for so many seats: 1 to 64. Something that is there stays:
     /// `Exists`.
     pub fn create_of(path: &Path, seats: u16, version: Version) -> Result<Vector<R>, Error> {
-        let number = match version {
-            Version::One => 1,
-            Version::Two => 2,
-        };
-        check_seats(seats)?;
-        let (name, mut raw) = (name_of(path)?, ptr::null_mut());
-        // SAFETY: the name ends with a zero, and lasts for the call, as does the place for the pointer.
-        told(unsafe { cvec_vector_create_as(&mut raw, name.as_ptr(), R::TYPE, number, seats) })?;
+        Vector::create_with(path, &Options::default().seats(seats).version(version))
+    }
+
+    /// The same, with all that can be chosen.
+    pub fn create_with(path: &Path, options: &Options) -> Result<Vector<R>, Error> {
+        let (options, name, mut raw) = (options.raw()?, name_of(path)?, ptr::null_mut());
+        // SAFETY: the name ends with a zero, and lasts for the call, as do the options and the place for the pointer.
+        told(unsafe { cvec_vector_create_with(&mut raw, name.as_ptr(), R::KEPT.number, &options) })?;
         Vector::over(raw)
     }
 
-    /// Opens a file of such records that is there, and reads it. `Width`: its records have another width.
+    /// Opens a file of such records that is there, and reads it. `Width`: its records have another width, or they are no whole
+    /// ones of this type.
     pub fn open_of(path: &Path, seats: u16) -> Result<Vector<R>, Error> {
-        check_seats(seats)?;
-        let (name, mut raw) = (name_of(path)?, ptr::null_mut());
+        Vector::open_with(path, &Options::default().seats(seats))
+    }
+
+    /// The same, with all that can be chosen.
+    pub fn open_with(path: &Path, options: &Options) -> Result<Vector<R>, Error> {
+        let (options, name, mut raw) = (options.raw()?, name_of(path)?, ptr::null_mut());
         // SAFETY: as above.
-        told(unsafe { cvec_vector_open_as(&mut raw, name.as_ptr(), R::TYPE, seats) })?;
-        Vector::over(raw)
+        told(unsafe { cvec_vector_open_with(&mut raw, name.as_ptr(), R::KEPT.number, &options) })?;
+        let vector = Vector::over(raw)?;
+        let is_whole = R::KEPT.count == 1 || vector.seat()?.all_kept()? % R::KEPT.count == 0;
+        if is_whole { Ok(vector) } else { Err(Error::Width) }
     }
 
     fn over(raw: *mut RawVector) -> Result<Vector<R>, Error> {
@@ -358,7 +431,7 @@ impl<R: Record> Vector<R> {
 
     fn seat_of(&self, raw: *mut RawSeat) -> Result<Seat<'_, R>, Error> {
         let raw = NonNull::new(raw).ok_or(Error::Memory)?;
-        Ok(Seat { raw, of: PhantomData })
+        Ok(Seat { raw, of: self })
     }
 
     /// A seat, for one thread at a time. Who drops it leaves it to another. `NoSeat`: every seat is taken, or waited for.
@@ -382,15 +455,38 @@ impl<R: Record> Vector<R> {
     /// doesn't reach so far; `TooLarge`.
     pub fn change(&mut self, start: u64, records: &[R]) -> Result<(), Error> {
         // SAFETY: the vector is open, and C refuses the call where a seat was forgotten; the pointer and the length are those of one
-        // slice, whose records are of the vector's type.
-        told(unsafe { cvec_vector_change_records(self.raw.as_ptr(), start, records.as_ptr().cast(), records.len()) })
+        // slice, whose records are kept as those of the vector's type.
+        told(unsafe { cvec_vector_change_records(self.raw.as_ptr(), first_kept::<R>(start), records.as_ptr().cast(), all_kept(records)) })
     }
 
     /// Takes the records behind the first `size` away, or appends copies of this one. `Unfolded`, where it takes some away;
     /// `OutOfRange`, past 2^32 records; `TooLarge`.
     pub fn resize(&mut self, size: u64, record: R) -> Result<(), Error> {
-        // SAFETY: as above; the record lasts for the call.
-        told(unsafe { cvec_vector_resize_by(self.raw.as_ptr(), size, pointer_to(&record)) })
+        if R::KEPT.count > 1 {
+            let len = self.seat()?.len()?;
+            if size > len {
+                return self.append(size, len, record);
+            }
+        }
+        // SAFETY: as above; the record lasts for the call, and of one that is kept as several none is appended.
+        told(unsafe { cvec_vector_resize_by(self.raw.as_ptr(), first_kept::<R>(size), pointer_to(&record)) })
+    }
+
+    /// Copies of a record that C has no one for, up to this size: as one growth, for which there is room behind a `compact`.
+    fn append(&mut self, size: u64, len: u64, record: R) -> Result<(), Error> {
+        if first_kept::<R>(size) > MOST_KEPT {
+            return Err(Error::OutOfRange);
+        }
+        let count = (size - len) as usize;
+        if count * size_of::<R>() > LARGEST_GROWTH {
+            return Err(Error::TooLarge);
+        }
+        let mut copies = Vec::new();
+        copies.try_reserve_exact(count).map_err(|_| Error::Memory)?;
+        copies.resize(count, record);
+        self.compact()?;
+        let seat = self.seat()?;
+        seat.settle(&seat.grow(&copies)?)
     }
 
     /// Takes all records away. `Unfolded`.
@@ -405,22 +501,11 @@ impl<R: Record> Vector<R> {
         told(unsafe { cvec_vector_fold(self.raw.as_ptr()) })
     }
 
-    /// How many records equal this one.
-    pub fn count(&mut self, record: R) -> Result<u64, Error> {
-        let mut count = 0;
-        // SAFETY: as above; the place for the count lasts for the call.
-        told(unsafe { cvec_vector_count_record(self.raw.as_ptr(), pointer_to(&record), &mut count) })?;
-        Ok(count)
-    }
-
-    /// The first position from `from` on that has this record.
-    pub fn find(&mut self, record: R, from: u64) -> Result<Option<u64>, Error> {
-        let (mut place, mut len) = (0, 0);
+    /// Settles what was grown, and puts the records of the growths since the last call of the whole vector behind one another:
+    /// afterwards they take no more memory than themselves, and the vector takes as many growths as a new one.
+    pub fn compact(&mut self) -> Result<(), Error> {
         // SAFETY: as above.
-        told(unsafe { cvec_vector_find_record(self.raw.as_ptr(), pointer_to(&record), from, &mut place) })?;
-        // From behind each position it answers how many there are. SAFETY: as above.
-        told(unsafe { cvec_vector_find_record(self.raw.as_ptr(), pointer_to(&record), u64::MAX, &mut len) })?;
-        Ok((place < len).then_some(place))
+        told(unsafe { cvec_vector_compact(self.raw.as_ptr()) })
     }
 
     /// For a thread of the caller's, which takes no seat: commits what was grown, and so again and again, this long (at least a
@@ -468,25 +553,26 @@ pub struct Receipt {
 }
 
 /// What one thread grows, waits and reads by. It may go to another thread, but two can't share it.
-#[derive(Debug)]
 pub struct Seat<'v, R: Record = u64> {
     raw: NonNull<RawSeat>,
-    of: PhantomData<&'v Vector<R>>,
+    of: &'v Vector<R>,
 }
 
-// SAFETY: C keeps nothing of the thread that took it: its memory is malloc's, and its calls are those of any one thread.
+// SAFETY: C keeps nothing of the thread that took it: its memory is malloc's, and its calls are those of any one thread. It isn't
+// `Sync`, as its pointer isn't: so neither `Pieces` nor an `Appender`, which borrow it, go to another thread. What it lends is
+// borrowed of the vector alone, and does.
 unsafe impl<R: Record> Send for Seat<'_, R> {}
 
 impl<'v, R: Record> Seat<'v, R> {
     /// Grows by copies of these records, as one block behind all that was grown before: all of them are in the vector, in a row,
-    /// or none. Others read them when it returns; they are durable once they are settled. Once in 1,048,568 growths it settles all
-    /// that was grown, while other calls wait.
+    /// or none. Others read them when it returns; they are durable once they are settled. Where the room of the phase is used up
+    /// (`Options::growths`) it settles all that was grown, while other calls wait; or, where records were lent, it is `Full`.
     pub fn grow(&self, records: &[R]) -> Result<Receipt, Error> {
         let mut receipt = RawReceipt::default();
         // SAFETY: the seat is open as long as `self` is there, and in one call; the pointer and the length are those of one slice,
-        // whose records are of the vector's type.
-        told(unsafe { cvec_vector_grow_records(self.raw.as_ptr(), records.as_ptr().cast(), records.len(), &mut receipt) })?;
-        Ok(Receipt { number: receipt.number, start: receipt.start, length: receipt.len })
+        // whose records are kept as those of the vector's type.
+        told(unsafe { cvec_vector_grow_records(self.raw.as_ptr(), records.as_ptr().cast(), all_kept(records), &mut receipt) })?;
+        Ok(receipt.of::<R>())
     }
 
     /// Waits until this growth, and each before it, is durable. Who finds that nobody commits commits for all that wait.
@@ -512,6 +598,11 @@ impl<'v, R: Record> Seat<'v, R> {
 
     /// How many records there are, durable or not.
     pub fn len(&self) -> Result<u64, Error> {
+        Ok(self.all_kept()? / R::KEPT.count)
+    }
+
+    /// How many these are of C's.
+    fn all_kept(&self) -> Result<u64, Error> {
         let mut size = 0;
         // SAFETY: as above.
         told(unsafe { cvec_vector_size(self.raw.as_ptr(), &mut size) })?;
@@ -539,19 +630,92 @@ impl<'v, R: Record> Seat<'v, R> {
         let room = usize::try_from(to.saturating_sub(from)).map_err(|_| Error::Memory)?;
         let mut out = Vec::new();
         out.try_reserve_exact(room).map_err(|_| Error::Memory)?;
-        out.resize(room, R::default());
-        let count = self.read_into(from, &mut out)?;
-        out.truncate(count);
+        // SAFETY: there is room for so many, and so many of them are written.
+        unsafe {
+            let count = self.copy(from, out.as_mut_ptr(), room)?;
+            out.set_len(count);
+        }
         Ok(out)
     }
 
     /// Copies the records from a position on over the front of `out`, as far as it and the vector reach, and answers how many.
     pub fn read_into(&self, from: u64, out: &mut [R]) -> Result<usize, Error> {
+        // SAFETY: `out` is this call's alone, and has room for so many.
+        unsafe { self.copy(from, out.as_mut_ptr(), out.len()) }
+    }
+
+    /// Copies records to this place, and answers how many.
+    ///
+    /// # Safety
+    /// There is room for so many, and nobody else has it.
+    unsafe fn copy(&self, from: u64, out: *mut R, room: usize) -> Result<usize, Error> {
+        let (room, mut count) = (room.saturating_mul(R::KEPT.count as usize), 0);
+        // SAFETY: as above and below; a flag is written as 0 or 1.
+        told(unsafe { cvec_vector_read_records(self.raw.as_ptr(), first_kept::<R>(from), out.cast(), room, &mut count) })?;
+        Ok((count / R::KEPT.count) as usize)
+    }
+
+    /// A copy of the record at this position, durable or not. `None` past the end.
+    pub fn at(&self, position: u64) -> Result<Option<R>, Error> {
+        let mut record = MaybeUninit::<R>::uninit();
+        if R::KEPT.count > 1 {
+            // SAFETY: it has room for one. Written, it is one.
+            return unsafe { Ok((self.copy(position, record.as_mut_ptr(), 1)? == 1).then(|| record.assume_init())) };
+        }
+        // SAFETY: as above; C has one record for it, and writes it unless it refuses the call.
+        match told(unsafe { cvec_vector_at(self.raw.as_ptr(), position, record.as_mut_ptr().cast()) }) {
+            Err(Error::OutOfRange) => Ok(None),
+            // SAFETY: it was written.
+            answer => answer.map(|()| Some(unsafe { record.assume_init() })),
+        }
+    }
+
+    /// How many of the records that there are when it is called equal this one, byte by byte.
+    pub fn count(&self, record: R) -> Result<u64, Error> {
         let mut count = 0;
-        // SAFETY: as above; `out` is this call's alone, and of the vector's type: a flag is written as 0 or 1.
-        told(unsafe { cvec_vector_read_records(self.raw.as_ptr(), from, out.as_mut_ptr().cast(), out.len(), &mut count) })?;
-        // No more than `out` has.
-        Ok(count as usize)
+        if R::KEPT.count > 1 {
+            self.search(0, &record, |_| {
+                count += 1;
+                false
+            })?;
+            return Ok(count);
+        }
+        // SAFETY: as above; the record and the place for the count last for the call.
+        told(unsafe { cvec_vector_count_record(self.raw.as_ptr(), pointer_to(&record), &mut count) })?;
+        Ok(count)
+    }
+
+    /// The first position from `from` on that has this record, byte by byte, of those that there are when it is called.
+    pub fn find(&self, record: R, from: u64) -> Result<Option<u64>, Error> {
+        let (len, mut found) = (self.len()?, u64::MAX);
+        if R::KEPT.count > 1 {
+            self.search(from, &record, |position| {
+                found = position;
+                true
+            })?;
+        } else {
+            // SAFETY: as above. Where there is none it answers how many there are, which then aren't fewer.
+            told(unsafe { cvec_vector_find_record(self.raw.as_ptr(), pointer_to(&record), from, &mut found) })?;
+        }
+        Ok((found < len).then_some(found))
+    }
+
+    /// Passes on the position of each record from `from` on that equals this one, which is kept as several, until `ends` answers
+    /// so. Copies are looked at, since what is lent would keep the phase from being renewed.
+    fn search(&self, from: u64, record: &R, mut ends: impl FnMut(u64) -> bool) -> Result<(), Error> {
+        let (len, wanted, mut next) = (self.len()?, words_of(std::slice::from_ref(record)), from);
+        let mut some = Vec::new();
+        some.try_reserve_exact(SEARCHED_AT_ONCE).map_err(|_| Error::Memory)?;
+        some.resize(SEARCHED_AT_ONCE, *record);
+        while next < len {
+            let count = self.read_into(next, &mut some)?;
+            let mut all = (next..len).zip(words_of(&some[..count]).chunks_exact(wanted.len()));
+            if all.any(|it| it.1 == wanted && ends(it.0)) {
+                break;
+            }
+            next += count as u64;
+        }
+        Ok(())
     }
 
     /// Gathers single records into blocks of so many. `Empty`: 0 are none; `Memory`.
@@ -574,7 +738,6 @@ impl<R: Record> Drop for Seat<'_, R> {
 
 /// Single records, kept until there are as many as a block has: then the vector grows by them. Nobody reads what is kept. A drop
 /// grows by the rest, and can't report what fails: `flush` does.
-#[derive(Debug)]
 pub struct Appender<'s, 'v, R: Record = u64> {
     seat: &'s Seat<'v, R>,
     kept: Vec<R>,
@@ -611,3 +774,16 @@ impl<R: Record> Drop for Appender<'_, '_, R> {
         let _ = self.flush();
     }
 }
+
+/// These have nothing to show, whatever the records are.
+macro_rules! shown_by_name {
+    ($($type:ty: $name:literal),*) => {
+        $(impl<R: Record> fmt::Debug for $type {
+            fn fmt(&self, f: &mut fmt::Formatter<'_>) -> fmt::Result {
+                f.debug_struct($name).finish_non_exhaustive()
+            }
+        })*
+    };
+}
+
+shown_by_name!(Vector<R>: "Vector", Seat<'_, R>: "Seat", Pieces<'_, '_, R>: "Pieces", View<'_, R>: "View", Appender<'_, '_, R>: "Appender");

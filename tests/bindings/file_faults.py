@@ -1,5 +1,5 @@
 """A test of cvec.py: what isn't a record is refused, a read ends, threads lose nothing, a forked process appends nothing, what is closed
-is let go, and what is no file isn't mapped: faults.py FOLDER [plain]. With 'plain' it does so without numpy."""
+is let go, and what is no file isn't mapped: file_faults.py FOLDER [plain]. With 'plain' it does so without numpy."""
 import array
 import copy
 import fractions
@@ -279,7 +279,7 @@ def is_forked(call):
     try:
         call()
     except cvec.Error as refusal:
-        return str(refusal) == "forked"
+        return str(refusal) == "a forked process can only close it"
     return False
 
 
@@ -369,12 +369,12 @@ def check_closing():
         assert refusal_of(lambda: list(seen.pieces())) == refusal_of(lambda: list(seen.frames())) == "the map is closed"
         held.clear()
         del seen
-    assert refusal_of(file.append, [1]) == refusal_of(file.read) == "broken"
+    assert refusal_of(file.append, [1]) == refusal_of(file.read) == "a write or a sync has failed before: open the file again"
     if os.path.exists("/proc/self/maps"):
         with open("/proc/self/maps") as maps:
             assert PATH not in maps.read(), "a map is left"
     os.remove(PATH)
-    assert refusal_of(cvec.open, PATH, "u64") == "disk open: No such file or directory"
+    assert refusal_of(cvec.open, PATH, "u64") == "the file can't be opened: No such file or directory"
     assert "zero byte" in refusal_of(cvec.create, PATH + "\0x", "u64")
     assert not os.path.exists(PATH)
 
@@ -385,9 +385,9 @@ def check_maps():
     pipe = os.path.join(sys.argv[1], "pipe")
     os.mkfifo(pipe)
     for path in (pipe, sys.argv[1], "/dev/null", "/dev/zero"):
-        assert refusal_of(cvec.Map, path, "u64") == "not a file", path
+        assert refusal_of(cvec.Map, path, "u64") == "a folder, a pipe or a device has this name", path
     for path in (PATH, os.fsencode(PATH), pathlib.Path(PATH)):
-        assert refusal_of(cvec.Map, path, "u64") == "disk open: No such file or directory"
+        assert refusal_of(cvec.Map, path, "u64") == "the file can't be opened: No such file or directory"
         with cvec.create(path, "u64") as file:
             file.append([5])
         with cvec.open(path, "u64") as file, cvec.Map(path, "u64") as seen:
@@ -435,7 +435,7 @@ def mapped_as_it_grows(there, whole, moment):
 
     with open(PATH, "wb") as file:
         file.write(there)
-    for owner, name in ((os, "fstat"), (cvec._LIB, "cvec_frame_at"), (cvec._LIB, "cvec_homes_u64")):
+    for owner, name in ((os, "fstat"), (cvec._LIB, "cvec_image_frame"), (cvec._LIB, "cvec_image_homes")):
         patch(owner, name)
     try:
         with cvec.Map(PATH, "u64") as seen:
@@ -451,7 +451,7 @@ def check_maps_that_grow():
     """A writer opens a gate at any moment at which a file is mapped, of which so many bytes were written by then."""
     head, first, second = GROWTHS_OF_TWO
     whole = head + first + second
-    starts = ((0, ("unborn",), []), (len(head), ([],), [5, 6]), (len(head + first), ([5, 6],), [5, 6, 7]))
+    starts = ((0, ("no vector was begun in the file",), []), (len(head), ([],), [5, 6]), (len(head + first), ([5, 6],), [5, 6, 7]))
     for gate, before, behind in starts:
         ends = whole if gate == len(head + first) else (whole[:gate] + (first if gate else head) + b"\0")
         shut = ends[:gate] + b"\0" + ends[gate + 1:]
@@ -464,7 +464,7 @@ def check_maps_that_grow():
     # A frame that is cut, and no writer beside it, is damaged still.
     for length in range(len(whole) - 22, len(whole)):
         told, _ = mapped_as_it_grows(whole[:length], b"", 0)
-        assert told == ("damaged at 41: short frame" if length < 63 else "damaged at 63: no gate"), (length, told)
+        assert told == "a frame of the file is damaged at " + ("41: short frame" if length < 63 else "63: no gate"), (length, told)
     os.remove(PATH)
 
 
@@ -498,7 +498,7 @@ def check_maps_beside_a_writer():
 
 def check_maps_that_are_closed():
     """As another thread may, in the midst of a call."""
-    library, call = cvec._LIB, cvec._LIB.cvec_frame_at
+    library, call = cvec._LIB, cvec._LIB.cvec_image_frame
     with open(PATH, "wb") as file:
         file.write(b"".join(GROWTHS_OF_TWO))
     seen, told = cvec.Map(PATH, "u64"), []
@@ -508,9 +508,9 @@ def check_maps_that_are_closed():
         gc.collect()
         return call(*words)
 
-    library.cvec_frame_at = closed
+    library.cvec_image_frame = closed
     assert refusal_of(lambda: told.extend(seen.frames())) == "the map is closed"
-    library.cvec_frame_at = call
+    library.cvec_image_frame = call
     assert [(at, frame.next, frame.records) for at, frame in told] == [(11, 41, 2)]
     os.remove(PATH)
 
@@ -521,7 +521,7 @@ def check_pickling():
         there = pickle.loads(pickle.dumps(it))
         assert str(there) == str(it) and vars(there) == vars(it) and type(there) is cvec.Error
     with multiprocessing.Pool(1) as pool:
-        assert refusal_of(pool.apply_async(cvec.open, (PATH, "u64")).get, 20) == "disk open: No such file or directory"
+        assert refusal_of(pool.apply_async(cvec.open, (PATH, "u64")).get, 20) == "the file can't be opened: No such file or directory"
     with made("u64") as file:
         for make in (copy.copy, copy.deepcopy, pickle.dumps):
             try:

@@ -5,7 +5,7 @@
  * the calls of the system, and is not proved. The second part is libcvec_threads.a, which is proved: what each call makes
  * of the handle that it is passed. docs/use/threads.md tells both.
  *
- * What a function answers is a number of enum cvec_status (cvec.h) or of enum cvec_vector_status.
+ * What a function answers is a number of enum cvec_status (cvec.h), which has a sentence for each.
  *
  * CVEC_MEMORY and CVEC_FILE_FULL lose no record, and the same call may be made again; but a close that answers one of them has
  * lost what wasn't durable. Memory that is refused while the calls of a commit or of a fold are listed is CVEC_BROKEN: nothing of
@@ -19,17 +19,16 @@
 extern "C" {
 #endif
 
-enum cvec_vector_status {
-    CVEC_NOT_SO = 64, /* every seat is taken, or there is no such version or type; of the library: a handle of another end, or none */
-    CVEC_AGAIN = 65,  /* of the library alone: another growth came first */
-    CVEC_FULL = 66,   /* of the library alone: it was grown 1,048,568 times */
-    CVEC_BUSY = 67,   /* another thread is inside a call by this seat; of a vector's call: a seat isn't closed */
-    CVEC_LATE = 68,   /* of cvec_vector_await_for and cvec_vector_seat_within: the time has passed */
-    CVEC_UNFOLDED = 69, /* a resize that takes records away, or a clear, while a change isn't folded: fold first */
-    CVEC_UNSETTLED = 70 /* of the library alone: a growth isn't committed */
-};
+/* What a status from 64 on says of a call here, beside its sentence:
+ *   CVEC_NOT_SO    of the library: a handle of another end, or none
+ *   CVEC_AGAIN     of the library alone
+ *   CVEC_FULL      of a vector that has lent records; of the library: of any phase
+ *   CVEC_BUSY      of a seat: another thread is inside a call by it; of the vector: a seat isn't closed, or it is held
+ *   CVEC_LATE      of cvec_vector_await_for and cvec_vector_seat_within
+ *   CVEC_UNFOLDED  of a resize that takes records away, and of a clear
+ *   CVEC_UNSETTLED of the library alone */
 
-/* ---- cvec_vector.c: not proved */
+/* ---- cvec_vector.c, over system.c and types.c beside it: not proved */
 
 typedef struct cvec_vector cvec_vector;
 typedef struct cvec_vector_seat cvec_vector_seat;
@@ -59,21 +58,39 @@ uint32_t cvec_vector_open_as(cvec_vector **vector, const char *path, cvec_type t
 uint32_t cvec_vector_create(cvec_vector **vector, const char *path, uint8_t version, uint16_t seats);
 uint32_t cvec_vector_open(cvec_vector **vector, const char *path, uint16_t seats);
 
+/* 0 of any: the default, so {0} is all of them. */
+typedef struct cvec_options {
+    uint8_t version;  /* of a file that is made: 1 by default, or 2 (else CVEC_NOT_SO) */
+    uint16_t seats;   /* 64 by default, or fewer (CVEC_TOO_LARGE past that) */
+    uint64_t growths; /* for so many a phase has room: 536,870,904 at most (CVEC_TOO_LARGE); 4,129,776 by default with 64 seats */
+} cvec_options;
+
+/* The same with options, which may be NULL. What is refused by them is so before a file is made.
+ *
+ * A phase is what is grown between two pauses (cvec_vector_grow_records). With room for more than 1,048,568 growths each seat and who
+ * commits reserve 4 bytes of addresses for each growth of it, of which memory is touched only as growths are made; where the system
+ * refuses them it has room for 1,048,568. By default they reserve 1 GiB together: so the room is 268,435,456 divided by one more than
+ * the seats. With more a fork may be refused, since it asks the system for all that is reserved once more. Built with the address or
+ * the thread sanitizer, which pay for what is reserved, the default is 1,048,568. */
+uint32_t cvec_vector_create_with(cvec_vector **vector, const char *path, cvec_type type, const cvec_options *options);
+uint32_t cvec_vector_open_with(cvec_vector **vector, const char *path, cvec_type type, const cvec_options *options);
+
 /* Ends the loops of flushers and waits for these, commits what was grown, and closes the file. CVEC_BUSY, and nothing ends or
- * is closed, while a seat isn't closed, or a call by no seat waits, or has the whole vector. Whatever else it answers, the vector is
- * gone; another number than CVEC_DONE says that growths nobody awaited may be lost. But for such a call and for loops of flushers
- * that have begun, no call may be under way beside it, or begin. */
+ * is closed, while a seat isn't closed, or it is held (below), or a call by no seat waits, or has the whole vector. Whatever else
+ * it answers, the vector is gone, and all that it lent, but in a forked process, where memory stays; another number than CVEC_DONE
+ * says that growths nobody awaited may be lost. But for such a call and for loops of flushers that have begun, no call may be
+ * under way beside it, or begin. */
 uint32_t cvec_vector_close(cvec_vector *vector);
 
 /* Which file it is: the number of its device, and its own there. One that is put in its place has another. */
 uint32_t cvec_vector_identity(const cvec_vector *vector, uint64_t *device, uint64_t *file);
 
-/* A number of the calling process: that of none from which it was forked, though the system may give them one and the same, in
- * namespaces of their own. For who keeps beside a vector what a forked process has copies of, as locks. */
+/* What cvec_process of cvec.h answers. */
 uint64_t cvec_vector_process(void);
 
 /* A seat, for one thread at a time. CVEC_NOT_SO: as many are taken, or waited for, as the vector has. It waits for nothing but a
- * pause: while another call has the whole vector, or a growth settles all (below). */
+ * pause: while another call has the whole vector, or a growth settles all (below). CVEC_FULL: memory was refused to takers so
+ * often that the phase has no more seats, and records are lent (below). */
 uint32_t cvec_vector_take_seat(cvec_vector *vector, cvec_vector_seat **seat);
 
 /* The same, but it waits so many milliseconds at most for a seat that another thread closes, and for a pause: CVEC_LATE. Who came
@@ -88,10 +105,25 @@ uint32_t cvec_vector_close_seat(cvec_vector_seat *seat);
 /* Grows by copies of these records, as one block behind all that was grown before: all of them are in the vector, in a row,
  * or none. Others read them from then on; durable they are once they are awaited. receipt may be NULL.
  *
- * Once in 1,048,568 growths it settles all that was grown, and begins a new phase, while other calls wait: so it may answer what
- * a commit does. Refused for memory, it may be made again; until then calls by other seats may be refused so too. Where the library
- * lacks memory even to keep what it has, the vector is CVEC_BROKEN from then on, and the file has all. */
+ * Where the phase has no more room, it settles all that was grown, and begins a new phase, while other calls wait: so it may
+ * answer what a commit does; or CVEC_FULL, where records are lent (below). Refused for memory, it may be made again; until then
+ * calls by other seats may be refused so too. Where the library lacks memory even to keep what it has, the vector is CVEC_BROKEN
+ * from then on, and the file has all. */
 uint32_t cvec_vector_grow_records(cvec_vector_seat *seat, const void *records, size_t count, cvec_receipt *receipt);
+
+/* Lends a block of so many records to be written in place: a growth without a copy. They are all zero at first, and the caller's
+ * alone: nobody reads them. A seat has one block at a time (else CVEC_NOT_SO), and makes other calls meanwhile, which leave it as it
+ * is. CVEC_EMPTY, CVEC_TOO_LARGE, CVEC_BROKEN: as of a growth. */
+uint32_t cvec_vector_block(cvec_vector_seat *seat, size_t count, void **records);
+
+/* Grows by the seat's block, as cvec_vector_grow_records would by copies of it: all of its records are in the vector, in a row, or
+ * none. They stay where they are, lent to be read, as what cvec_vector_pieces lends (below), and nobody writes them any more. Where
+ * it is refused, the seat has the block as before, to be written and published again. A flag that is neither 0 nor 1 is
+ * CVEC_NO_RECORD; no block, CVEC_NOT_SO. receipt may be NULL. */
+uint32_t cvec_vector_publish(cvec_vector_seat *seat, cvec_receipt *receipt);
+
+/* Gives up the seat's block, of which nothing is left, as a close of the seat does. CVEC_NOT_SO: it has none. */
+uint32_t cvec_vector_drop(cvec_vector_seat *seat);
 
 /* Puts a copy of one record into a buffer of the seat, where it waits. The 1,024th there grows the vector by all of them, as
  * cvec_vector_grow_records would: as one growth. Before that nobody reads them, nothing makes them durable, and whatever ends
@@ -126,6 +158,10 @@ uint32_t cvec_vector_await_for(cvec_vector_seat *seat, uint64_t number, uint64_t
  * call it has to have begun before the close does: who can't know that stops it and joins its thread first. */
 uint32_t cvec_vector_run_flusher(cvec_vector *vector, uint64_t every_milliseconds);
 
+/* One turn of such a loop, for a thread that rests by itself: commits what was grown, by no seat. It too has to have begun before the
+ * close does, and behind a stop it leaves what there is. */
+uint32_t cvec_vector_flush(cvec_vector *vector);
+
 /* Ends the loops of this vector, each that is begun later too. It doesn't wait for them. */
 uint32_t cvec_vector_stop_flusher(cvec_vector *vector);
 
@@ -141,8 +177,40 @@ uint32_t cvec_vector_read_records(cvec_vector_seat *seat, uint64_t from, void *o
 /* Copies the record at this position, durable or not. CVEC_OUT_OF_RANGE: the vector has none there. */
 uint32_t cvec_vector_at(cvec_vector_seat *seat, uint64_t position, void *record);
 
-/* Of the whole vector, while no seat is taken, else CVEC_BUSY. What they do is durable when they return. CVEC_MEMORY and
- * CVEC_FILE_FULL: the same call may be made again.
+/* Records that stand in the vector one behind the other, lent: from position `start` on `len` records of the vector's type begin
+ * at `records`. Nobody writes them. */
+typedef struct cvec_piece {
+    uint64_t start;
+    const void *records;
+    uint64_t len; /* 1 at least */
+} cvec_piece;
+
+/* Lends the records from position `from` on, durable or not, without a copy: *count pieces, of which the first begins at `from`
+ * and each other where the one before it ends. They are all that there are, or as many as `out` has room for: the next call goes
+ * on where the last one ends. A piece is a growth or more, or the rest of one.
+ *
+ * What is lent stays where it is, as it is, while threads grow, wait, and take and close seats, this one too: until a call of the
+ * whole vector (below) or its close begins; one that answers CVEC_BUSY hasn't. Who reads what is lent beside such calls holds the
+ * vector, so that they are refused. A vector that has lent records never moves them to go on growing: where the phase has no more
+ * room growths are CVEC_FULL, and a call of the whole vector, as cvec_vector_compact, makes room. The seats that are closed for that
+ * lose what was pushed and waits, and their blocks: copy those before. A forked process may read what was lent before the fork. */
+uint32_t cvec_vector_pieces(cvec_vector_seat *seat, uint64_t from, cvec_piece *out, size_t room, size_t *count);
+
+/* From now on calls of the whole vector and its close answer CVEC_BUSY, until each hold is released: what is lent from then on
+ * stays. It takes no seat, and stops neither growths nor commits. It waits for such a call that is under way. Any thread may release;
+ * CVEC_NOT_SO: nobody holds it. */
+uint32_t cvec_vector_hold(cvec_vector *vector);
+uint32_t cvec_vector_release(cvec_vector *vector);
+
+/* How many records equal this one, durable or not. */
+uint32_t cvec_vector_count_record(cvec_vector_seat *seat, const void *record, uint64_t *count);
+
+/* The first position from `from` on that has this record; where none has, how many records there are. */
+uint32_t cvec_vector_find_record(cvec_vector_seat *seat, const void *record, uint64_t from, uint64_t *place);
+
+/* Of the whole vector, while no seat is taken and nobody holds it, else CVEC_BUSY, and nothing is done. What they do is durable when
+ * they return. Nothing that was lent before may be read once they have begun. CVEC_MEMORY and CVEC_FILE_FULL: the same call may be
+ * made again.
  *
  * Writes the records over those from position `start` on, as one frame. */
 uint32_t cvec_vector_change_records(cvec_vector *vector, uint64_t start, const void *records, size_t count);
@@ -156,21 +224,19 @@ uint32_t cvec_vector_clear(cvec_vector *vector);
 /* Writes what was changed to its place in the file, which costs a write for each changed record. */
 uint32_t cvec_vector_fold(cvec_vector *vector);
 
-/* How many records equal this one. */
-uint32_t cvec_vector_count_record(cvec_vector *vector, const void *record, uint64_t *count);
-
-/* The first position from `from` on that has this record; where none has, how many records there are. */
-uint32_t cvec_vector_find_record(cvec_vector *vector, const void *record, uint64_t from, uint64_t *place);
+/* Settles what was grown, and puts the records of the growths of this phase behind one another, as one piece: afterwards they take no
+ * more memory than themselves, and the vector takes as many growths as a new one. */
+uint32_t cvec_vector_compact(cvec_vector *vector);
 
 /* The same six of records of u64, or of the bits of some of i64. CVEC_WIDTH: the vector has others. */
 uint32_t cvec_vector_grow(cvec_vector_seat *seat, const uint64_t *records, size_t count, cvec_receipt *receipt);
 uint32_t cvec_vector_read(cvec_vector_seat *seat, uint64_t from, uint64_t *out, size_t room, uint64_t *count);
 uint32_t cvec_vector_change(cvec_vector *vector, uint64_t start, const uint64_t *records, size_t count);
 uint32_t cvec_vector_resize(cvec_vector *vector, uint64_t size, uint64_t record);
-uint32_t cvec_vector_count(cvec_vector *vector, uint64_t record, uint64_t *count);
-uint32_t cvec_vector_find(cvec_vector *vector, uint64_t record, uint64_t from, uint64_t *place);
+uint32_t cvec_vector_count(cvec_vector_seat *seat, uint64_t record, uint64_t *count);
+uint32_t cvec_vector_find(cvec_vector_seat *seat, uint64_t record, uint64_t from, uint64_t *place);
 
-/* A status in words: one sentence for each number that the functions above answer, for any caller to show. */
+/* What cvec_status_text of cvec.h answers. */
 const char *cvec_vector_status_text(uint32_t status);
 
 /* ---- libcvec_threads.a: proved. cvec_vector.c keeps its rules: a handle is all zero at first; it is never copied; one call
@@ -196,10 +262,11 @@ typedef struct cvec_call {
 uint32_t cvec_phase_file(uint64_t len, uint16_t width, cvec_handle *file);
 uint32_t cvec_phase_feed(cvec_handle *file, const uint8_t *piece, size_t len);
 
-/* Begins the vector of a file whose bytes are all read: its handle has who commits then, and phase the seats. Refused, the bytes
- * are given up, and the handle is to be closed. */
-uint32_t cvec_phase_create(cvec_handle *file, uint8_t version, uint16_t seats, cvec_handle *phase);
-uint32_t cvec_phase_open(cvec_handle *file, uint16_t seats, cvec_handle *phase);
+/* Begins the vector of a file whose bytes are all read: its handle has who commits then, and phase the seats, 1 to 64. growths: for
+ * so many the phase has room, 1 to 536,870,904 (else CVEC_TOO_LARGE); past 1,048,568 each seat reserves 4 bytes of addresses for each,
+ * and where these are refused it has room for 1,048,568. Refused, the bytes are given up, and the handle is to be closed. */
+uint32_t cvec_phase_create(cvec_handle *file, uint8_t version, uint64_t growths, uint16_t seats, cvec_handle *phase);
+uint32_t cvec_phase_open(cvec_handle *file, uint64_t growths, uint16_t seats, cvec_handle *phase);
 uint32_t cvec_phase_seat(cvec_handle *phase, cvec_handle *grower);
 uint32_t cvec_phase_close(cvec_handle *handle);
 
@@ -207,28 +274,40 @@ uint32_t cvec_phase_close(cvec_handle *handle);
 uint32_t cvec_phase_settled(cvec_handle *grower, uint64_t *count, uint32_t *state);
 uint32_t cvec_phase_size(cvec_handle *grower, uint64_t *size);
 
+/* Where the records stand that the grower knows, from position `from` on: what cvec_vector_pieces lends. They stay there until each
+ * handle of the phase is closed, or gather has the vector: it answers CVEC_BUSY while another handle isn't closed. */
+uint32_t cvec_phase_pieces(cvec_handle *grower, uint64_t from, cvec_piece *out, size_t room, uint64_t *count);
+
+/* A block of so many blank records, of the type of the grower's vector, in a handle of its own; what that one had is given up. They
+ * stand at *records, to be written by the caller alone until they are published. publish grows by them: the block's handle has
+ * nothing then, and the records stay where they are. Refused, as cvec_phase_grow_TYPE is (CVEC_AGAIN: call it again), both handles are
+ * as they were, but that the grower may know more. cvec_phase_close gives a block up. */
+uint32_t cvec_phase_block(cvec_handle *grower, uint64_t count, cvec_handle *block, void **records);
+uint32_t cvec_phase_publish(cvec_handle *grower, cvec_handle *block, cvec_receipt *receipt);
+
 /* What names records stands here once for each width; records of i64 are passed as those of u64, bit by bit. CVEC_WIDTH: the
  * handle's vector has records of another one. A flag has to be 0 or 1.
  *
- * cvec_phase_grow_TYPE: CVEC_AGAIN: another growth came first; call it again. */
-#define CVEC_PHASE_CALLS(TYPE, RECORD) \
+ * cvec_phase_grow_TYPE: CVEC_AGAIN: another growth came first; call it again. _count and _find look at the records that the grower
+ * knows: how many equal that one; the first position from `from` on that has it, or how many records there are. */
+#define CVEC_PHASE_CALLS(TYPE, RECORD, ONE) \
     uint32_t cvec_phase_grow_##TYPE(cvec_handle *grower, const RECORD *records, size_t count, cvec_receipt *receipt); \
-    uint32_t cvec_phase_read_##TYPE(cvec_handle *grower, uint64_t from, RECORD *out, size_t room, uint64_t *count);
-CVEC_PHASE_CALLS(u32, uint32_t)
-CVEC_PHASE_CALLS(u64, uint64_t)
-CVEC_PHASE_CALLS(pair, cvec_pair)
-CVEC_PHASE_CALLS(flagged, cvec_flagged)
+    uint32_t cvec_phase_read_##TYPE(cvec_handle *grower, uint64_t from, RECORD *out, size_t room, uint64_t *count); \
+    uint32_t cvec_phase_count_##TYPE(cvec_handle *grower, ONE record, uint64_t *count); \
+    uint32_t cvec_phase_find_##TYPE(cvec_handle *grower, ONE record, uint64_t from, uint64_t *place);
+CVEC_PHASE_CALLS(u32, uint32_t, uint32_t)
+CVEC_PHASE_CALLS(u64, uint64_t, uint64_t)
+CVEC_PHASE_CALLS(pair, cvec_pair, const cvec_pair *)
+CVEC_PHASE_CALLS(flagged, cvec_flagged, const cvec_flagged *)
 
 /* Who commits has the vector alone, where each other handle of it is closed (else CVEC_BUSY): its handle has a vault then, for
- * which cvec_phase_calls, _call and _settle are too. share: threads have it again, with so many seats. */
+ * which cvec_phase_calls, _call and _settle are too. share: threads have it again, with so much room and so many seats. */
 uint32_t cvec_phase_gather(cvec_handle *committer);
-uint32_t cvec_phase_share(cvec_handle *vault, uint16_t seats, cvec_handle *phase);
+uint32_t cvec_phase_share(cvec_handle *vault, uint64_t growths, uint16_t seats, cvec_handle *phase);
 
 /* By the handle of a vault. What writes lists its calls: make them in order, and only if each has succeeded, settle. */
 #define CVEC_VAULT_CALLS(TYPE, RECORD, ONE) \
     uint32_t cvec_vault_read_##TYPE(cvec_handle *vault, uint64_t from, RECORD *out, size_t room, uint64_t *count); \
-    uint32_t cvec_vault_count_##TYPE(cvec_handle *vault, ONE record, uint64_t *count); \
-    uint32_t cvec_vault_find_##TYPE(cvec_handle *vault, ONE record, uint64_t from, uint64_t *place); \
     uint32_t cvec_vault_change_##TYPE(cvec_handle *vault, uint64_t start, const RECORD *records, size_t count); \
     uint32_t cvec_vault_resize_##TYPE(cvec_handle *vault, uint64_t size, ONE record);
 CVEC_VAULT_CALLS(u32, uint32_t, uint32_t)

@@ -1,6 +1,7 @@
 /* See cvec_client.h. */
 #define _GNU_SOURCE 1
 #include "cvec_client.h"
+#include "system.h"
 
 #include <errno.h>
 #include <fcntl.h>
@@ -24,24 +25,21 @@ struct answer {
     uint64_t first, second;
 };
 
-/* A type of records: its bytes, and the word that its server is started with. To a server floats are numbers, with their bytes. */
-struct record_type {
-    const char *name, *word;
-    size_t width;
-};
-
 /* The type of this name, or NULL. */
-static const struct record_type *type_of(const char *name) {
-    static const struct record_type types[] = {
-        {"u8", "u8", 1},            {"u16", "u16", 2},          {"u32", "u32", 4},          {"u64", "u64", 8},
-        {"i32", "i32", 4},          {"i64", "i64", 8},          {"f32", "u32", 4},          {"f64", "u64", 8},
-        {"pair", "pair", 16},       {"flagged", "flagged", 9},  {"bytes16", "bytes16", 16}, {"bytes24", "bytes24", 24},
-        {"bytes32", "bytes32", 32}, {"bytes64", "bytes64", 64},
-    };
-    for (size_t k = 0; k < sizeof types / sizeof *types; k++)
+static const cvec_type_of *type_of(const char *name) {
+    size_t count;
+    const cvec_type_of *types = cvec_types(&count);
+    for (size_t k = 0; k < count; k++)
         if (strcmp(types[k].name, name) == 0)
             return &types[k];
     return NULL;
+}
+
+/* The word that the server of a type is started with. To a server floats are numbers, with their bytes. */
+static const char *word_of(const cvec_type_of *type) {
+    if (strcmp(type->name, "f32") == 0)
+        return "u32";
+    return strcmp(type->name, "f64") == 0 ? "u64" : type->name;
 }
 
 static void put(unsigned char *bytes, uint64_t number, int len) {
@@ -56,53 +54,24 @@ static uint64_t take(const unsigned char *bytes, int len) {
     return number;
 }
 
-/* What a call on a pipe answered that did nothing: where it is no fault of the system, the other end is closed. */
-static int fail(ssize_t done) {
-    if (done == 0)
-        errno = EPIPE;
+/* The answer of a seat that is over, as of one whose other end is closed. */
+static int fail(void) {
+    errno = EPIPE;
     return -1;
-}
-
-static int write_all(int descriptor, const void *bytes, size_t len) {
-    const unsigned char *at = bytes;
-    while (len > 0) {
-        ssize_t n = write(descriptor, at, len);
-        if (n < 0 && errno == EINTR)
-            continue;
-        if (n <= 0)
-            return fail(n);
-        at += n;
-        len -= (size_t)n;
-    }
-    return 0;
-}
-
-static int read_all(int descriptor, void *bytes, size_t len) {
-    unsigned char *at = bytes;
-    while (len > 0) {
-        ssize_t n = read(descriptor, at, len);
-        if (n < 0 && errno == EINTR)
-            continue;
-        if (n <= 0)
-            return fail(n);
-        at += n;
-        len -= (size_t)n;
-    }
-    return 0;
 }
 
 /* What a seat that is over asked would never be answered. */
 static int send_bytes(struct cvec_seat *seat, const void *bytes, size_t len) {
     if (seat->over)
-        return fail(0);
-    seat->over = write_all(seat->requests, bytes, len) != 0;
+        return fail();
+    seat->over = cvec_system_write(seat->requests, bytes, len) != CVEC_DONE;
     return seat->over ? -1 : 0;
 }
 
 static int take_bytes(struct cvec_seat *seat, void *bytes, size_t len) {
     if (seat->over)
-        return fail(0);
-    seat->over = read_all(seat->answers, bytes, len) != 0;
+        return fail();
+    seat->over = cvec_system_read(seat->answers, bytes, len) != CVEC_DONE;
     return seat->over ? -1 : 0;
 }
 
@@ -164,64 +133,21 @@ static int take_all_owed(struct cvec_seat *seat) {
         if (told == 0)
             told = status;
     }
-    return told == 0 && seat->untaken > 0 ? fail(0) : told;
+    return told == 0 && seat->untaken > 0 ? fail() : told;
 }
 
-/* Closes so many pipes. errno goes on saying why a call before has failed. */
 static void close_pipes(int pipes[][2], int count) {
-    int why = errno;
     for (int k = 0; k < count; k++)
         for (int i = 0; i < 2; i++)
-            if (pipes[k][i] >= 0)
-                close(pipes[k][i]);
-    errno = why;
+            cvec_system_close(pipes[k][i]);
 }
 
-static int open_null(int flags) {
-    int descriptor;
-    do
-        descriptor = open("/dev/null", flags);
-    while (descriptor < 0 && errno == EINTR);
-    return descriptor;
-}
-
-/* Where standard streams are closed, a pipe would get their numbers, and be written what another thread prints there, be it for
- * the moment before it has another one. /dev/null gets them, so that it can't be read or written there: to read and to print
- * fails as before (EBADF), and a program that is run has those streams closed. */
-static void take_streams(void) {
-    for (int stream = STDIN_FILENO; stream <= STDERR_FILENO; stream++) {
-        if (fcntl(stream, F_GETFD) >= 0)
-            continue;
-        int taken = open_null((stream == STDIN_FILENO ? O_WRONLY : O_RDONLY) | O_CLOEXEC);
-        if (taken > STDERR_FILENO)
-            close(taken);
-    }
-}
-
-/* Where there is no /dev/null a pipe has such a number for that moment alone. */
-static int behind_streams(int descriptor) {
-    if (descriptor < 0 || descriptor > STDERR_FILENO)
-        return descriptor;
-    int moved = fcntl(descriptor, F_DUPFD_CLOEXEC, STDERR_FILENO + 1), why = errno;
-    close(descriptor);
-    errno = why;
-    return moved;
-}
-
-/* None of them is left to a program that another thread starts meanwhile. */
 static int open_pipes(int pipes[][2], int count) {
-    take_streams();
     for (int k = 0; k < count; k++) {
-        if (pipe2(pipes[k], O_CLOEXEC)) {
-            close_pipes(pipes, k);
-            return -1;
-        }
-        for (int i = 0; i < 2; i++)
-            pipes[k][i] = behind_streams(pipes[k][i]);
-        if (pipes[k][0] < 0 || pipes[k][1] < 0) {
-            close_pipes(pipes, k + 1);
-            return -1;
-        }
+        if (cvec_system_pipe(pipes[k]) == CVEC_DONE)
+            continue;
+        close_pipes(pipes, k);
+        return -1;
     }
     return 0;
 }
@@ -229,7 +155,7 @@ static int open_pipes(int pipes[][2], int count) {
 /* In the child: what the server writes at its end isn't to stand among the client's lines, nor does it keep what the client
  * reads. */
 static void mute(void) {
-    int nothing = open_null(O_RDWR);
+    int nothing = cvec_system_open_null(O_RDWR);
     if (nothing < 0 || dup2(nothing, STDIN_FILENO) < 0 || dup2(nothing, STDOUT_FILENO) < 0)
         _exit(127);
     if (nothing > STDOUT_FILENO)
@@ -264,7 +190,7 @@ static void run(char *const words[], int pipes[][2], int count) {
 }
 
 int cvec_seat_of(struct cvec_seat *seat, const char *type, int requests, int answers) {
-    const struct record_type *found = type_of(type);
+    const cvec_type_of *found = type_of(type);
     seat->requests = requests;
     seat->answers = answers;
     seat->width = found == NULL ? 0 : found->width;
@@ -300,14 +226,14 @@ static int start_server(struct cvec_server *server, char *const words[], const c
 
 int cvec_server_start(struct cvec_server *server, const char *program, const char *type, const char *file, int count) {
     char seats[32];
-    const struct record_type *found = type_of(type);
+    const cvec_type_of *found = type_of(type);
     if (count < 1 || count > CVEC_SEAT_LIMIT || found == NULL) {
         errno = EINVAL;
         return -1;
     }
     snprintf(seats, sizeof seats, "--seats=%d", count);
     /* None is written. */
-    char *const words[] = {(char *)program, (char *)"serve", (char *)found->word, (char *)file, seats, NULL};
+    char *const words[] = {(char *)program, (char *)"serve", (char *)word_of(found), (char *)file, seats, NULL};
     return start_server(server, words, type, count);
 }
 
@@ -324,7 +250,7 @@ int cvec_seat_send_growth(struct cvec_seat *seat, const void *records, uint32_t 
 int cvec_seat_take_growth(struct cvec_seat *seat, uint64_t *number, uint64_t *start) {
     struct answer answer;
     if (seat->over)
-        return fail(0);
+        return fail();
     if (seat->untaken == 0) {
         errno = EPROTO;
         return -1;
@@ -407,24 +333,18 @@ int cvec_server_wait(struct cvec_server *server) {
 }
 
 const char *cvec_answer_text(int answer) {
-    static const char *const texts[] = {
-        "done",
-        "the server doesn't know such a request",
-        "a number of the request isn't 0",
-        "there is no record",
-        "there are more records than one frame of a file holds",
-        "a record is none of the type, and nothing was grown",
-        "the server has no memory for the bytes of the growth",
-        "the server has no memory for the growth",
-        "the server takes no more",
-        "this server has taken all growths that it may: start it again",
-        "the vector would have more than 2^32 records",
-        "the growths don't follow one another: the server's memory is damaged",
-        "it isn't settled, and the server has ended",
-        "it isn't known to be settled, since the file refused: restart the system before it is opened again",
-    };
-    if (answer == -1)
+    switch (answer) {
+    case -1:
         return "the server has ended, or reads no more of this seat, or answers of growths have to be taken in turn (EBUSY, "
                "EPROTO): each growth that it hasn't told is settled stands in the file whole, or not at all";
-    return answer >= 0 && answer < (int)(sizeof texts / sizeof *texts) ? texts[answer] : "an unknown answer";
+    case 0:
+        return cvec_status_text(CVEC_DONE);
+#define CVEC_TEXT(NAME, NUMBER, SENTENCE) \
+    case NUMBER: \
+        return SENTENCE;
+        CVEC_REFUSALS(CVEC_TEXT)
+#undef CVEC_TEXT
+    default:
+        return "an unknown answer";
+    }
 }

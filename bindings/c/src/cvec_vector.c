@@ -2,18 +2,14 @@
 #define _DEFAULT_SOURCE 1
 #define _POSIX_C_SOURCE 200809L
 #include "cvec_vector.h"
+#include "system.h"
 
 #include <errno.h>
 #include <fcntl.h>
 #include <pthread.h>
-#include <signal.h>
 #include <stdlib.h>
 #include <string.h>
-#include <sys/file.h>
-#include <sys/mman.h>
-#include <sys/stat.h>
 #include <time.h>
-#include <unistd.h>
 
 struct cvec_vector {
     int fd;
@@ -37,6 +33,7 @@ struct cvec_vector {
     struct in_line *line;    /* of the calls that wait for a seat, the one that came first */
     uint32_t queued;         /* so many these are */
     uint32_t seats;          /* so many aren't closed */
+    uint64_t holds;          /* so many aren't released */
     uint32_t taken;          /* so many were taken */
     uint32_t flushers;       /* whose loops run */
     uint32_t asking;         /* so many calls by no seat are under way that wait, or have all handles */
@@ -44,9 +41,11 @@ struct cvec_vector {
     uint32_t woken;          /* so many haven't come again of those that the last one woke, and who made it */
     uint64_t written;        /* so many bytes it wrote: who commits has it too */
     uint16_t most_seats;
+    uint64_t growths; /* for so many a phase has room, where the system gives the addresses */
     bool committing, stopped; /* stopped: no loop of a flusher goes on */
-    bool held;       /* one call has all handles, those of the seats too, or waits for them: it commits then */
-    uint32_t shut;   /* by __atomic: it is held or unseated */
+    bool claimed;    /* one call has all handles, those of the seats too, or waits for them: it commits then */
+    uint32_t shut;   /* by __atomic: it is claimed or unseated */
+    uint32_t lent;   /* by __atomic: records of this phase were lent */
     uint32_t broken; /* by __atomic */
 };
 
@@ -65,8 +64,11 @@ struct cvec_vector_seat {
     uint16_t number;        /* how many were taken before it */
     uint8_t *pushed; /* room for a block of records, or NULL: none was pushed since it was given back */
     size_t waiting;  /* so many of them were pushed and aren't grown: fewer than a block */
-    size_t block;    /* so many are grown at once */
+    size_t at_once;  /* so many are grown at once */
     cvec_receipt last; /* of the last growth by what was pushed; one of no records: there is none */
+    cvec_handle block; /* that is lent to be written, or nothing: it is of no phase */
+    void *blank;       /* its records */
+    size_t blank_len;
     uint32_t busy;     /* by __atomic */
 };
 
@@ -101,8 +103,48 @@ enum { LONGEST_GATHERING = 100000, LARGE_GROUP = 256 * 1024 };
  * bytes. */
 enum { PUSHED_AT_ONCE = 1024, LARGEST_GROWTH = (1 << 20) - 8 };
 
-/* How long a lock is tried while readers share it: for 10 seconds by the clock, and as many turns of 20 milliseconds at most. */
-enum { LOCK_SECONDS = 10, LOCK_TURNS = 500, LOCK_WAIT = 20000000 };
+/* Which sanitizer this is built with: gcc says so by a macro, clang by a feature. */
+#if defined(__SANITIZE_ADDRESS__)
+#define WITH_ADDRESS_SANITIZER
+#elif defined(__SANITIZE_THREAD__)
+#define WITH_THREAD_SANITIZER
+#elif defined(__has_feature)
+#if __has_feature(address_sanitizer)
+#define WITH_ADDRESS_SANITIZER
+#elif __has_feature(thread_sanitizer)
+#define WITH_THREAD_SANITIZER
+#endif
+#endif
+
+/* For how many growths a phase has room at most, and how many it has that isn't wide. */
+static const uint64_t MOST_GROWTHS = 536870904, NARROW_GROWTHS = 1048568;
+
+/* By default all seats and who commits reserve 4 bytes for each of 268,435,456 growths together, 1 GiB: a fork asks the system for all
+ * that is reserved, and is refused where that is more than the machine's memory. Sanitizers keep account of what is reserved, and
+ * take seconds to give it back: there a phase isn't wide. */
+static uint64_t default_growths(uint16_t seats) {
+#if defined(WITH_ADDRESS_SANITIZER) || defined(WITH_THREAD_SANITIZER)
+    (void)seats;
+    return NARROW_GROWTHS;
+#else
+    const uint64_t growths = UINT64_C(268435456) / (seats + UINT64_C(1));
+    return growths > NARROW_GROWTHS ? growths : NARROW_GROWTHS;
+#endif
+}
+
+/* ThreadSanitizer doesn't see by what the proved library has threads in order, which isn't built for it. So it passes over what the
+ * library writes to a growth, and is told that what was written to a block comes before who finds it. */
+#if defined(WITH_THREAD_SANITIZER)
+void AnnotateIgnoreWritesBegin(const char *file, int line);
+void AnnotateIgnoreWritesEnd(const char *file, int line);
+void __tsan_release(void *at);
+void __tsan_acquire(void *at);
+#else
+#define AnnotateIgnoreWritesBegin(file, line)
+#define AnnotateIgnoreWritesEnd(file, line)
+#define __tsan_release(at)
+#define __tsan_acquire(at)
+#endif
 
 /* No deadline is further away, in milliseconds: 31 years. */
 static const uint64_t LONGEST_WAIT = 1000000000000;
@@ -112,20 +154,27 @@ static const uint64_t LONGEST_WAIT = 1000000000000;
 /* The bytes of a record in a file, and in memory. */
 static uint16_t width_of(cvec_type type) {
     switch (type) {
-    case CVEC_U32: return 4;
-    case CVEC_PAIR: return 16;
-    case CVEC_FLAGGED: return 9;
-    default: return 8;
+#define CVEC_WIDTH_OF(NAME, name, RECORD, WIDTH) \
+    case CVEC_##NAME: return WIDTH;
+        CVEC_TYPES(CVEC_WIDTH_OF)
+#undef CVEC_WIDTH_OF
+    default: return 0;
     }
 }
 
 static size_t size_of(cvec_type type) {
     switch (type) {
-    case CVEC_U32: return sizeof(uint32_t);
-    case CVEC_PAIR: return sizeof(cvec_pair);
-    case CVEC_FLAGGED: return sizeof(cvec_flagged);
-    default: return sizeof(uint64_t);
+#define CVEC_SIZE_OF(NAME, name, RECORD, WIDTH) \
+    case CVEC_##NAME: return sizeof(RECORD);
+        CVEC_TYPES(CVEC_SIZE_OF)
+#undef CVEC_SIZE_OF
+    default: return 0;
     }
+}
+
+/* Whether the library has vectors of these. */
+static bool is_of_vectors(cvec_type type) {
+    return type == CVEC_U32 || type == CVEC_U64 || type == CVEC_I64 || type == CVEC_PAIR || type == CVEC_FLAGGED;
 }
 
 /* Whether these are records of the type: a flag is the byte 0 or 1, and what else memory may have there is none. */
@@ -173,238 +222,26 @@ static uint32_t vault_resize(cvec_type type, cvec_handle *vault, uint64_t size, 
     }
 }
 
-static uint32_t vault_count(cvec_type type, cvec_handle *vault, const void *record, uint64_t *count) {
+static uint32_t phase_count(cvec_type type, cvec_handle *grower, const void *record, uint64_t *count) {
     switch (type) {
-    case CVEC_U32: return cvec_vault_count_u32(vault, *(const uint32_t *)record, count);
-    case CVEC_PAIR: return cvec_vault_count_pair(vault, record, count);
-    case CVEC_FLAGGED: return cvec_vault_count_flagged(vault, record, count);
-    default: return cvec_vault_count_u64(vault, *(const uint64_t *)record, count);
+    case CVEC_U32: return cvec_phase_count_u32(grower, *(const uint32_t *)record, count);
+    case CVEC_PAIR: return cvec_phase_count_pair(grower, record, count);
+    case CVEC_FLAGGED: return cvec_phase_count_flagged(grower, record, count);
+    default: return cvec_phase_count_u64(grower, *(const uint64_t *)record, count);
     }
 }
 
-static uint32_t vault_find(cvec_type type, cvec_handle *vault, const void *record, uint64_t from, uint64_t *place) {
+static uint32_t phase_find(cvec_type type, cvec_handle *grower, const void *record, uint64_t from, uint64_t *place) {
     switch (type) {
-    case CVEC_U32: return cvec_vault_find_u32(vault, *(const uint32_t *)record, from, place);
-    case CVEC_PAIR: return cvec_vault_find_pair(vault, record, from, place);
-    case CVEC_FLAGGED: return cvec_vault_find_flagged(vault, record, from, place);
-    default: return cvec_vault_find_u64(vault, *(const uint64_t *)record, from, place);
+    case CVEC_U32: return cvec_phase_find_u32(grower, *(const uint32_t *)record, from, place);
+    case CVEC_PAIR: return cvec_phase_find_pair(grower, record, from, place);
+    case CVEC_FLAGGED: return cvec_phase_find_flagged(grower, record, from, place);
+    default: return cvec_phase_find_u64(grower, *(const uint64_t *)record, from, place);
     }
 }
 
 /* Whether what names records of u64 is for this vector. */
 static bool has_words(const cvec_vector *vector) { return width_of(vector->type) == sizeof(uint64_t); }
-
-/* ---- which process this is */
-
-/* A process that uses vectors gets a number, greater than that of each from which it was forked: by the system's own, a child
- * in a namespace of its own may have its parent's. It stands here, or 0 behind a fork, since the system wipes it in the child.
- * NULL: there is no such memory, and the system's number is asked for each time. */
-static uint64_t *noted_process;
-static uint64_t last_process; /* the greatest that was taken, by __atomic: a child goes on from its copy */
-static pthread_once_t noting = PTHREAD_ONCE_INIT;
-
-static void note_process(void) {
-#ifdef MADV_WIPEONFORK
-    void *page = mmap(NULL, sizeof *noted_process, PROT_READ | PROT_WRITE, MAP_PRIVATE | MAP_ANONYMOUS, -1, 0);
-    if (page == MAP_FAILED) return;
-    if (madvise(page, sizeof *noted_process, MADV_WIPEONFORK) == 0)
-        noted_process = page;
-    else
-        munmap(page, sizeof *noted_process);
-#endif
-}
-
-/* The same in each call by a process, without a call of the system. Of threads that come first at once the number of one stays,
- * and the others take it. Who reads it knows that it was taken: so each copy of it that a child gets is no greater than the
- * child's `last_process`. */
-static uint64_t this_process(void) {
-    if (noted_process == NULL) return (uint64_t)getpid();
-    uint64_t process = __atomic_load_n(noted_process, __ATOMIC_ACQUIRE);
-    if (process != 0) return process;
-    const uint64_t fresh = __atomic_add_fetch(&last_process, 1, __ATOMIC_RELAXED);
-    const bool stays = __atomic_compare_exchange_n(noted_process, &process, fresh, false, __ATOMIC_ACQ_REL, __ATOMIC_ACQUIRE);
-    return stays ? fresh : process;
-}
-
-uint64_t cvec_vector_process(void) {
-    pthread_once(&noting, note_process);
-    return this_process();
-}
-
-/* ---- calls of the system, each made whole */
-
-static bool was_interrupted(ssize_t done) { return done < 0 && errno == EINTR; }
-
-/* errno goes on saying why a call before has failed. */
-static void close_quietly(int fd) {
-    int why = errno;
-    close(fd);
-    errno = why;
-}
-
-static int open_once(const char *path, int flags) {
-    int fd;
-    do fd = open(path, flags | O_CLOEXEC, 0666);
-    while (was_interrupted(fd));
-    return fd;
-}
-
-/* Where standard streams are closed, a file would get their numbers, and be written what another thread prints there, be it for
- * the moment before it has another one. /dev/null gets them, so that it can't be read or written there: to read and to print
- * fails as before (EBADF), and a program that is run has those streams closed. */
-static void take_streams(void) {
-    for (int fd = STDIN_FILENO; fd <= STDERR_FILENO; fd++) {
-        if (fcntl(fd, F_GETFD) >= 0) continue;
-        int taken = open_once("/dev/null", fd == STDIN_FILENO ? O_WRONLY : O_RDONLY);
-        if (taken > STDERR_FILENO) close_quietly(taken);
-    }
-}
-
-/* Where there is no /dev/null a file has such a number for that moment alone. */
-static int behind_streams(int fd) {
-    if (fd < 0 || fd > STDERR_FILENO) return fd;
-    int moved = fcntl(fd, F_DUPFD_CLOEXEC, STDERR_FILENO + 1);
-    close_quietly(fd);
-    return moved;
-}
-
-static int open_path(const char *path, int flags) {
-    take_streams();
-    return behind_streams(open_once(path, flags));
-}
-
-static uint32_t lock_by(int fd, int operation) {
-    int done;
-    do done = flock(fd, operation | LOCK_NB);
-    while (was_interrupted(done));
-    if (done == 0) return CVEC_DONE;
-    return errno == EWOULDBLOCK ? CVEC_IN_USE : CVEC_DISK_OPEN;
-}
-
-/* For the process that has opened it: gives the lock up too. A program that another thread starts has a copy of the descriptor
- * until it runs, which would keep the file locked behind the close. */
-static void close_unlocked(int fd) {
-    int why = errno;
-    lock_by(fd, LOCK_UN);
-    close(fd);
-    errno = why;
-}
-
-/* A wait for readers: when it began, and how many turns it has had. Where processors are busy a turn takes longer. */
-typedef struct lock_wait {
-    struct timespec begun;
-    int turns;
-} lock_wait;
-
-static lock_wait begin_lock_wait(void) {
-    lock_wait wait = {{0, 0}, 0};
-    clock_gettime(CLOCK_MONOTONIC, &wait.begun);
-    return wait;
-}
-
-static bool has_waited(const lock_wait *wait) {
-    struct timespec now;
-    clock_gettime(CLOCK_MONOTONIC, &now);
-    time_t seconds = now.tv_sec - wait->begun.tv_sec - (now.tv_nsec < wait->begun.tv_nsec);
-    return wait->turns >= LOCK_TURNS || seconds >= LOCK_SECONDS;
-}
-
-/* The whole time of a turn, whichever signals come: a timer's would else cut all turns short. */
-static void wait_a_turn(lock_wait *wait) {
-    struct timespec left = {0, LOCK_WAIT};
-    while (nanosleep(&left, &left) != 0 && errno == EINTR) {}
-    wait->turns++;
-}
-
-/* Commands that only read share the lock, and have it for moments: where it can be shared, it is tried again. */
-static uint32_t lock(int fd, lock_wait *wait) {
-    for (;;) {
-        uint32_t answer = lock_by(fd, LOCK_EX);
-        if (answer != CVEC_IN_USE || has_waited(wait)) return answer;
-        answer = lock_by(fd, LOCK_SH);
-        if (answer == CVEC_DONE) answer = lock_by(fd, LOCK_UN);
-        if (answer != CVEC_DONE) return answer;
-        wait_a_turn(wait);
-    }
-}
-
-static uint32_t length_of(int fd, uint64_t *len) {
-    struct stat found;
-    int done;
-    do done = fstat(fd, &found);
-    while (was_interrupted(done));
-    if (done != 0) return CVEC_DISK_LENGTH;
-    if (!S_ISREG(found.st_mode)) return CVEC_NOT_FILE;
-    *len = (uint64_t)found.st_size;
-    return CVEC_DONE;
-}
-
-static uint32_t read_at(int fd, uint64_t at, uint8_t *bytes, size_t len) {
-    while (len > 0) {
-        ssize_t done = pread(fd, bytes, len, (off_t)at);
-        if (was_interrupted(done)) continue;
-        if (done == 0) errno = EIO;
-        if (done <= 0) return CVEC_DISK_READ;
-        bytes += done;
-        at += (uint64_t)done;
-        len -= (size_t)done;
-    }
-    return CVEC_DONE;
-}
-
-static uint32_t write_whole(int fd, uint64_t at, const uint8_t *bytes, size_t len) {
-    while (len > 0) {
-        ssize_t done = pwrite(fd, bytes, len, (off_t)at);
-        if (was_interrupted(done)) continue;
-        if (done == 0) errno = EIO;
-        if (done <= 0) return CVEC_DISK_WRITE;
-        bytes += done;
-        at += (uint64_t)done;
-        len -= (size_t)done;
-    }
-    return CVEC_DONE;
-}
-
-/* A write past the greatest size of a file raises SIGXFSZ, which would end the process: it is held back in this thread, and
- * taken, so that the write fails by EFBIG alone. */
-static uint32_t write_at(int fd, uint64_t at, const uint8_t *bytes, size_t len) {
-    sigset_t too_large, before, pending;
-    const struct timespec now = {0, 0};
-    sigemptyset(&too_large);
-    sigaddset(&too_large, SIGXFSZ);
-    sigpending(&pending);
-    pthread_sigmask(SIG_BLOCK, &too_large, &before);
-    uint32_t answer = write_whole(fd, at, bytes, len);
-    int why = errno;
-    if (answer != CVEC_DONE && !sigismember(&pending, SIGXFSZ))
-        while (sigtimedwait(&too_large, NULL, &now) < 0 && errno == EINTR) {}
-    pthread_sigmask(SIG_SETMASK, &before, NULL);
-    errno = why;
-    return answer;
-}
-
-static uint32_t sync_data(int fd) {
-    int done;
-    do done = fdatasync(fd);
-    while (was_interrupted(done));
-    return done == 0 ? CVEC_DONE : CVEC_DISK_SYNC;
-}
-
-/* A new name is durable only when its folder is synced. */
-static uint32_t sync_folder(const char *path) {
-    char *whole = realpath(path, NULL);
-    if (whole == NULL) return errno == ENOMEM ? CVEC_MEMORY : CVEC_DISK_OPEN;
-    char *name = strrchr(whole, '/');
-    name[name == whole ? 1 : 0] = '\0';
-    int fd = open_path(whole, O_RDONLY | O_DIRECTORY);
-    free(whole);
-    if (fd < 0) return CVEC_DISK_OPEN;
-    int done;
-    do done = fsync(fd);
-    while (was_interrupted(done));
-    close_quietly(fd);
-    return done == 0 ? CVEC_DONE : CVEC_DISK_SYNC;
-}
 
 /* ---- commits */
 
@@ -441,7 +278,7 @@ static uint32_t make_call(cvec_vector *vector, uint64_t number) {
     uint32_t answer = cvec_phase_call(&vector->committer, number, &call);
     if (answer != CVEC_DONE) return answer;
     vector->written += call.len;
-    return call.kind == 1 ? sync_data(vector->fd) : write_at(vector->fd, call.at, call.bytes, (size_t)call.len);
+    return call.kind == 1 ? cvec_system_sync(vector->fd) : cvec_system_write_at(vector->fd, call.at, call.bytes, (size_t)call.len);
 }
 
 /* Makes the listed calls in their order. */
@@ -526,7 +363,7 @@ static void give_way(long *nap) {
 
 /* With the mutex: whether calls by seats wait. */
 static void shut(cvec_vector *vector) {
-    __atomic_store_n(&vector->shut, (uint32_t)(vector->held || vector->unseated), __ATOMIC_SEQ_CST);
+    __atomic_store_n(&vector->shut, (uint32_t)(vector->claimed || vector->unseated), __ATOMIC_SEQ_CST);
 }
 
 /* With the mutex. Of a call that begins later it sees that, or the call sees that it is shut out, and goes aside. */
@@ -541,7 +378,7 @@ static bool is_somebody_inside(const cvec_vector *vector) {
 static void take_all(cvec_vector *vector) {
     long nap = FIRST_NAP;
     vector->asking++;
-    vector->held = true;
+    vector->claimed = true;
     shut(vector);
     while (vector->committing) pthread_cond_wait(&vector->settled, &vector->mutex);
     vector->committing = true;
@@ -562,7 +399,7 @@ static void call_first(cvec_vector *vector) {
 static void give_all_back(cvec_vector *vector) {
     pthread_mutex_lock(&vector->mutex);
     vector->asking--;
-    vector->held = false;
+    vector->claimed = false;
     shut(vector);
     end_commit(vector);
     pthread_cond_broadcast(&vector->released);
@@ -592,12 +429,13 @@ static void drop_idle(cvec_vector *vector) {
     }
 }
 
-/* Closes the phase and each grower. What seats keep and have counted stays. */
+/* Closes the phase and each grower: what was lent of it may go then. What seats keep and have counted stays, and their blocks. */
 static void unseat(cvec_vector *vector) {
     drop_idle(vector);
     for (cvec_vector_seat *seat = vector->first; seat != NULL; seat = seat->next) cvec_phase_close(&seat->grower);
     cvec_phase_close(&vector->phase);
     vector->unseated = vector->seats > 0;
+    __atomic_store_n(&vector->lent, 0, __ATOMIC_RELAXED);
 }
 
 /* Commits all growths, closes the phase and all growers, and has the vector alone. Refused before it closes them, all is as it was. */
@@ -615,7 +453,7 @@ static uint32_t gather(cvec_vector *vector) {
 /* Threads have it again, and growths are counted on. Where even the vault is lost, for want of memory, the file has all. */
 static uint32_t share(cvec_vector *vector) {
     uint64_t size;
-    uint32_t answer = cvec_phase_share(&vector->committer, vector->most_seats, &vector->phase);
+    uint32_t answer = cvec_phase_share(&vector->committer, vector->growths, vector->most_seats, &vector->phase);
     if (answer != CVEC_DONE) {
         if (cvec_vault_size(&vector->committer, &size) != CVEC_DONE) set_broken(vector);
         return told(vector, answer);
@@ -638,23 +476,39 @@ static uint32_t seat_all(cvec_vector *vector) {
     return answer;
 }
 
+/* Whether records of the phase are lent. Only a call inside lends. Who has all handles has seen that each such call left its seat,
+ * or the mutex from who closed the seat, and so sees what it noted here; and none begins meanwhile. */
+static bool has_lent(const cvec_vector *vector) { return __atomic_load_n(&vector->lent, __ATOMIC_RELAXED) != 0; }
+
+/* To end a phase frees its growths: not while some are lent. */
+static uint32_t end_phase(cvec_vector *vector) {
+    if (is_broken(vector)) return CVEC_BROKEN;
+    if (vector->alone) return CVEC_DONE;
+    return has_lent(vector) ? CVEC_FULL : gather(vector);
+}
+
 /* With the mutex, which it hasn't got meanwhile, and while nobody has all handles: a new phase, with all its seats. Others only
- * wait longer. Refused, nothing is lost, and it may be tried again. */
+ * wait longer. Refused, nothing is lost, and it may be tried again. Once growers are closed nothing is lent until it is done. */
 static uint32_t renew(cvec_vector *vector) {
+    if (has_lent(vector)) return CVEC_FULL; /* already: nobody has to wait */
     take_all(vector);
-    uint32_t answer = is_broken(vector) ? CVEC_BROKEN : vector->alone ? CVEC_DONE : gather(vector);
+    uint32_t answer = end_phase(vector);
     if (answer == CVEC_DONE) answer = share(vector);
     if (answer == CVEC_DONE) answer = seat_all(vector);
     give_all_back(vector);
     return answer;
 }
 
-/* With the mutex: until one may have all handles. A loop of a flusher may commit, or another call be of the whole vector, though
- * no seat is taken. No seat tells a close of who waits here, and it would free the vector under them: they are counted. */
+/* With the mutex: whether calls of the whole vector are refused. */
+static bool is_used(const cvec_vector *vector) { return vector->seats > 0 || vector->holds > 0; }
+
+/* With the mutex: until one may have all handles, or others use the vector. A loop of a flusher may commit, or another call be of the
+ * whole vector, though no seat is taken. No seat tells a close of who waits here, and it would free the vector under them: they are
+ * counted. */
 static void await_handles(cvec_vector *vector) {
     vector->asking++;
-    while (vector->seats == 0 && (vector->held || vector->committing))
-        pthread_cond_wait(vector->held ? &vector->released : &vector->settled, &vector->mutex);
+    while (!is_used(vector) && (vector->claimed || vector->committing))
+        pthread_cond_wait(vector->claimed ? &vector->released : &vector->settled, &vector->mutex);
     vector->asking--;
 }
 
@@ -665,10 +519,10 @@ static void leave_alone(cvec_vector *vector) {
 
 /* For a call of the whole vector: it has all handles where it answers CVEC_DONE. */
 static uint32_t enter_alone(cvec_vector *vector) {
-    if (vector->process != this_process()) return CVEC_FORKED;
+    if (vector->process != cvec_process()) return CVEC_FORKED;
     pthread_mutex_lock(&vector->mutex);
     await_handles(vector);
-    uint32_t answer = vector->seats > 0 ? CVEC_BUSY : is_broken(vector) ? CVEC_BROKEN : CVEC_DONE;
+    uint32_t answer = is_used(vector) ? CVEC_BUSY : is_broken(vector) ? CVEC_BROKEN : CVEC_DONE;
     if (answer == CVEC_DONE)
         take_all(vector);
     else
@@ -719,30 +573,10 @@ uint32_t cvec_vector_fold(cvec_vector *vector) {
     return answer == CVEC_DONE ? settle_alone(vector, cvec_vault_fold(&vector->committer)) : answer;
 }
 
-uint32_t cvec_vector_count_record(cvec_vector *vector, const void *record, uint64_t *count) {
-    if (!are_records(vector->type, record, 1)) return CVEC_NO_RECORD;
+uint32_t cvec_vector_compact(cvec_vector *vector) {
     uint32_t answer = enter_alone(vector);
-    if (answer != CVEC_DONE) return answer;
-    answer = vault_count(vector->type, &vector->committer, record, count);
-    leave_alone(vector);
+    if (answer == CVEC_DONE) leave_alone(vector);
     return answer;
-}
-
-uint32_t cvec_vector_count(cvec_vector *vector, uint64_t record, uint64_t *count) {
-    return has_words(vector) ? cvec_vector_count_record(vector, &record, count) : CVEC_WIDTH;
-}
-
-uint32_t cvec_vector_find_record(cvec_vector *vector, const void *record, uint64_t from, uint64_t *place) {
-    if (!are_records(vector->type, record, 1)) return CVEC_NO_RECORD;
-    uint32_t answer = enter_alone(vector);
-    if (answer != CVEC_DONE) return answer;
-    answer = vault_find(vector->type, &vector->committer, record, from, place);
-    leave_alone(vector);
-    return answer;
-}
-
-uint32_t cvec_vector_find(cvec_vector *vector, uint64_t record, uint64_t from, uint64_t *place) {
-    return has_words(vector) ? cvec_vector_find_record(vector, &record, from, place) : CVEC_WIDTH;
 }
 
 /* ---- the vector */
@@ -752,7 +586,7 @@ static void give_up(cvec_vector *vector) {
     drop_idle(vector);
     cvec_phase_close(&vector->phase);
     cvec_phase_close(&vector->committer);
-    if (vector->fd >= 0) close_unlocked(vector->fd);
+    if (vector->fd >= 0) cvec_system_close_unlocked(vector->fd);
     pthread_cond_destroy(&vector->settled);
     pthread_cond_destroy(&vector->returned);
     pthread_cond_destroy(&vector->flushing);
@@ -765,7 +599,7 @@ static cvec_vector *vector_of(void) {
     cvec_vector *vector = calloc(1, sizeof *vector);
     if (vector == NULL) return NULL;
     vector->fd = -1;
-    vector->process = cvec_vector_process();
+    vector->process = cvec_process();
     vector->phases = FIRST_PHASE;
     pthread_mutex_init(&vector->mutex, NULL);
     begin_condition(&vector->settled);
@@ -775,62 +609,18 @@ static cvec_vector *vector_of(void) {
     return vector;
 }
 
-/* Whether a folder, a pipe or a device has this name: to open one may wait, or do more. */
-static bool is_no_file(const char *path) {
-    struct stat found;
-    return stat(path, &found) == 0 && !S_ISREG(found.st_mode);
-}
-
-/* Whether the path leads to this file. Where it leads to nothing it doesn't; any other failure is none of the name. */
-static uint32_t ask_name(const char *path, int fd, bool *leads_here) {
-    struct stat opened, named;
-    int done;
-    do done = fstat(fd, &opened);
-    while (was_interrupted(done));
-    if (done != 0) return CVEC_DISK_LENGTH;
-    do done = stat(path, &named);
-    while (was_interrupted(done));
-    if (done != 0 && errno != ENOENT && errno != ENOTDIR) return CVEC_DISK_OPEN;
-    *leads_here = done == 0 && named.st_dev == opened.st_dev && named.st_ino == opened.st_ino;
-    return CVEC_DONE;
-}
-
-/* Opens and locks the file to which the path leads then. While a lock is waited for another may be put in its place: what is
- * written to the one from before would be lost. Each such time takes a turn, as each try of a lock does. */
-static uint32_t open_locked(const char *path, int flags, int *fd) {
-    lock_wait wait = begin_lock_wait();
-    for (;;) {
-        bool leads_here = false;
-        if (is_no_file(path)) return CVEC_NOT_FILE;
-        *fd = open_path(path, O_RDWR | flags);
-        if (*fd < 0) return CVEC_DISK_OPEN;
-        uint32_t answer = lock(*fd, &wait);
-        if (answer == CVEC_DONE) answer = ask_name(path, *fd, &leads_here);
-        if (answer != CVEC_DONE || leads_here) return answer;
-        if (has_waited(&wait)) return CVEC_IN_USE;
-        close_unlocked(*fd);
-        *fd = -1;
-        wait_a_turn(&wait);
-    }
-}
-
 static uint32_t open_alone(cvec_vector *vector, const char *path, int flags) {
-    uint32_t answer = open_locked(path, flags, &vector->fd);
-    if (answer == CVEC_DONE && flags != 0) answer = sync_folder(path);
+    uint32_t answer = cvec_system_open_locked(path, flags, &vector->fd);
+    if (answer == CVEC_DONE && flags != 0) answer = cvec_system_sync_folder(path);
     /* What is read then is what a crash leaves. */
-    return answer == CVEC_DONE ? sync_data(vector->fd) : answer;
+    return answer == CVEC_DONE ? cvec_system_sync(vector->fd) : answer;
 }
 
-/* Whether what the file holds is what a stopped creation leaves: few bytes, of which each is 0, or the one that the empty file
- * gets. Others are somebody's, and a creation would write over them. */
-static uint32_t check_vacant(int fd, uint64_t len, uint16_t width, uint8_t version) {
-    const uint8_t empty[CVEC_EMPTY_LEN] = {1, 'C', 'V', 'E', 'C', 'S', 'E', 'G', version, (uint8_t)width, 0, 0};
-    uint8_t there[CVEC_EMPTY_LEN];
-    if (len > CVEC_EMPTY_LEN) return CVEC_EXISTS;
-    uint32_t answer = read_at(fd, 0, there, (size_t)len);
-    for (size_t at = 0; answer == CVEC_DONE && at < (size_t)len; at++)
-        if (there[at] != 0 && there[at] != empty[at]) answer = CVEC_EXISTS;
-    return answer;
+/* How many bytes the file has. Where one of this version is made, they are those that a stopped creation leaves: over others, which
+ * are somebody's, it would write. */
+static uint32_t ask_length(const cvec_vector *vector, uint8_t version, uint64_t *len) {
+    const uint8_t empty[CVEC_EMPTY_LEN] = {1, 'C', 'V', 'E', 'C', 'S', 'E', 'G', version, (uint8_t)width_of(vector->type), 0, 0};
+    return version == 0 ? cvec_system_length(vector->fd, len) : cvec_system_vacant(vector->fd, empty, len);
 }
 
 /* Gives the handle what its file holds, from the front on, piece by piece. */
@@ -840,7 +630,7 @@ static uint32_t feed(cvec_handle *file, int fd, uint64_t len) {
     if (piece == NULL) return CVEC_MEMORY;
     for (uint64_t at = 0; answer == CVEC_DONE && at < len; at += PIECE_LEN) {
         const size_t count = len - at < PIECE_LEN ? (size_t)(len - at) : PIECE_LEN;
-        answer = read_at(fd, at, piece, count);
+        answer = cvec_system_read_at(fd, at, piece, count);
         if (answer == CVEC_DONE) answer = cvec_phase_feed(file, piece, count);
     }
     free(piece);
@@ -848,31 +638,53 @@ static uint32_t feed(cvec_handle *file, int fd, uint64_t len) {
 }
 
 /* Begins the vector over what the file holds; a version of 0 opens it. */
-static uint32_t begin(cvec_vector *vector, uint8_t version, uint16_t seats) {
+static uint32_t begin(cvec_vector *vector, uint8_t version) {
     const uint16_t width = width_of(vector->type);
     cvec_handle *file = &vector->committer; /* which it becomes */
     uint64_t len = 0;
-    uint32_t answer = length_of(vector->fd, &len);
-    if (answer == CVEC_DONE && version != 0) answer = check_vacant(vector->fd, len, width, version);
+    uint32_t answer = ask_length(vector, version, &len);
     if (answer == CVEC_DONE) answer = cvec_phase_file(len, width, file);
     if (answer == CVEC_DONE) answer = feed(file, vector->fd, len);
     if (answer != CVEC_DONE) return answer;
-    if (version == 0) return cvec_phase_open(file, seats, &vector->phase);
-    return cvec_phase_create(file, version, seats, &vector->phase);
+    if (version == 0) return cvec_phase_open(file, vector->growths, vector->most_seats, &vector->phase);
+    return cvec_phase_create(file, version, vector->growths, vector->most_seats, &vector->phase);
 }
 
-static uint32_t begin_at(cvec_vector **begun, const char *path, cvec_type type, int flags, uint8_t version, uint16_t seats) {
+/* Opens the file and begins its vector; a version of 0 opens one that is there. */
+static uint32_t begin_at(cvec_vector *vector, const char *path, uint8_t version) {
     uint64_t growths = 0;
+    uint32_t answer = open_alone(vector, path, version == 0 ? 0 : O_CREAT);
+    if (answer == CVEC_DONE) answer = begin(vector, version);
+    return answer == CVEC_DONE ? commit(vector, &growths) : answer;
+}
+
+/* Each option said: what isn't has its default. */
+static cvec_options all_options(const cvec_options *said) {
+    cvec_options all = {0, 0, 0};
+    if (said != NULL) all = *said;
+    if (all.version == 0) all.version = 1;
+    if (all.seats == 0) all.seats = MOST_SEATS;
+    if (all.growths == 0) all.growths = default_growths(all.seats);
+    return all;
+}
+
+/* What is refused before a file is made. */
+static uint32_t check_options(cvec_type type, const cvec_options *options) {
+    if (!is_of_vectors(type) || options->version > 2) return CVEC_NOT_SO;
+    return options->seats > MOST_SEATS || options->growths > MOST_GROWTHS ? CVEC_TOO_LARGE : CVEC_DONE;
+}
+
+static uint32_t begin_with(cvec_vector **begun, const char *path, cvec_type type, bool is_new, const cvec_options *said) {
+    const cvec_options options = all_options(said);
+    uint32_t answer = check_options(type, &options);
     *begun = NULL;
-    if ((uint32_t)type > CVEC_FLAGGED) return CVEC_NOT_SO;
-    if (seats == 0 || seats > MOST_SEATS) return CVEC_TOO_LARGE; /* before a file is made */
+    if (answer != CVEC_DONE) return answer;
     cvec_vector *vector = vector_of();
     if (vector == NULL) return CVEC_MEMORY;
     vector->type = type;
-    vector->most_seats = seats;
-    uint32_t answer = open_alone(vector, path, flags);
-    if (answer == CVEC_DONE) answer = begin(vector, version, seats);
-    if (answer == CVEC_DONE) answer = commit(vector, &growths);
+    vector->most_seats = options.seats;
+    vector->growths = options.growths;
+    answer = begin_at(vector, path, is_new ? options.version : 0);
     if (answer == CVEC_DONE)
         *begun = vector;
     else
@@ -880,10 +692,20 @@ static uint32_t begin_at(cvec_vector **begun, const char *path, cvec_type type, 
     return answer;
 }
 
+uint32_t cvec_vector_create_with(cvec_vector **vector, const char *path, cvec_type type, const cvec_options *options) {
+    return begin_with(vector, path, type, true, options);
+}
+
+uint32_t cvec_vector_open_with(cvec_vector **vector, const char *path, cvec_type type, const cvec_options *options) {
+    return begin_with(vector, path, type, false, options);
+}
+
+/* Where options are passed one by one, 0 is none of them. */
 uint32_t cvec_vector_create_as(cvec_vector **vector, const char *path, cvec_type type, uint8_t version, uint16_t seats) {
+    const cvec_options options = {version, seats, 0};
     *vector = NULL;
-    if (version != 1 && version != 2) return CVEC_NOT_SO;
-    return begin_at(vector, path, type, O_CREAT, version, seats);
+    if (version == 0) return CVEC_NOT_SO;
+    return seats == 0 ? CVEC_TOO_LARGE : cvec_vector_create_with(vector, path, type, &options);
 }
 
 uint32_t cvec_vector_create(cvec_vector **vector, const char *path, uint8_t version, uint16_t seats) {
@@ -891,7 +713,9 @@ uint32_t cvec_vector_create(cvec_vector **vector, const char *path, uint8_t vers
 }
 
 uint32_t cvec_vector_open_as(cvec_vector **vector, const char *path, cvec_type type, uint16_t seats) {
-    return begin_at(vector, path, type, 0, 0, seats);
+    const cvec_options options = {0, seats, 0};
+    *vector = NULL;
+    return seats == 0 ? CVEC_TOO_LARGE : cvec_vector_open_with(vector, path, type, &options);
 }
 
 uint32_t cvec_vector_open(cvec_vector **vector, const char *path, uint16_t seats) {
@@ -899,15 +723,7 @@ uint32_t cvec_vector_open(cvec_vector **vector, const char *path, uint16_t seats
 }
 
 uint32_t cvec_vector_identity(const cvec_vector *vector, uint64_t *device, uint64_t *file) {
-    struct stat found;
-    int done;
-    if (vector->process != this_process()) return CVEC_FORKED;
-    do done = fstat(vector->fd, &found);
-    while (was_interrupted(done));
-    if (done != 0) return CVEC_DISK_LENGTH;
-    *device = (uint64_t)found.st_dev;
-    *file = (uint64_t)found.st_ino;
-    return CVEC_DONE;
+    return vector->process == cvec_process() ? cvec_system_identity(vector->fd, device, file) : CVEC_FORKED;
 }
 
 /* Commits until there is nothing to commit. */
@@ -923,7 +739,7 @@ static uint32_t commit_all(cvec_vector *vector) { return vector->alone ? settle_
 /* A forked process has copies of the handles, and of a mutex that any thread may have had: it closes the file alone, and leaves its
  * parent the lock. */
 static uint32_t leave(cvec_vector *vector) {
-    close_quietly(vector->fd);
+    cvec_system_close(vector->fd);
     vector->fd = -1;
     return CVEC_FORKED;
 }
@@ -936,9 +752,9 @@ static void end_flushers(cvec_vector *vector) {
 }
 
 uint32_t cvec_vector_close(cvec_vector *vector) {
-    if (vector->process != this_process()) return leave(vector);
+    if (vector->process != cvec_process()) return leave(vector);
     pthread_mutex_lock(&vector->mutex);
-    bool busy = vector->seats > 0 || vector->asking > 0;
+    bool busy = is_used(vector) || vector->asking > 0;
     if (!busy) end_flushers(vector);
     uint32_t answer = busy ? CVEC_BUSY : is_broken(vector) ? CVEC_BROKEN : commit_all(vector);
     pthread_mutex_unlock(&vector->mutex);
@@ -956,7 +772,7 @@ static cvec_vector_seat *new_seat(cvec_vector *vector) {
     cvec_vector_seat *seat = made;
     memset(seat, 0, sizeof *seat);
     seat->vector = vector;
-    seat->block = PUSHED_AT_ONCE;
+    seat->at_once = PUSHED_AT_ONCE;
     return seat;
 }
 
@@ -992,7 +808,14 @@ static void set_busy(cvec_vector_seat *seat, uint32_t busy) { __atomic_store_n(&
 
 /* With the mutex: until nobody has all handles. */
 static void await_release(cvec_vector *vector) {
-    while (vector->held) pthread_cond_wait(&vector->released, &vector->mutex);
+    while (vector->claimed) pthread_cond_wait(&vector->released, &vector->mutex);
+}
+
+/* The same for a call by no seat. A close would free the vector under it: it is counted. */
+static void await_pause(cvec_vector *vector) {
+    vector->asking++;
+    await_release(vector);
+    vector->asking--;
 }
 
 /* With the mutex, while nobody has all handles: a seat of the phase, or, where each of its seats was given, of a new one. */
@@ -1017,7 +840,7 @@ static cvec_vector_seat *reused_seat(cvec_vector *vector) {
     set_busy(seat, FREE);
     seat->pushed = NULL;
     seat->waiting = 0;
-    seat->block = PUSHED_AT_ONCE;
+    seat->at_once = PUSHED_AT_ONCE;
     memset(&seat->last, 0, sizeof seat->last);
     return seat;
 }
@@ -1040,11 +863,9 @@ static bool is_one_spare(const cvec_vector *vector) { return vector->seats + vec
 
 uint32_t cvec_vector_take_seat(cvec_vector *vector, cvec_vector_seat **taken) {
     *taken = NULL;
-    if (vector->process != this_process()) return CVEC_FORKED;
+    if (vector->process != cvec_process()) return CVEC_FORKED;
     pthread_mutex_lock(&vector->mutex);
-    vector->asking++;
-    await_release(vector);
-    vector->asking--;
+    await_pause(vector);
     uint32_t answer = is_one_spare(vector) ? seat_of(vector, taken) : CVEC_NOT_SO;
     pthread_mutex_unlock(&vector->mutex);
     return answer;
@@ -1075,7 +896,7 @@ static uint32_t await_turn(cvec_vector *vector, const struct timespec *until) {
     struct in_line mine;
     uint32_t answer = CVEC_DONE;
     begin_line(vector, &mine);
-    while (answer == CVEC_DONE && (vector->line != &mine || vector->held || vector->seats == vector->most_seats)) {
+    while (answer == CVEC_DONE && (vector->line != &mine || vector->claimed || vector->seats == vector->most_seats)) {
         if (has_passed(until))
             answer = CVEC_LATE;
         else
@@ -1088,13 +909,33 @@ static uint32_t await_turn(cvec_vector *vector, const struct timespec *until) {
 uint32_t cvec_vector_seat_within(cvec_vector *vector, uint64_t milliseconds, cvec_vector_seat **taken) {
     const struct timespec until = moment_in(milliseconds);
     *taken = NULL;
-    if (vector->process != this_process()) return CVEC_FORKED;
+    if (vector->process != cvec_process()) return CVEC_FORKED;
     pthread_mutex_lock(&vector->mutex);
-    uint32_t answer = !vector->held && is_one_spare(vector) ? CVEC_DONE : await_turn(vector, &until);
+    uint32_t answer = !vector->claimed && is_one_spare(vector) ? CVEC_DONE : await_turn(vector, &until);
     if (answer == CVEC_DONE)
         answer = seat_of(vector, taken);
     else
         call_first(vector);
+    pthread_mutex_unlock(&vector->mutex);
+    return answer;
+}
+
+/* ---- holds: while there is one, calls of the whole vector are refused */
+
+uint32_t cvec_vector_hold(cvec_vector *vector) {
+    if (vector->process != cvec_process()) return CVEC_FORKED;
+    pthread_mutex_lock(&vector->mutex);
+    await_pause(vector);
+    vector->holds++;
+    pthread_mutex_unlock(&vector->mutex);
+    return CVEC_DONE;
+}
+
+uint32_t cvec_vector_release(cvec_vector *vector) {
+    if (vector->process != cvec_process()) return CVEC_FORKED;
+    pthread_mutex_lock(&vector->mutex);
+    uint32_t answer = vector->holds > 0 ? CVEC_DONE : CVEC_NOT_SO;
+    if (answer == CVEC_DONE) vector->holds--;
     pthread_mutex_unlock(&vector->mutex);
     return answer;
 }
@@ -1104,7 +945,7 @@ uint32_t cvec_vector_seat_within(cvec_vector *vector, uint64_t milliseconds, cve
 /* Takes the seat for one call, that is inside or aside. Two calls at once on one handle would be undefined. */
 static uint32_t enter_so(cvec_vector_seat *seat, uint32_t busy) {
     uint32_t was = FREE;
-    if (seat->vector->process != this_process()) return CVEC_FORKED;
+    if (seat->vector->process != cvec_process()) return CVEC_FORKED;
     return __atomic_compare_exchange_n(&seat->busy, &was, busy, false, __ATOMIC_SEQ_CST, __ATOMIC_RELAXED) ? CVEC_DONE : CVEC_BUSY;
 }
 
@@ -1144,52 +985,67 @@ static uint32_t begin_growth(cvec_vector_seat *seat) {
     return CVEC_DONE;
 }
 
-/* The first touch of a page is dear: for small growths all of them are touched by one call. In that, threads would wait for one
- * another, so that larger growths touch theirs themselves. */
-static void touch(uint8_t *room) {
-#ifdef MADV_POPULATE_WRITE
-    const uintptr_t page = (uintptr_t)sysconf(_SC_PAGESIZE), begin = (uintptr_t)room;
-    const size_t skipped = (page - begin % page) % page;
-    madvise(room + skipped, (ROOM - skipped) / page * page, MADV_POPULATE_WRITE);
-#else
-    (void)room;
-#endif
-}
-
 /* The library asks for memory growth by growth. glibc's malloc enlarges a thread's part of the heap page by page then, each time
  * by a call of the system in which all threads wait for one another. So much is asked for at once, and given back: it stays
- * with that part of the heap, where it is less than 128 KiB. */
+ * with that part of the heap, where it is less than 128 KiB.
+ *
+ * The first touch of a page is dear: for small growths all of them are touched by one call. In that, threads would wait for one
+ * another, so that larger growths touch theirs themselves. */
 static void make_room(cvec_vector_seat *seat, size_t count) {
     const size_t each = size_of(seat->vector->type);
     if (count > LARGE_GROWTH / each) return;
     const size_t len = count * each + BESIDE_RECORDS;
     if (seat->room < len) {
         uint8_t *volatile room = malloc(ROOM); /* volatile: else a compiler leaves out both calls */
-        if (room != NULL && len <= SMALL_GROWTH + BESIDE_RECORDS) touch(room);
+        if (room != NULL && len <= SMALL_GROWTH + BESIDE_RECORDS) cvec_system_touch(room, ROOM);
         free(room);
         seat->room = ROOM;
     }
     seat->room -= len;
 }
 
-static uint32_t grow_in_turn(cvec_vector_seat *seat, const void *records, size_t count, cvec_receipt *receipt) {
+/* What a seat grows by: copies of so many records, or its block. */
+struct growth {
+    bool is_block;
+    const void *records;
+    size_t count;
+};
+
+static uint32_t try_growth(cvec_vector_seat *seat, const struct growth *growth, cvec_receipt *receipt) {
+    __tsan_release(seat->vector);
+    AnnotateIgnoreWritesBegin(__FILE__, __LINE__);
+    uint32_t answer = growth->is_block
+                          ? cvec_phase_publish(&seat->grower, &seat->block, receipt)
+                          : phase_grow(seat->vector->type, &seat->grower, growth->records, growth->count, receipt);
+    AnnotateIgnoreWritesEnd(__FILE__, __LINE__);
+    return answer;
+}
+
+/* Learns what others grew, and how many records there are. */
+static uint32_t look(cvec_vector_seat *seat, uint64_t *size) {
+    uint32_t answer = cvec_phase_size(&seat->grower, size);
+    __tsan_acquire(seat->vector);
+    return answer;
+}
+
+static uint32_t grow_in_turn(cvec_vector_seat *seat, const struct growth *growth, cvec_receipt *receipt) {
     uint64_t size;
     long nap = FIRST_NAP;
     for (int tries = 1;; tries++) {
-        uint32_t answer = phase_grow(seat->vector->type, &seat->grower, records, count, receipt);
+        uint32_t answer = try_growth(seat, growth, receipt);
         if (answer != CVEC_AGAIN) return answer;
         /* Were the growth that came first none of this vector's, no turn would come. */
-        answer = cvec_phase_size(&seat->grower, &size);
+        answer = look(seat, &size);
         if (answer != CVEC_DONE) return answer;
         if (tries > TRIES_AT_ONCE) give_way(&nap);
     }
 }
 
 /* Where the phase takes no more growths, it is made in the next one. */
-static uint32_t grow_by(cvec_vector_seat *seat, const void *records, size_t count, cvec_receipt *receipt) {
+static uint32_t grow_by(cvec_vector_seat *seat, const struct growth *growth, cvec_receipt *receipt) {
     for (;;) {
         const uint64_t phase = seat->vector->phases;
-        uint32_t answer = grow_in_turn(seat, records, count, receipt);
+        uint32_t answer = grow_in_turn(seat, growth, receipt);
         if (answer != CVEC_FULL) return answer;
         answer = come_in(seat, phase);
         if (answer != CVEC_DONE) return answer;
@@ -1197,11 +1053,11 @@ static uint32_t grow_by(cvec_vector_seat *seat, const void *records, size_t coun
 }
 
 /* For a call inside: all of the records are grown, or none. What the library counts of a phase is counted on here. */
-static uint32_t grow_block(cvec_vector_seat *seat, const void *records, size_t count, cvec_receipt *receipt) {
+static uint32_t grow_counted(cvec_vector_seat *seat, const struct growth *growth, cvec_receipt *receipt) {
     uint32_t answer = begin_growth(seat);
     if (answer != CVEC_DONE) return answer;
-    make_room(seat, count);
-    answer = grow_by(seat, count > 0 ? records : no_records, count, receipt);
+    if (!growth->is_block) make_room(seat, growth->count); /* a block has its memory */
+    answer = grow_by(seat, growth, receipt);
     if (answer != CVEC_DONE) {
         count_begun(seat, seat->begun - 1);
         return answer;
@@ -1212,12 +1068,17 @@ static uint32_t grow_block(cvec_vector_seat *seat, const void *records, size_t c
     return answer;
 }
 
+static uint32_t grow_copies(cvec_vector_seat *seat, const void *records, size_t count, cvec_receipt *receipt) {
+    const struct growth growth = {false, count > 0 ? records : no_records, count};
+    return grow_counted(seat, &growth, receipt);
+}
+
 uint32_t cvec_vector_grow_records(cvec_vector_seat *seat, const void *records, size_t count, cvec_receipt *receipt) {
     cvec_receipt unasked;
     if (!are_records(seat->vector->type, records, count)) return CVEC_NO_RECORD;
     uint32_t answer = enter(seat);
     if (answer != CVEC_DONE) return answer;
-    answer = grow_block(seat, records, count, receipt ? receipt : &unasked);
+    answer = grow_copies(seat, records, count, receipt ? receipt : &unasked);
     leave_seat(seat);
     return answer;
 }
@@ -1226,11 +1087,64 @@ uint32_t cvec_vector_grow(cvec_vector_seat *seat, const uint64_t *records, size_
     return has_words(seat->vector) ? cvec_vector_grow_records(seat, records, count, receipt) : CVEC_WIDTH;
 }
 
+/* ---- growth in place: who calls has the seat */
+
+/* For a call inside, of which a renewal waits: it ends no phase from then on. */
+static void note_lent(cvec_vector *vector) {
+    if (!has_lent(vector)) __atomic_store_n(&vector->lent, 1, __ATOMIC_RELAXED);
+}
+
+static uint32_t lend_block(cvec_vector_seat *seat, size_t count, void **records) {
+    if (is_broken(seat->vector)) return CVEC_BROKEN;
+    if (seat->block.full) return CVEC_NOT_SO;
+    make_room(seat, count);
+    uint32_t answer = cvec_phase_block(&seat->grower, count, &seat->block, &seat->blank);
+    if (answer != CVEC_DONE) return answer;
+    seat->blank_len = count;
+    *records = seat->blank;
+    return answer;
+}
+
+uint32_t cvec_vector_block(cvec_vector_seat *seat, size_t count, void **records) {
+    uint32_t answer = enter(seat);
+    if (answer != CVEC_DONE) return answer;
+    answer = lend_block(seat, count, records);
+    leave_seat(seat);
+    return answer;
+}
+
+/* Who wrote the records has their place, and may go on reading them: they are lent. */
+static uint32_t publish(cvec_vector_seat *seat, cvec_receipt *receipt) {
+    const struct growth growth = {true, NULL, 0};
+    if (!seat->block.full) return CVEC_NOT_SO;
+    if (!are_records(seat->vector->type, seat->blank, seat->blank_len)) return CVEC_NO_RECORD;
+    uint32_t answer = grow_counted(seat, &growth, receipt);
+    if (answer == CVEC_DONE) note_lent(seat->vector);
+    return answer;
+}
+
+uint32_t cvec_vector_publish(cvec_vector_seat *seat, cvec_receipt *receipt) {
+    cvec_receipt unasked;
+    uint32_t answer = enter(seat);
+    if (answer != CVEC_DONE) return answer;
+    answer = publish(seat, receipt != NULL ? receipt : &unasked);
+    leave_seat(seat);
+    return answer;
+}
+
+uint32_t cvec_vector_drop(cvec_vector_seat *seat) {
+    uint32_t answer = enter_so(seat, ASIDE);
+    if (answer != CVEC_DONE) return answer;
+    answer = cvec_phase_close(&seat->block); /* CVEC_NOT_SO: it has nothing */
+    leave_seat(seat);
+    return answer;
+}
+
 /* ---- records that were pushed: who calls has the seat */
 
 /* Grows by the first so many of the buffer, which are all that it has. Where that is refused, what waits is as it was. */
 static uint32_t grow_front(cvec_vector_seat *seat, size_t count) {
-    uint32_t answer = grow_block(seat, seat->pushed, count, &seat->last);
+    uint32_t answer = grow_copies(seat, seat->pushed, count, &seat->last);
     if (answer == CVEC_DONE) seat->waiting = 0;
     return answer;
 }
@@ -1243,10 +1157,10 @@ static uint32_t grow_waiting(cvec_vector_seat *seat) {
  * twice. */
 static uint32_t put_behind(cvec_vector_seat *seat, const void *record) {
     const size_t each = size_of(seat->vector->type);
-    if (seat->pushed == NULL) seat->pushed = malloc(seat->block * each);
+    if (seat->pushed == NULL) seat->pushed = malloc(seat->at_once * each);
     if (seat->pushed == NULL) return CVEC_MEMORY;
     memcpy(seat->pushed + seat->waiting * each, record, each);
-    if (seat->waiting + 1 == seat->block) return grow_front(seat, seat->block);
+    if (seat->waiting + 1 == seat->at_once) return grow_front(seat, seat->at_once);
     seat->waiting++;
     return CVEC_DONE;
 }
@@ -1270,7 +1184,7 @@ uint32_t cvec_vector_push_block(cvec_vector_seat *seat, size_t records) {
     if (answer == CVEC_DONE) {
         free(seat->pushed);
         seat->pushed = NULL;
-        seat->block = records;
+        seat->at_once = records;
     }
     leave_seat(seat);
     return answer;
@@ -1304,6 +1218,7 @@ uint32_t cvec_vector_close_seat(cvec_vector_seat *seat) {
     if (seat->waiting > 0) answer = come_in(seat, NO_PHASE);
     if (answer == CVEC_DONE) answer = grow_waiting(seat);
     set_busy(seat, ASIDE);
+    cvec_phase_close(&seat->block);
     pthread_mutex_lock(&vector->mutex);
     await_release(vector);
     drop_seat(vector, seat);
@@ -1390,23 +1305,43 @@ static void rest(cvec_vector *vector, struct timespec until) {
     while (!vector->stopped && !has_passed(&until)) pthread_cond_timedwait(&vector->flushing, &vector->mutex, &until);
 }
 
-uint32_t cvec_vector_run_flusher(cvec_vector *vector, uint64_t every_milliseconds) {
-    uint32_t answer = CVEC_DONE;
-    if (vector->process != this_process()) return CVEC_FORKED;
+/* A close waits until it has left. */
+static void enter_flushers(cvec_vector *vector) {
     pthread_mutex_lock(&vector->mutex);
     vector->flushers++;
-    while (answer == CVEC_DONE && !vector->stopped) {
-        answer = is_broken(vector) ? CVEC_BROKEN : flush(vector);
-        if (answer == CVEC_DONE) rest(vector, moment_in(every_milliseconds > 0 ? every_milliseconds : 1));
-    }
+}
+
+static void leave_flushers(cvec_vector *vector) {
     vector->flushers--;
     pthread_cond_broadcast(&vector->flushing);
     pthread_mutex_unlock(&vector->mutex);
+}
+
+/* With the mutex. */
+static uint32_t flush_once(cvec_vector *vector) { return is_broken(vector) ? CVEC_BROKEN : flush(vector); }
+
+uint32_t cvec_vector_run_flusher(cvec_vector *vector, uint64_t every_milliseconds) {
+    uint32_t answer = CVEC_DONE;
+    if (vector->process != cvec_process()) return CVEC_FORKED;
+    enter_flushers(vector);
+    while (answer == CVEC_DONE && !vector->stopped) {
+        answer = flush_once(vector);
+        if (answer == CVEC_DONE) rest(vector, moment_in(every_milliseconds > 0 ? every_milliseconds : 1));
+    }
+    leave_flushers(vector);
+    return answer;
+}
+
+uint32_t cvec_vector_flush(cvec_vector *vector) {
+    if (vector->process != cvec_process()) return CVEC_FORKED;
+    enter_flushers(vector);
+    uint32_t answer = flush_once(vector);
+    leave_flushers(vector);
     return answer;
 }
 
 uint32_t cvec_vector_stop_flusher(cvec_vector *vector) {
-    if (vector->process != this_process()) return CVEC_FORKED;
+    if (vector->process != cvec_process()) return CVEC_FORKED;
     pthread_mutex_lock(&vector->mutex);
     vector->stopped = true;
     pthread_cond_broadcast(&vector->flushing);
@@ -1429,7 +1364,7 @@ uint32_t cvec_vector_settled(cvec_vector_seat *seat, uint64_t *count) {
 uint32_t cvec_vector_size(cvec_vector_seat *seat, uint64_t *size) {
     uint32_t answer = enter(seat);
     if (answer != CVEC_DONE) return answer;
-    answer = cvec_phase_size(&seat->grower, size);
+    answer = look(seat, size);
     leave_seat(seat);
     return answer;
 }
@@ -1438,7 +1373,7 @@ uint32_t cvec_vector_size(cvec_vector_seat *seat, uint64_t *size) {
 static uint32_t read_pieces(cvec_vector_seat *seat, uint64_t from, uint8_t *out, size_t room, uint64_t *count) {
     const cvec_type type = seat->vector->type;
     uint64_t size, copied = 0, part = 1;
-    uint32_t answer = cvec_phase_size(&seat->grower, &size);
+    uint32_t answer = look(seat, &size);
     while (answer == CVEC_DONE && copied < room && part > 0) {
         void *behind = out + copied * size_of(type);
         answer = phase_read(type, &seat->grower, from + copied, behind, room - (size_t)copied, &part);
@@ -1460,13 +1395,32 @@ uint32_t cvec_vector_read(cvec_vector_seat *seat, uint64_t from, uint64_t *out, 
     return has_words(seat->vector) ? cvec_vector_read_records(seat, from, out, room, count) : CVEC_WIDTH;
 }
 
+static uint32_t lend_pieces(cvec_vector_seat *seat, uint64_t from, cvec_piece *out, size_t room, size_t *count) {
+    uint64_t size, found = 0;
+    uint32_t answer = look(seat, &size);
+    if (answer == CVEC_DONE && from < size && room > 0) {
+        note_lent(seat->vector);
+        answer = cvec_phase_pieces(&seat->grower, from, out, room, &found);
+    }
+    if (answer == CVEC_DONE) *count = (size_t)found;
+    return answer;
+}
+
+uint32_t cvec_vector_pieces(cvec_vector_seat *seat, uint64_t from, cvec_piece *out, size_t room, size_t *count) {
+    uint32_t answer = enter(seat);
+    if (answer != CVEC_DONE) return answer;
+    answer = lend_pieces(seat, from, out, room, count);
+    leave_seat(seat);
+    return answer;
+}
+
 /* What a seat knows of the vector stays in it: what others grew is looked for only where the position is behind that. */
 static uint32_t read_one(cvec_vector_seat *seat, uint64_t position, void *record) {
     const cvec_type type = seat->vector->type;
     uint64_t size, count = 0;
     uint32_t answer = phase_read(type, &seat->grower, position, record, 1, &count);
     if (answer != CVEC_DONE || count > 0) return answer;
-    answer = cvec_phase_size(&seat->grower, &size);
+    answer = look(seat, &size);
     if (answer == CVEC_DONE) answer = phase_read(type, &seat->grower, position, record, 1, &count);
     return answer == CVEC_DONE && count == 0 ? CVEC_OUT_OF_RANGE : answer;
 }
@@ -1479,39 +1433,46 @@ uint32_t cvec_vector_at(cvec_vector_seat *seat, uint64_t position, void *record)
     return answer;
 }
 
-/* ---- words */
-
-const char *cvec_vector_status_text(uint32_t status) {
-    switch (status) {
-    case CVEC_DONE: return "done";
-    case CVEC_UNBORN: return "no vector was begun in the file";
-    case CVEC_NOT_SEGMENT: return "it is no segment file";
-    case CVEC_VERSION: return "the file's version isn't known";
-    case CVEC_WIDTH: return "the records have another width";
-    case CVEC_DAMAGED: return "a frame of the file is damaged";
-    case CVEC_MEMORY: return "memory was refused";
-    case CVEC_EMPTY: return "a growth has at least one record";
-    case CVEC_OUT_OF_RANGE: return "there is no such growth or position, or the vector would pass 2^32 records";
-    case CVEC_TOO_LARGE: return "more than 1,048,568 bytes of records in a growth, or not 1 to 64 seats";
-    case CVEC_FILE_FULL: return "the file would pass 2^48 bytes";
-    case CVEC_NO_RECORD: return "a flag is neither 0 nor 1";
-    case CVEC_EXISTS: return "something is there already";
-    case CVEC_IN_USE: return "the file is in use";
-    case CVEC_BROKEN: return "a write or a sync has failed before: open the file again";
-    case CVEC_DISK_OPEN: return "the file can't be opened";
-    case CVEC_DISK_LENGTH: return "the file's length can't be asked";
-    case CVEC_DISK_READ: return "the file can't be read";
-    case CVEC_DISK_WRITE: return "the file can't be written";
-    case CVEC_DISK_SYNC: return "the file can't be synced: restart the system before it is opened again";
-    case CVEC_FORKED: return "a forked process can only close it";
-    case CVEC_NOT_FILE: return "a folder, a pipe or a device has this name";
-    case CVEC_NOT_SO: return "every seat is taken, or there is no such version or type";
-    case CVEC_AGAIN: return "another growth came first";
-    case CVEC_FULL: return "it was grown 1,048,568 times";
-    case CVEC_BUSY: return "another thread is inside a call, or a seat isn't closed";
-    case CVEC_LATE: return "the time has passed: what was waited for may yet come";
-    case CVEC_UNFOLDED: return "a change isn't folded: fold first";
-    case CVEC_UNSETTLED: return "a growth isn't committed";
-    default: return "an unknown status";
-    }
+static uint32_t count_equal(cvec_vector_seat *seat, const void *record, uint64_t *count) {
+    uint64_t size;
+    uint32_t answer = look(seat, &size);
+    return answer == CVEC_DONE ? phase_count(seat->vector->type, &seat->grower, record, count) : answer;
 }
+
+uint32_t cvec_vector_count_record(cvec_vector_seat *seat, const void *record, uint64_t *count) {
+    if (!are_records(seat->vector->type, record, 1)) return CVEC_NO_RECORD;
+    uint32_t answer = enter(seat);
+    if (answer != CVEC_DONE) return answer;
+    answer = count_equal(seat, record, count);
+    leave_seat(seat);
+    return answer;
+}
+
+uint32_t cvec_vector_count(cvec_vector_seat *seat, uint64_t record, uint64_t *count) {
+    return has_words(seat->vector) ? cvec_vector_count_record(seat, &record, count) : CVEC_WIDTH;
+}
+
+static uint32_t find_equal(cvec_vector_seat *seat, const void *record, uint64_t from, uint64_t *place) {
+    uint64_t size;
+    uint32_t answer = look(seat, &size);
+    return answer == CVEC_DONE ? phase_find(seat->vector->type, &seat->grower, record, from, place) : answer;
+}
+
+uint32_t cvec_vector_find_record(cvec_vector_seat *seat, const void *record, uint64_t from, uint64_t *place) {
+    if (!are_records(seat->vector->type, record, 1)) return CVEC_NO_RECORD;
+    uint32_t answer = enter(seat);
+    if (answer != CVEC_DONE) return answer;
+    answer = find_equal(seat, record, from, place);
+    leave_seat(seat);
+    return answer;
+}
+
+uint32_t cvec_vector_find(cvec_vector_seat *seat, uint64_t record, uint64_t from, uint64_t *place) {
+    return has_words(seat->vector) ? cvec_vector_find_record(seat, &record, from, place) : CVEC_WIDTH;
+}
+
+/* ---- by names of before: what cvec.h has */
+
+uint64_t cvec_vector_process(void) { return cvec_process(); }
+
+const char *cvec_vector_status_text(uint32_t status) { return cvec_status_text(status); }

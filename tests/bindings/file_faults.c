@@ -2,8 +2,8 @@
  * that was running, or what it has after; a forked process is refused, no file ever has the number of a standard stream, no write
  * past the limit of a file's size ends the process, what is opened has the name, signals cut short no wait for a lock, what is
  * closed is locked no more, and no record has another flag than 0 or 1. Prints the calls of a run in which none fails:
- * ./faults FILE */
-#define _DEFAULT_SOURCE 1
+ * ./file_faults FILE */
+#define _GNU_SOURCE 1
 #include <errno.h>
 #include <fcntl.h>
 #include <limits.h>
@@ -15,6 +15,7 @@
 #include <sys/file.h>
 #include <sys/resource.h>
 #include <sys/stat.h>
+#include <sys/statvfs.h>
 #include <sys/types.h>
 #include <sys/wait.h>
 #include <time.h>
@@ -47,6 +48,16 @@ static int faulty_stat(const char *path, struct stat *found) {
     if (looks < 0 || looks-- > 0) return stat(path, found);
     errno = why_no_look;
     return -1;
+}
+
+static int is_read_only; /* whether no file system can be written; a signal interrupts the first call that asks for it */
+
+static int faulty_fstatvfs(int fd, struct statvfs *found) {
+    if (is_read_only == 0) return fstatvfs(fd, found);
+    memset(found, 0, sizeof *found);
+    found->f_flag = ST_RDONLY;
+    errno = EINTR;
+    return is_read_only++ == 1 ? -1 : 0;
 }
 
 static pid_t number_of_all; /* the number that each process has, or 0: each its own */
@@ -88,7 +99,10 @@ static int faulty_nanosleep(const struct timespec *time, struct timespec *left_o
 #define pwrite faulty_pwrite
 #define fdatasync faulty_fdatasync
 #define fsync faulty_fsync
+#define fstatvfs faulty_fstatvfs
 #define stat(path, found) faulty_stat(path, found) /* but not the type */
+#include "system.c"
+#include "types.c"
 #include "cvec_file.c"
 #undef getpid
 #undef nanosleep
@@ -96,6 +110,7 @@ static int faulty_nanosleep(const struct timespec *time, struct timespec *left_o
 #undef pwrite
 #undef fdatasync
 #undef fsync
+#undef fstatvfs
 #undef stat
 
 static const uint64_t numbers[] = {5, 7, 11, 13};
@@ -269,8 +284,10 @@ static int opens_what_has_the_name(const char *path) {
     return status == CVEC_DONE && found(path) == 4;
 }
 
-/* Whether a look for the name of what is locked, the second one, is told where it fails by more than that nothing has the name. */
+/* Whether a look for the name of what is locked, the second one, is told where it fails by more than that nothing has the name. One
+ * that a signal interrupts is made again: it takes no turn of the wait. */
 static int tells_of_a_look_that_fails(const char *path) {
+    cvec_fault fault;
     cvec_file file;
     looks = 1;
     why_no_look = EIO;
@@ -278,6 +295,11 @@ static int tells_of_a_look_that_fails(const char *path) {
     looks = 1;
     why_no_look = ENOENT;
     uint32_t status = cvec_create(&file, path, CVEC_U64);
+    cvec_close(&file);
+    if (status != CVEC_DONE || looks != -1) return 0;
+    looks = 1;
+    why_no_look = EINTR;
+    status = cvec_open(&file, path, CVEC_U64, &fault);
     cvec_close(&file);
     return status == CVEC_DONE && looks == -1;
 }
@@ -309,15 +331,42 @@ static int takes_no_other_flag(const char *path) {
     memcpy((uint8_t *)&records[1] + offsetof(cvec_flagged, flag), &other, 1);
     uint32_t status = cvec_create(&file, path, CVEC_FLAGGED);
     if (status == CVEC_DONE) status = cvec_append(&file, records, 1);
-    if (status != CVEC_DONE || length_of(file.fd, &before) != CVEC_DONE) return 0;
+    if (status != CVEC_DONE || cvec_system_length(file.fd, &before) != CVEC_DONE) return 0;
     uint32_t refused = cvec_append(&file, records, 2);
-    if (length_of(file.fd, &after) != CVEC_DONE || after != before) return 0;
+    if (cvec_system_length(file.fd, &after) != CVEC_DONE || after != before) return 0;
     status = cvec_append(&file, records, 1);
     cvec_close(&file);
     if (status == CVEC_DONE) status = cvec_open(&file, path, CVEC_FLAGGED, &fault);
     if (status == CVEC_DONE) status = cvec_read(&file, 0, seen, 4, &count, &fault);
     cvec_close(&file);
     return refused == CVEC_NO_RECORD && status == CVEC_DONE && count == 2 && seen[0].flag && seen[1].flag;
+}
+
+/* Whether a pipe, which another program may put in the place of a file as it is opened, has no length. */
+static int asks_files_alone(const char *path) {
+    uint64_t len = 9;
+    int ends[2];
+    (void)path;
+    if (pipe(ends) != 0) return 0;
+    const uint32_t answer = cvec_system_length(ends[0], &len);
+    close(ends[0]);
+    close(ends[1]);
+    return answer == CVEC_NOT_FILE && len == 9;
+}
+
+/* Whether what can't be written needs no sync to be seen. */
+static int sees_what_is_never_written(const char *path) {
+    if (!is_made(path, 1)) return 0;
+    const int fd = open(path, O_RDONLY);
+    is_read_only = 1;
+    left = 0;
+    errno = EINVAL;
+    const uint32_t answer = cvec_system_sync_seen(fd);
+    const int asked = is_read_only;
+    is_read_only = 0;
+    left = -1;
+    close(fd);
+    return answer == CVEC_DONE && asked == 3;
 }
 
 /* The next size behind this one. */
@@ -353,7 +402,9 @@ int main(int argc, char **argv) {
                  {waits_whole_turns, "signals cut short how long a lock is waited for"},
                  {is_free_beside_a_copy, "a file that is closed is locked still, by a copy of its descriptor"},
                  {is_free_beside_programs, "a file that is closed is locked still, by a program that is being started"},
-                 {takes_no_other_flag, "a flag is neither 0 nor 1"}};
+                 {takes_no_other_flag, "a flag is neither 0 nor 1"},
+                 {asks_files_alone, "a pipe passes for a file"},
+                 {sees_what_is_never_written, "a file that nobody can write is not seen where it can't be synced"}};
     if (argc != 2) return 2;
     const int calls = loses_nothing(argv[1]);
     int lost = calls < 0;

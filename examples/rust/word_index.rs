@@ -48,9 +48,11 @@ fn run(path: &Path, word: &str, texts: &[String]) -> Result<(), Error> {
         Err(Error::Exists) => Vector::open(path, 6)?,
         made => made?,
     };
-    let found = vector.seat()?.read(..)?;
-    println!("found {} words", found.len());
-    let done: HashSet<u64> = found.into_iter().map(place_of).collect();
+    println!("found {} words", vector.seat()?.len()?);
+    let mut done = HashSet::new();
+    for records in vector.seat()?.pieces(0) {
+        done.extend(records?.iter().copied().map(place_of)); // where they stand
+    }
     let mut lines = lines_of(texts);
     lines.retain(|it| !done.contains(&place_of(it[0])));
     let next = AtomicUsize::new(0);
@@ -59,8 +61,10 @@ fn run(path: &Path, word: &str, texts: &[String]) -> Result<(), Error> {
         pool.into_iter().try_for_each(|it| it.join().expect("no thread panics"))
     })?;
     let wanted = record_of(word, 0, 0);
-    let all = vector.seat()?.read(..)?;
-    let places: BTreeSet<u64> = all.into_iter().filter(|it| it >> 32 == wanted >> 32).map(place_of).collect();
+    let mut places = BTreeSet::new();
+    for records in vector.seat()?.pieces(0) {
+        places.extend(records?.iter().copied().filter(|it| it >> 32 == wanted >> 32).map(place_of));
+    }
     for place in places {
         println!("{}:{}", texts[(place >> 20) as usize], place & 0xf_ffff);
     }

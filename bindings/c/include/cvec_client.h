@@ -1,5 +1,5 @@
 /* A client of `cvec serve`, for C99 and C++ on POSIX systems: it starts a server over a segment file and grows and reads its
- * vector by pipes. docs/use/serve.md tells the bytes. It isn't proved. It may stand beside cvec.h in one program.
+ * vector by pipes. docs/use/serve.md tells the bytes. It isn't proved. cvec_client.c takes system.c and types.c beside it.
  *
  * A seat belongs to one thread at a time; the seats of a server may be in many. Functions that answer an int answer 0, the
  * number of a refusal (enum cvec_refusal), or -1 where the pipes have failed: the server has ended. Behind -1 and behind the
@@ -31,22 +31,25 @@ extern "C" {
 /* The most seats of one server. */
 #define CVEC_SEAT_LIMIT 64
 
-/* Why a request is refused. */
-enum cvec_refusal {
-    CVEC_REFUSED_UNKNOWN_KIND = 1,
-    CVEC_REFUSED_STRAY_NUMBER = 2,
-    CVEC_REFUSED_NO_RECORD = 3,
-    CVEC_REFUSED_TOO_MANY = 4,   /* more than 2^20 - 8 bytes of records */
-    CVEC_REFUSED_BAD_RECORD = 5, /* a record that is none of the type: nothing was grown */
-    CVEC_REFUSED_NO_MEMORY = 6,
-    CVEC_REFUSED_GROWTH_MEMORY = 7,
-    CVEC_REFUSED_CLOSED = 8,
-    CVEC_REFUSED_FULL = 9,      /* the server has taken all growths that it has room for */
-    CVEC_REFUSED_TOO_LONG = 10, /* the vector would have more than 2^32 records */
-    CVEC_REFUSED_STRAYED = 11,
-    CVEC_REFUSED_ENDED = 12, /* it isn't settled, and won't be */
-    CVEC_REFUSED_BROKEN = 13 /* it isn't known to be settled: the file refused */
-};
+/* Why a request is refused: X(NAME, number, a sentence for any caller to show, which cvec_answer_text has). */
+#define CVEC_REFUSALS(X) \
+    X(UNKNOWN_KIND, 1, "the server doesn't know such a request") \
+    X(STRAY_NUMBER, 2, "a number of the request isn't 0") \
+    X(NO_RECORD, 3, "there is no record") \
+    X(TOO_MANY, 4, "there are more records than one frame of a file holds") /* more than 2^20 - 8 bytes of them */ \
+    X(BAD_RECORD, 5, "a record is none of the type, and nothing was grown") \
+    X(NO_MEMORY, 6, "the server has no memory for the bytes of the growth") \
+    X(GROWTH_MEMORY, 7, "the server has no memory for the growth") \
+    X(CLOSED, 8, "the server takes no more") \
+    X(FULL, 9, "this server has taken all growths that it may: start it again") \
+    X(TOO_LONG, 10, "the vector would have more than 2^32 records") \
+    X(STRAYED, 11, "the growths don't follow one another: the server's memory is damaged") \
+    X(ENDED, 12, "it isn't settled, and the server has ended") \
+    X(BROKEN, 13, "it isn't known to be settled, since the file refused: restart the system before it is opened again")
+
+#define CVEC_CODE(NAME, NUMBER, SENTENCE) CVEC_REFUSED_##NAME = NUMBER,
+enum cvec_refusal { CVEC_REFUSALS(CVEC_CODE) };
+#undef CVEC_CODE
 
 /* One seat's ends of its two pipes, and the bytes of a record. */
 struct cvec_seat {

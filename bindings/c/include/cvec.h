@@ -1,0 +1,346 @@
+/* Segment files of a durable vector, from C (C99) and C++.
+ *
+ * The first part are the functions of libcvec_c.a, which is proved: what they answer, and what they write into the memory
+ * that they are passed. They call nothing of the system but malloc, realloc and free. The second part is cvec_file.c,
+ * which makes the system's calls in the order that the first part asks for; it is not proved. docs/use/c.md tells both.
+ *
+ * The types of records are those of CVEC_TYPES. A file has the width of its records and not their type: one of u64 is read as i64
+ * too, one of pair as bytes16, and no function can tell (docs/file/format.md#records).
+ * A function that answers another number than CVEC_DONE changes nothing but *fault (and *count, at CVEC_NO_ROOM).
+ *
+ * Pointers of the first part are never NULL, also where the length is 0, are aligned as their type, and memory that is
+ * written overlaps no other. Any number of threads may call these functions at once, each on memory of its own. Bytes that
+ * are read must not change meanwhile: also those of a file that is mapped. */
+#ifndef CVEC_H
+#define CVEC_H
+
+#include <stddef.h>
+#include <stdint.h>
+#ifndef __cplusplus
+#include <stdbool.h>
+#endif
+
+#if defined(__BYTE_ORDER__) && __BYTE_ORDER__ != __ORDER_LITTLE_ENDIAN__
+#error "records are passed as they stand in a file: the lowest byte first"
+#endif
+
+#ifdef __cplusplus
+extern "C" {
+#endif
+
+/* What a function answers: the one list. X(NAME, number, a sentence for any caller to show, which cvec_status_text has). Those from 32
+ * on are of cvec_file.c and cvec_vector.c alone, those from 64 on of cvec_vector.h, but for the type of no number (CVEC_NOT_SO). */
+#define CVEC_STATUSES(X) \
+    X(DONE, 0, "done") \
+    X(UNBORN, 1, "no vector was begun in the file") /* at most one byte, or the first isn't 1 */ \
+    X(NOT_SEGMENT, 2, "it is no segment file") /* by the bytes behind the first */ \
+    X(VERSION, 3, "the file's version isn't known") /* fault->found, or stat->version */ \
+    X(WIDTH, 4, "the records have another width") /* fault->found, or stat->width */ \
+    X(DAMAGED, 5, "a frame of the file is damaged") /* fault->at, fault->cause */ \
+    X(MEMORY, 6, "memory was refused") \
+    X(EMPTY, 7, "a growth has at least one record") \
+    X(OUT_OF_RANGE, 8, "there is no such growth or position, or the vector would pass 2^32 records") \
+    X(TOO_LARGE, 9, "more records than fit one growth, not 1 to 64 seats, or room for more than 536,870,904 growths") \
+    /* 2^20 bytes fit one growth of a vector, or of a file of version 1, and 2^24 one of version 2, with 8 of its own */ \
+    X(FILE_FULL, 10, "the file would pass 2^48 bytes") /* of cvec_image_look: there are more */ \
+    X(NO_ROOM, 11, "the memory that was passed is too small") \
+    X(NO_FRAME, 12, "no whole open frame begins there") \
+    X(NO_RECORD, 13, "bytes are no record of the type (a flag is 0 or 1)") /* of a file: at position fault->at */ \
+    X(EXISTS, 32, "something is there already") \
+    X(IN_USE, 33, "the file is in use") /* in this process too, or locked (flock) otherwise. A lock that readers share is waited for, \
+                                           10 seconds: what is opened has the name then */ \
+    X(BROKEN, 34, "a write or a sync has failed before: open the file again") /* after a sync, restart the system first */ \
+    X(DISK_OPEN, 35, "the file can't be opened") /* from here to DISK_SYNC a call of the system failed, and errno has the reason */ \
+    X(DISK_LENGTH, 36, "the file's length can't be asked") \
+    X(DISK_READ, 37, "the file can't be read") \
+    X(DISK_WRITE, 38, "the file can't be written") \
+    X(DISK_SYNC, 39, "the file can't be synced: restart the system before it is opened again") /* or its folder */ \
+    X(FORKED, 40, "a forked process can only close it") /* the process from which this one was forked has opened it */ \
+    X(NOT_FILE, 41, "a folder, a pipe or a device has this name") /* it wasn't opened */ \
+    X(READ_ONLY, 42, "the file was opened to be read") \
+    X(NOT_SO, 64, "every seat or block is taken, or there is no such block, hold, version or type") \
+    X(AGAIN, 65, "another growth came first") \
+    X(FULL, 66, "it takes no more growths while records are lent: compact it") \
+    X(BUSY, 67, "another thread is inside a call, a seat isn't closed, or the vector is held") \
+    X(LATE, 68, "the time has passed: what was waited for may yet come") \
+    X(UNFOLDED, 69, "a change isn't folded: fold first") \
+    X(UNSETTLED, 70, "a growth isn't committed")
+
+#define CVEC_CODE(NAME, NUMBER, SENTENCE) CVEC_##NAME = NUMBER,
+enum cvec_status { CVEC_STATUSES(CVEC_CODE) };
+#undef CVEC_CODE
+
+/* Why an image is damaged, in the order in which docs/file/format.md looks for it. */
+enum cvec_cause {
+    CVEC_CAUSE_NONE = 0,
+    CVEC_CAUSE_NO_GATE = 1,      /* the image ends where a gate has to stand */
+    CVEC_CAUSE_SHORT_FRAME = 2,  /* the image ends inside a frame */
+    CVEC_CAUSE_KIND = 3,         /* a kind of frame that isn't known: fault->found */
+    CVEC_CAUSE_TOO_LARGE = 4,    /* a payload past the limit */
+    CVEC_CAUSE_LAYOUT = 5,       /* a payload without the form of its kind */
+    CVEC_CAUSE_RUNS = 6,         /* runs of a change that don't ascend, or overlap */
+    CVEC_CAUSE_RANGE = 7,        /* a change outside the vector, or a shrink to more than it has */
+    CVEC_CAUSE_UNFOLDED = 8,     /* a shrink while a change isn't folded */
+    CVEC_CAUSE_FOLD_COUNT = 9,   /* a fold's count that falls, or passes the changes so far */
+    CVEC_CAUSE_TOO_LONG = 10,    /* a group that brings the vector past 2^32 records */
+    CVEC_CAUSE_BAD_RECORD = 11   /* bytes that are no record */
+};
+
+/* The kinds of frames. */
+enum cvec_kind { CVEC_GROUP = 1, CVEC_CHANGE = 2, CVEC_SHRINK = 3, CVEC_FOLD = 4 };
+
+/* Where and why an image has no vector. */
+typedef struct cvec_fault {
+    uint64_t at;    /* the place of a damage, the position of a record that is none, 0 for another fault */
+    uint32_t cause; /* an enum cvec_cause */
+    uint32_t found; /* the version, the width or the kind that was found, else 0 */
+} cvec_fault;
+
+/* What an image with a vector holds. Who keeps it can append without reading the file again. */
+typedef struct cvec_stat {
+    uint64_t size;    /* the records of the vector */
+    uint64_t frames;  /* the frames before the closed gate */
+    uint64_t changes; /* how many of them are changes */
+    uint64_t folded;  /* the count of the last fold: changes below it stand in their home bytes */
+    uint64_t gate;    /* the place of the closed gate */
+    uint16_t width;   /* the bytes of one record */
+    uint8_t version;  /* 1 or 2 */
+} cvec_stat;
+
+/* One frame. Its records stand one behind the other from first_record on, each of them as in the file (little-endian,
+ * with no gaps and no alignment). */
+typedef struct cvec_frame {
+    uint64_t first_record; /* of a frame without records it is next */
+    uint64_t next;         /* the place of the next gate */
+    uint32_t payload_len;  /* bytes */
+    uint32_t growths;      /* of a group; 0 of any other frame */
+    uint32_t records;
+    uint8_t kind; /* an enum cvec_kind */
+} cvec_frame;
+
+/* Consecutive positions of the vector, whose records the file's groups have one behind the other. */
+typedef struct cvec_home {
+    uint64_t position; /* the first */
+    uint64_t place;    /* of its first byte in the file */
+    uint64_t count;    /* how many positions */
+} cvec_home;
+
+/* The record types that are structs. In a file a flagged takes 9 bytes. */
+typedef struct cvec_pair {
+    uint64_t key;
+    int64_t value;
+} cvec_pair;
+
+typedef struct cvec_flagged {
+    uint64_t key;
+    bool flag; /* 0 or 1 */
+} cvec_flagged;
+
+/* Any 16, 24, 32 or 64 bytes, in memory in the order of the file. The library reads them as words, so they are aligned as such. */
+typedef union cvec_bytes16 {
+    uint8_t bytes[16];
+    uint64_t words[2];
+} cvec_bytes16;
+
+typedef union cvec_bytes24 {
+    uint8_t bytes[24];
+    uint64_t words[3];
+} cvec_bytes24;
+
+typedef union cvec_bytes32 {
+    uint8_t bytes[32];
+    uint64_t words[4];
+} cvec_bytes32;
+
+typedef union cvec_bytes64 {
+    uint8_t bytes[64];
+    uint64_t words[8];
+} cvec_bytes64;
+
+/* The types of records: the one table. X(NAME, name as a command has it, what C has, bytes in a file); the number is the line's, from
+ * 0 on. */
+#define CVEC_TYPES(X) \
+    X(U8, u8, uint8_t, 1) \
+    X(U16, u16, uint16_t, 2) \
+    X(U32, u32, uint32_t, 4) \
+    X(U64, u64, uint64_t, 8) \
+    X(I32, i32, int32_t, 4) \
+    X(I64, i64, int64_t, 8) \
+    X(F32, f32, float, 4) \
+    X(F64, f64, double, 8) \
+    X(PAIR, pair, cvec_pair, 16) \
+    X(FLAGGED, flagged, cvec_flagged, 9) \
+    X(BYTES16, bytes16, cvec_bytes16, 16) \
+    X(BYTES24, bytes24, cvec_bytes24, 24) \
+    X(BYTES32, bytes32, cvec_bytes32, 32) \
+    X(BYTES64, bytes64, cvec_bytes64, 64)
+
+#define CVEC_NUMBER(NAME, name, RECORD, WIDTH) CVEC_##NAME,
+typedef enum cvec_type { CVEC_TYPES(CVEC_NUMBER) CVEC_TYPE_COUNT } cvec_type;
+#undef CVEC_NUMBER
+
+/* The place of the first gate behind the header, and the bytes of an empty file. */
+#define CVEC_FIRST_GATE 11
+#define CVEC_EMPTY_LEN 12
+
+/* The bytes that cvec_image_append writes for so many records of this width. */
+#define CVEC_APPEND_LEN(width, records) (15 + (uint64_t)(width) * (records))
+
+/* ---- libcvec_c.a: proved. `type` is a number of enum cvec_type: another one is CVEC_NOT_SO. Records are their bytes as in a file:
+ * one behind the other, the lowest byte first, with no gaps and of any alignment. */
+
+/* Whether these bytes are a file with a vector of this type. CVEC_DONE: *stat says what it holds, and the bytes of its records from
+ * position `from` on stand in front of `out`, of *count records, as many as there are and as fit. Or CVEC_UNBORN to CVEC_DAMAGED, the
+ * first fault in the order of docs/file/format.md, with *fault; or CVEC_MEMORY. It takes memory for all records, and gives it back. */
+uint32_t cvec_image_read(uint32_t type, const uint8_t *image, size_t len, uint64_t from, uint8_t *out, size_t room, uint64_t *count,
+                         cvec_stat *stat, cvec_fault *fault);
+
+/* The same of bytes that were read while another process writes the file: from the first one on, none before one in front of it, up to
+ * where a read finds none; a length that was asked before may cut a frame. Then the records and *stat are the vector of one moment of
+ * the reading, and such a file isn't called damaged, also where changes are folded meanwhile. Of a file at which nobody writes it
+ * answers what cvec_image_read does. Bytes that stop before the file are CVEC_UNBORN, CVEC_NOT_SEGMENT, or CVEC_DAMAGED by
+ * CVEC_CAUSE_NO_GATE or CVEC_CAUSE_SHORT_FRAME: read on. What was seen is on the device once the file is synced behind the last read.
+ * It also answers CVEC_NO_RECORD and CVEC_FILE_FULL, and takes twice as much memory. */
+uint32_t cvec_image_look(uint32_t type, const uint8_t *bytes, size_t len, uint64_t from, uint8_t *out, size_t room, uint64_t *count,
+                         cvec_stat *stat, cvec_fault *fault);
+
+/* Checks an image as cvec_image_read does, and writes the homes of the vector's positions over out[0 .. *count], each position in one,
+ * in order. Where stat->changes <= stat->folded the vector's records are the ones that stand there, so who has mapped the file reads
+ * them with no copy; else some have been changed since, and a read tells which records they are. CVEC_NO_ROOM: there are *count of
+ * them, more than room. */
+uint32_t cvec_image_homes(uint32_t type, const uint8_t *image, size_t len, cvec_home *out, size_t room, uint64_t *count,
+                          cvec_stat *stat, cvec_fault *fault);
+
+/* Writes an empty file of this version over out[0 .. CVEC_EMPTY_LEN], and *stat is what it holds. On disk write all but the first byte
+ * behind a first byte that isn't 1, sync, write the first, sync: whatever a crash leaves is then CVEC_UNBORN or the empty file.
+ * Refused: CVEC_VERSION, CVEC_NO_ROOM. */
+uint32_t cvec_image_empty(uint32_t type, uint8_t version, uint8_t *out, size_t room, cvec_stat *stat);
+
+/* Writes the frame of these records and the next gate over the first CVEC_APPEND_LEN bytes of out, and *next is what the file holds
+ * with them, where *stat is what it holds without. On disk they belong to place stat->gate: write all but the first byte from
+ * stat->gate + 1 on, sync, write the first byte at stat->gate, sync. Whatever a crash leaves is then the vector without these records,
+ * or with all of them. It takes memory for the records and for the frame.
+ * Refused, in this order: CVEC_VERSION, CVEC_WIDTH, CVEC_EMPTY, CVEC_OUT_OF_RANGE, CVEC_TOO_LARGE, CVEC_FILE_FULL and CVEC_NO_ROOM,
+ * which count as many records as are whole; then CVEC_NO_RECORD, for bytes of no whole records and for a flag that isn't 0 or 1, or
+ * CVEC_MEMORY. */
+uint32_t cvec_image_append(uint32_t type, const cvec_stat *stat, const uint8_t *records, size_t len, uint8_t *out, size_t room,
+                           cvec_stat *next);
+
+/* The frame whose gate stands at this place of the bytes of a file of this version and width: CVEC_DONE, and *frame says what it has.
+ * CVEC_NO_FRAME: no whole open frame of a known kind and the right form begins there. The first gate is at CVEC_FIRST_GATE. */
+uint32_t cvec_image_frame(const uint8_t *image, size_t len, uint64_t at, uint8_t version, uint16_t width, cvec_frame *frame);
+
+/* ---- the same of records as C has them, not proved: over libcvec_c.a, and over cvec_file.c where records are passed */
+
+/* `room` and `count` are of records, and *count too. */
+uint32_t cvec_read_records(cvec_type type, const uint8_t *image, size_t len, uint64_t from, void *out, size_t room, uint64_t *count,
+                           cvec_stat *stat, cvec_fault *fault);
+uint32_t cvec_look_records(cvec_type type, const uint8_t *bytes, size_t len, uint64_t from, void *out, size_t room, uint64_t *count,
+                           cvec_stat *stat, cvec_fault *fault);
+uint32_t cvec_append_records(cvec_type type, const cvec_stat *stat, const void *records, size_t count, uint8_t *out, size_t room,
+                             cvec_stat *next);
+
+/* An image is checked by a read of no records. */
+static inline uint32_t cvec_check_image(cvec_type type, const uint8_t *image, size_t len, cvec_stat *stat, cvec_fault *fault) {
+    uint8_t none[1];
+    uint64_t count;
+    return cvec_image_read((uint32_t)type, image, len, 0, none, 0, &count, stat, fault);
+}
+
+static inline uint32_t cvec_frame_at(const uint8_t *image, size_t len, uint64_t at, uint8_t version, uint16_t width, cvec_frame *frame) {
+    return cvec_image_frame(image, len, at, version, width, frame);
+}
+
+/* For each type of the table cvec_check_TYPE, cvec_read_TYPE, cvec_look_TYPE, cvec_homes_TYPE, cvec_empty_TYPE and cvec_append_TYPE.
+ * No function looks at what the bits of a number stand for: any are kept, also those of each NaN. */
+#define CVEC_CALLS(NAME, name, RECORD, WIDTH) \
+    static inline uint32_t cvec_check_##name(const uint8_t *image, size_t len, cvec_stat *stat, cvec_fault *fault) { \
+        return cvec_check_image(CVEC_##NAME, image, len, stat, fault); \
+    } \
+    static inline uint32_t cvec_read_##name(const uint8_t *image, size_t len, uint64_t from, RECORD *out, size_t room, uint64_t *count, \
+                                            cvec_fault *fault) { \
+        cvec_stat stat; \
+        return cvec_read_records(CVEC_##NAME, image, len, from, out, room, count, &stat, fault); \
+    } \
+    static inline uint32_t cvec_look_##name(const uint8_t *bytes, size_t len, uint64_t from, RECORD *out, size_t room, uint64_t *count, \
+                                            cvec_stat *stat, cvec_fault *fault) { \
+        return cvec_look_records(CVEC_##NAME, bytes, len, from, out, room, count, stat, fault); \
+    } \
+    static inline uint32_t cvec_homes_##name(const uint8_t *image, size_t len, cvec_home *out, size_t room, uint64_t *count, \
+                                             cvec_stat *stat, cvec_fault *fault) { \
+        return cvec_image_homes(CVEC_##NAME, image, len, out, room, count, stat, fault); \
+    } \
+    static inline uint32_t cvec_empty_##name(uint8_t version, uint8_t *out, size_t room, cvec_stat *stat) { \
+        return cvec_image_empty(CVEC_##NAME, version, out, room, stat); \
+    } \
+    static inline uint32_t cvec_append_##name(const cvec_stat *stat, const RECORD *records, size_t count, uint8_t *out, size_t room, \
+                                              cvec_stat *next) { \
+        return cvec_append_records(CVEC_##NAME, stat, records, count, out, room, next); \
+    }
+CVEC_TYPES(CVEC_CALLS)
+#undef CVEC_CALLS
+
+/* ---- cvec_file.c, over system.c and types.c beside it: the calls of the system, not proved */
+
+/* A file that is open for reading and appending, by one thread at a time, in the process that opened it: one that is forked
+ * can only close it. Where the one that opened it ends without a close, the file is in use until each of those has closed it, has
+ * ended or runs another program. */
+typedef struct cvec_file {
+    int fd;
+    cvec_type type;
+    bool broken;
+    bool read_only;
+    uint64_t process; /* the one that opened it */
+    cvec_stat stat;   /* of one that is read only: what it held when it was last read */
+    uint8_t *bytes;   /* of the last append, to be used again */
+    size_t room;
+} cvec_file;
+
+/* Makes a file of version 1, and syncs its folder. What is there stays: CVEC_EXISTS; but for what a stopped creation of this
+ * type leaves, at most CVEC_EMPTY_LEN bytes, each 0 or that of the empty file. Where it is refused *file is closed. By this and
+ * the next two, standard streams that are closed get /dev/null, where to read and to print fails as before: else the file might
+ * have their numbers, and get what another thread prints. */
+uint32_t cvec_create(cvec_file *file, const char *path, cvec_type type);
+
+/* Opens a file and checks it: CVEC_DONE, or why not, as cvec_check_TYPE and the system's calls answer. Nothing is
+ * written. It takes memory for the bytes of the file and for its records, and gives it back. Where it is refused *file is
+ * closed. */
+uint32_t cvec_open(cvec_file *file, const char *path, cvec_type type, cvec_fault *fault);
+
+/* Opens a file for reading alone, also while another process writes it, or has it locked: without a lock, and with no leave
+ * to write. It reads and checks it as cvec_read does. Where it is refused *file is closed. */
+uint32_t cvec_open_to_read(cvec_file *file, const char *path, cvec_type type, cvec_fault *fault);
+
+/* Appends the records as one growth: all of them or none. CVEC_DONE: they are durable. A refusal from CVEC_VERSION to
+ * CVEC_NO_RECORD writes nothing. Behind CVEC_DISK_WRITE and CVEC_DISK_SYNC the file is broken: opened again, behind
+ * CVEC_DISK_SYNC after a restart of the system, it has all of them or none. The records are of the file's type. */
+uint32_t cvec_append(cvec_file *file, const void *records, size_t count);
+
+/* Copies records out, as cvec_read_TYPE does. It takes as much memory as cvec_open. Of a file that is open to be read it
+ * answers as cvec_look_TYPE: the vector of one moment of the call, synced before it is answered, and file->stat is what that
+ * holds. Where file->stat.size > from + *count there were more records than room. Behind CVEC_DISK_SYNC that file is broken. */
+uint32_t cvec_read(cvec_file *file, uint64_t from, void *out, size_t room, uint64_t *count, cvec_fault *fault);
+
+/* Closes the file. What was appended stands. A file that is closed may be closed again. */
+void cvec_close(cvec_file *file);
+
+/* A number of the calling process: that of none from which it was forked, though the system may give them one and the same, in
+ * namespaces of their own. For who keeps beside a file or a vector what a forked process has copies of, as locks. */
+uint64_t cvec_process(void);
+
+/* The table of types for other languages: by their numbers, as many as *count. */
+typedef struct cvec_type_of {
+    const char *name; /* as a command has it */
+    uint16_t width;   /* bytes of a record in a file */
+    uint16_t size;    /* in memory: as wide, but of a flagged */
+} cvec_type_of;
+const cvec_type_of *cvec_types(size_t *count);
+
+/* A status in a sentence, whatever the number, for any caller to show; and a cause in words. */
+const char *cvec_status_text(uint32_t status);
+const char *cvec_cause_text(uint32_t cause);
+
+#ifdef __cplusplus
+}
+#endif
+#endif

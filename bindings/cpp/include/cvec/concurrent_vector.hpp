@@ -1,0 +1,370 @@
+// cvec::concurrent_vector<T>: a durable vector that the threads of one process grow, in the manner of oneTBB's, for C++17. This is
+// the header to include; those beside it are parts of it.
+//
+// It stands on cvec_vector.h, which is C, and is not proved; docs/use/cpp.md has its rules. In the file a row, which is one T,
+// is one record: of u32 where T has 4 bytes, of u64 where it has 8, a pair where it has 16, and a flagged where T is
+// cvec_flagged. Any other T is as many records of u64 as it needs, one behind the other; behind T the last of them has zeros.
+#ifndef CVEC_CONCURRENT_VECTOR_HPP
+#define CVEC_CONCURRENT_VECTOR_HPP
+
+#include "error.hpp"
+#include "iterators.hpp"
+#include "options.hpp"
+#include "row.hpp"
+#include "rows.hpp"
+#include "view.hpp"
+#include "word_file.hpp"
+
+#include <algorithm>
+#include <array>
+#include <chrono>
+#include <cstddef>
+#include <cstdint>
+#include <initializer_list>
+#include <iterator>
+#include <memory>
+#include <mutex>
+#include <optional>
+#include <string>
+#include <type_traits>
+#include <utility>
+#include <vector>
+
+namespace cvec {
+
+// Any number of threads may call its const members, and those that grow it, at once. A reference, a pointer, an iterator or rows of
+// it stay good, and show the same, while threads grow it and wait: until one of change, fold, clear, resize to fewer rows, compact,
+// close and the destructor begins. Nobody may use them from then on: what was lent may be gone. While a view lives none begins.
+template <class T, class Layout = one_record> class concurrent_vector {
+    using row = detail::row<T, Layout>;
+
+  public:
+    using value_type = T;
+    using size_type = std::size_t;
+    using difference_type = std::ptrdiff_t;
+    using reference = const T &; // rows are written by growing and by `change` alone
+    using const_reference = const T &;
+    using pointer = const T *;
+    using const_pointer = const T *;
+    using const_iterator = detail::iterator<T, Layout>;
+    using iterator = const_iterator;
+    using const_reverse_iterator = std::reverse_iterator<const_iterator>;
+    using reverse_iterator = const_reverse_iterator;
+    using const_range_type = detail::range<T, Layout>;
+    using range_type = const_range_type;
+
+    // Opens the file, and makes it where there is none; or as wanted.how asks.
+    explicit concurrent_vector(const std::string &path, const options &wanted = {})
+        : file_(std::make_shared<detail::word_file>(path, row::kept::type, row::words, row::bytes, wanted)) {
+        if (file_->size() % row::words != 0) refuse_length();
+    }
+
+    concurrent_vector(concurrent_vector &&) noexcept = default;
+    concurrent_vector &operator=(concurrent_vector &&) noexcept = default;
+
+    // Commits what was grown, and closes the file. After it all calls are refused. The destructor does so too, but can't report
+    // what fails; nor can an assignment, of the file that the vector had. Where a view lives both leave the file to the last one.
+    void close() { file().close(); }
+
+    // -- growing: each call is one growth, whose rows stand in a row, and none of which a crash can take alone
+
+    iterator push_back(const T &value) { return iterator_to(append(value)); }
+
+    template <class... Args> iterator emplace_back(Args &&...args) {
+        return push_back(detail::made_of<T>(std::forward<Args>(args)...));
+    }
+
+    iterator grow_by(size_type count) { return grow_by(count, T()); }
+
+    iterator grow_by(size_type count, const T &value) {
+        row::refuse_too_many(file(), count);
+        return grow_or_end(row::copies_of(value, count));
+    }
+
+    template <class Iterator, class = detail::category_of<Iterator>> iterator grow_by(Iterator first, Iterator last) {
+        return first == last ? end() : iterator_to(row::grow_range(file(), first, last));
+    }
+
+    iterator grow_by(std::initializer_list<T> rows) { return grow_by(rows.begin(), rows.end()); }
+
+    // Grows until there are so many rows. Calls of it take turns; beside other growths there may come to be more. Where a growth
+    // is refused those before it stand, but more than max_size() is refused (CVEC_OUT_OF_RANGE) before the first.
+    iterator grow_to_at_least(size_type count) { return grow_to_at_least(count, T()); }
+
+    iterator grow_to_at_least(size_type count, const T &value) {
+        const std::unique_lock<std::mutex> turn = file().take_turn();
+        if (count > max_size()) file().refuse(CVEC_OUT_OF_RANGE);
+        std::optional<iterator> first;
+        for (size_type length = size(); length < count; length = size()) {
+            const iterator grown = grow_by(std::min(count - length, max_growth()), value);
+            if (!first) first = grown;
+        }
+        return first ? *first : end();
+    }
+
+    // Grows by so many rows, each 0 byte by byte, that fill(rows) writes where they will stand, without a copy. `rows` is a
+    // new_rows<T>. They are in the vector behind it; what it throws leaves none of them. Calls of the vector within it are as any,
+    // but those that want the vector alone: they wait for it, or are CVEC_BUSY in its own thread.
+    template <class Fill> growth grow_with(size_type count, Fill &&fill) {
+        row::refuse_too_many(file(), count);
+        detail::word_file::block made(file(), count * row::words);
+        new_rows<T, Layout> rows(made.words(), count);
+        std::forward<Fill>(fill)(rows);
+        return row::growth_of(made.publish(), count);
+    }
+
+    // -- having the vector alone, also close: each waits until the calls under way have ended, and later ones wait for it. It is
+    // durable when it returns. What was lent before, references and iterators, is lost. While a view lives it is CVEC_BUSY, at once
+    // or behind options::wait_for_views, and nothing is done. After CVEC_MEMORY nothing has changed. After a write or a sync that
+    // failed all calls are refused.
+
+    // Writes rows over those from this position on: behind a crash all of them are there or none. With none it does nothing. A
+    // position past the end is std::out_of_range, and nothing has changed then.
+    void change(size_type first, const T &value) {
+        std::array<typename row::word, row::words> words;
+        row::store(value, words.data());
+        row::change(file(), first, words.data(), 1);
+    }
+
+    template <class Iterator, class = detail::category_of<Iterator>> void change(size_type first, Iterator begin, Iterator end) {
+        row::change_range(file(), first, begin, end);
+    }
+
+    // Neither of the two takes `{}`, which is one value.
+    template <std::size_t N> void change(size_type first, const T (&rows)[N]) { change(first, rows, rows + N); }
+
+    template <class U, class = std::enable_if_t<std::is_same_v<U, T>>>
+    void change(size_type first, std::initializer_list<U> rows) {
+        change(first, rows.begin(), rows.end());
+    }
+
+    // Writes what was changed to its place in the file, which costs a write for each changed record. Without it the file
+    // keeps each change besides.
+    void fold() { file().fold(); }
+
+    // Puts the rows of the growths since the last such call, or one of change and the like, behind one another: they take no more
+    // memory than themselves then, and as many growths as ever may follow.
+    void compact() { file().compact(); }
+
+    void clear() { file().cut(0); }
+
+    // Rows that are missing are grown, as by grow_to_at_least.
+    void resize(size_type count, const T &value = T()) {
+        if (size() < count) {
+            grow_to_at_least(count, value);
+            return;
+        }
+        file().cut(std::uint64_t{count} * row::words);
+    }
+
+    // -- growing with a receipt, by which a growth is awaited
+
+    growth append(const T &value) {
+        std::array<typename row::word, row::words> words;
+        row::store(value, words.data());
+        return row::grow(file(), words.data(), 1);
+    }
+
+    template <class Iterator, class = detail::category_of<Iterator>> growth append(Iterator first, Iterator last) {
+        return row::grow_range(file(), first, last);
+    }
+
+    growth append(std::initializer_list<T> rows) { return append(rows.begin(), rows.end()); }
+
+    // Waits until each growth that has returned before, of whichever thread, is durable.
+    void settle() { file().await_all(); }
+
+    // Waits until this growth, and each before it, is durable.
+    void settle(const growth &made) { file().await(made.number); }
+
+    // The same two, but they wait for others no longer than this: for their commits, for a seat, and while one has the vector
+    // alone. False: the time has passed, and what was grown may yet become durable.
+    template <class Rep, class Period> [[nodiscard]] bool settle_for(const std::chrono::duration<Rep, Period> &longest) {
+        return file().await_all_for(detail::milliseconds_of(longest));
+    }
+
+    template <class Rep, class Period>
+    [[nodiscard]] bool settle_for(const growth &made, const std::chrono::duration<Rep, Period> &longest) {
+        return file().await_for(made.number, detail::milliseconds_of(longest));
+    }
+
+    // For a thread of the caller's: settles, and so again and again, this long (at least a millisecond) behind the last time, until
+    // stop_flusher or close is called. It throws where a commit is refused.
+    template <class Rep, class Period> void run_flusher(const std::chrono::duration<Rep, Period> &every) {
+        file().run_flusher(detail::milliseconds_of(every));
+    }
+
+    // Ends the loops of flushers, each that is begun later too. It doesn't wait for them.
+    void stop_flusher() { file().stop_flusher(); }
+
+    // How many growths are durable: the first ones are. It waits for no commit, but, as each call, for a seat.
+    [[nodiscard]] std::uint64_t settled() const { return file().settled(); }
+
+    [[nodiscard]] bool is_settled(const growth &made) const { return made.number < settled(); }
+
+    // -- reading, what is durable and what isn't yet
+
+    // A position past the end is std::out_of_range. Of a row that another thread has just grown the first look makes a call; of
+    // others none does.
+    [[nodiscard]] reference operator[](size_type position) const {
+        const detail::piece_index &index = file().index();
+        return position < index.size() ? row::at(index.template find<row::bytes>(position))
+                                       : const_iterator::look(file_.get(), position);
+    }
+
+    [[nodiscard]] reference at(size_type position) const { return (*this)[position]; }
+    [[nodiscard]] reference front() const { return (*this)[0]; }
+    [[nodiscard]] reference back() const { return (*this)[size() - 1]; }
+
+    // A copy, also beside change and the like: those wait for this call.
+    [[nodiscard]] T copy(size_type position) const {
+        const std::optional<T> found = row::read(file(), position);
+        if (!found) detail::refuse_position(position);
+        return *found;
+    }
+
+    // Calls use(rows<T>) for the pieces in which the rows from one position to another stand, in order.
+    template <class Use> void for_each_piece(size_type first, size_type last, const Use &use) const {
+        detail::word_file &all = file();
+        if (last > all.index().size()) all.learn();
+        if (last > all.index().size()) detail::refuse_position(last - 1);
+        detail::for_each_piece<T, Layout>(all.index(), first, last, use);
+    }
+    template <class Use> void for_each_piece(const Use &use) const { for_each_piece(0, size(), use); }
+
+    // All rows that there are, which stay where they are as long as it lives.
+    [[nodiscard]] cvec::view<T, Layout> view() const {
+        static_cast<void>(file());
+        return cvec::view<T, Layout>(detail::hold(file_));
+    }
+
+    // The rows from this position on, to the end of the piece in which they stand; none past the end.
+    [[nodiscard]] rows<T, Layout> piece(size_type first) const {
+        detail::word_file &all = file();
+        if (first >= all.index().size()) all.learn();
+        if (first >= all.index().size()) return rows<T, Layout>(nullptr, first, 0);
+        const detail::stretch found = all.index().piece(first);
+        return rows<T, Layout>(found.at, first, found.rows);
+    }
+
+    [[nodiscard]] size_type size() const { return static_cast<size_type>(file().size()) / row::words; }
+    [[nodiscard]] bool empty() const { return size() == 0; }
+    [[nodiscard]] static constexpr size_type max_size() noexcept {
+        return static_cast<size_type>(detail::most_records / row::words);
+    }
+
+    // So many rows one growth may have.
+    [[nodiscard]] static constexpr size_type max_growth() noexcept { return row::most_in_growth; }
+
+    [[nodiscard]] const_iterator begin() const noexcept { return const_iterator(file_.get(), 0); }
+    // What stands before it an iterator finds without a call.
+    [[nodiscard]] const_iterator end() const { return const_iterator(file_.get(), file().learned()); }
+    [[nodiscard]] const_iterator cbegin() const noexcept { return begin(); }
+    [[nodiscard]] const_iterator cend() const { return end(); }
+    [[nodiscard]] const_reverse_iterator rbegin() const { return const_reverse_iterator(end()); }
+    [[nodiscard]] const_reverse_iterator rend() const { return const_reverse_iterator(begin()); }
+    [[nodiscard]] const_reverse_iterator crbegin() const { return rbegin(); }
+    [[nodiscard]] const_reverse_iterator crend() const { return rend(); }
+
+    [[nodiscard]] const_range_type range(size_type grainsize = 1) const {
+        return const_range_type(file_.get(), 0, file().learned(), grainsize);
+    }
+
+    void swap(concurrent_vector &other) noexcept { file_.swap(other.file_); }
+    friend void swap(concurrent_vector &a, concurrent_vector &b) noexcept { a.swap(b); }
+
+  private:
+    template <class, class> friend class appender;
+
+    // One that was moved from has none.
+    detail::word_file &file() const {
+        if (!file_) refuse_moved();
+        return *file_;
+    }
+
+    [[noreturn]] CVEC_APART static void refuse_moved() {
+        throw error(CVEC_NOT_SO, "a vector without a file", "it was moved from", 0);
+    }
+
+    [[noreturn]] void refuse_length() const {
+        file().refuse(CVEC_WIDTH, "its records are no whole rows of " + std::to_string(row::bytes) + " bytes");
+    }
+
+    // No rows are no growth.
+    iterator grow_or_end(const std::vector<typename row::word> &words) {
+        return words.empty() ? end() : iterator_to(row::grow(file(), words));
+    }
+
+    iterator iterator_to(const growth &made) const noexcept { return iterator(file_.get(), made.first); }
+
+    std::shared_ptr<detail::word_file> file_; // with its views
+};
+
+// ---- rows gathered into blocks
+
+// Gathers the rows that one thread pushes, and grows by many at once. Others see them once they are flushed. The destructor
+// flushes too, but can't report what fails: who wants to know calls flush or settle before.
+template <class T, class Layout = one_record> class appender {
+    using row = detail::row<T, Layout>;
+
+  public:
+    using size_type = std::size_t;
+
+    explicit appender(concurrent_vector<T, Layout> &vector, size_type rows = 1024)
+        : file_(std::addressof(vector.file())), rows_(std::clamp<size_type>(rows, 1, row::most_in_growth)) {}
+
+    appender(appender &&other) noexcept
+        : file_(other.file_), rows_(other.rows_), words_(std::move(other.words_)), buffered_(std::exchange(other.buffered_, 0)),
+          last_(other.last_) {}
+    appender &operator=(appender &&) = delete;
+
+    ~appender() {
+        try {
+            flush();
+        } catch (...) {
+        }
+    }
+
+    // Where it throws, this row isn't taken, and those from before are kept.
+    void push_back(const T &value) {
+        if (buffered_ * row::words == words_.size()) make_room();
+        row::store(value, words_.data() + buffered_ * row::words);
+        ++buffered_;
+    }
+
+    template <class... Args> void emplace_back(Args &&...args) { push_back(detail::made_of<T>(std::forward<Args>(args)...)); }
+
+    // Grows by what was gathered, if anything was.
+    std::optional<growth> flush() {
+        if (buffered_ == 0) return std::nullopt;
+        last_ = row::grow(*file_, words_.data(), buffered_);
+        buffered_ = 0;
+        return last_;
+    }
+
+    // Flushes, and waits until all that this appender grew is durable.
+    void settle() {
+        flush();
+        if (last_) file_->await(last_->number);
+    }
+
+    // How many rows are gathered, which are not in the vector yet.
+    [[nodiscard]] size_type buffered() const noexcept { return buffered_; }
+
+  private:
+    // Also one that was moved from has none.
+    void make_room() {
+        if (words_.empty()) words_.resize(rows_ * row::words);
+        flush();
+    }
+
+    detail::word_file *file_;
+    size_type rows_;
+    std::vector<typename row::word> words_; // room for so many rows, or for none yet
+    size_type buffered_ = 0;
+    std::optional<growth> last_;
+};
+
+} // namespace cvec
+
+#endif

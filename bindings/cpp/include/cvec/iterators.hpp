@@ -1,0 +1,166 @@
+// Iterators over the rows of a vector where they stand, and ranges of positions.
+#ifndef CVEC_ITERATORS_HPP
+#define CVEC_ITERATORS_HPP
+
+#include "row.hpp"
+
+#include <algorithm>
+#include <cstddef>
+#include <cstdint>
+#include <iterator>
+#include <memory>
+#include <type_traits>
+
+namespace cvec {
+namespace detail {
+
+// Goes through the rows of a vector where they stand. Within what it knows of them it makes no call and takes no lock, and it
+// goes from piece to piece by itself where these are of one length, and else by the vector's index.
+template <class T, class Layout = one_record> class iterator {
+    using row = detail::row<T, Layout>;
+
+  public:
+    using iterator_category = std::random_access_iterator_tag;
+    using value_type = T;
+    using difference_type = std::ptrdiff_t;
+    using pointer = const T *;
+    using reference = const T &;
+
+    iterator() = default;
+    iterator(word_file *file, std::size_t position) noexcept : file_(file), position_(position) { locate(); }
+
+    // What it didn't know of when it was moved is looked for.
+    [[nodiscard]] reference operator*() const { return CVEC_MOSTLY(at_ != nullptr) ? row::at(at_) : look(file_, position_); }
+    [[nodiscard]] pointer operator->() const { return std::addressof(**this); }
+    [[nodiscard]] reference operator[](difference_type k) const { return *(*this + k); }
+
+    // The position in the vector.
+    [[nodiscard]] std::size_t position() const noexcept { return position_; }
+
+    iterator &operator++() noexcept {
+        ++position_;
+        if (CVEC_MOSTLY(at_ != last_)) {
+            at_ += row::bytes;
+        } else if (position_ < end_) {
+            at_ += row::bytes + gap_;
+            last_ = at_ + (std::min(each_, end_ - position_) - 1) * row::bytes;
+        } else {
+            locate();
+        }
+        return *this;
+    }
+
+    iterator &operator+=(difference_type k) noexcept {
+        position_ += static_cast<std::size_t>(k);
+        if (k >= 0 && static_cast<std::size_t>(k) <= static_cast<std::size_t>(last_ - at_) / row::bytes)
+            at_ += static_cast<std::size_t>(k) * row::bytes;
+        else
+            locate();
+        return *this;
+    }
+    iterator &operator-=(difference_type k) noexcept { return *this += -k; }
+    iterator &operator--() noexcept { return *this += -1; }
+    iterator operator++(int) noexcept {
+        const iterator before = *this;
+        ++*this;
+        return before;
+    }
+    iterator operator--(int) noexcept {
+        const iterator before = *this;
+        --*this;
+        return before;
+    }
+
+    friend iterator operator+(iterator from, difference_type k) noexcept { return from += k; }
+    friend iterator operator+(difference_type k, iterator from) noexcept { return from += k; }
+    friend iterator operator-(iterator from, difference_type k) noexcept { return from -= k; }
+    friend difference_type operator-(const iterator &a, const iterator &b) noexcept {
+        return static_cast<difference_type>(a.position_) - static_cast<difference_type>(b.position_);
+    }
+
+    // Those of two vectors are never equal.
+    friend bool operator==(const iterator &a, const iterator &b) noexcept {
+        return a.position_ == b.position_ && a.file_ == b.file_;
+    }
+    friend bool operator!=(const iterator &a, const iterator &b) noexcept { return !(a == b); }
+    friend bool operator<(const iterator &a, const iterator &b) noexcept { return a.position_ < b.position_; }
+    friend bool operator>(const iterator &a, const iterator &b) noexcept { return a.position_ > b.position_; }
+    friend bool operator<=(const iterator &a, const iterator &b) noexcept { return a.position_ <= b.position_; }
+    friend bool operator>=(const iterator &a, const iterator &b) noexcept { return a.position_ >= b.position_; }
+
+    // The row at a position, which is looked for where the index doesn't cover it yet.
+    CVEC_APART static reference look(word_file *file, std::size_t position) {
+        if (file == nullptr) refuse_position(position);
+        if (position >= file->index().size()) {
+            file->learn();
+            if (position >= file->index().size()) refuse_position(position);
+        }
+        return row::at(file->index().template find<row::bytes>(position));
+    }
+
+  private:
+    template <class, class> friend class range;
+
+    // By a value: an iterator whose address is taken is kept in memory, where a loop would write to it at each step.
+    static stretch stretch_at(const word_file *file, std::size_t position) noexcept {
+        return file != nullptr && position < file->index().size() ? file->index().piece(position) : stretch();
+    }
+
+    void locate() noexcept {
+        const stretch found = stretch_at(file_, position_);
+        at_ = found.at;
+        last_ = found.rows != 0 ? found.at + (found.rows - 1) * row::bytes : nullptr;
+        each_ = found.each;
+        end_ = found.each != 0 ? found.end : 0;
+        gap_ = found.gap;
+    }
+
+    word_file *file_ = nullptr;
+    std::size_t position_ = 0;
+    const unsigned char *at_ = nullptr;   // of its row, where it knows that
+    const unsigned char *last_ = nullptr; // of the last row of its piece
+    std::size_t each_ = 0, end_ = 0;      // those behind it, up to a position: in pieces of so many rows
+    std::uint64_t gap_ = 0;               // from the end of one piece to the next
+};
+
+// Positions from one to another, which can be split in two: what oneTBB calls a Range, without its headers.
+template <class T, class Layout = one_record> class range {
+  public:
+    using const_iterator = detail::iterator<T, Layout>;
+    using iterator = const_iterator;
+    using value_type = T;
+    using reference = const T &;
+    using const_reference = reference;
+    using size_type = std::size_t;
+    using difference_type = std::ptrdiff_t;
+
+    range(word_file *file, size_type first, size_type last, size_type grainsize) noexcept
+        : file_(file), first_(first), last_(last), grainsize_(std::max<size_type>(grainsize, 1)) {}
+
+    range(const const_iterator &first, const const_iterator &last, size_type grainsize = 1) noexcept
+        : range(first.file_, first.position_, last.position_, grainsize) {}
+
+    // Takes the second half of the other one. A tag is oneTBB's split or proportional_split, or any class.
+    template <class Tag, class = std::enable_if_t<std::is_class_v<Tag>>>
+    range(range &other, const Tag &) noexcept : range(other.file_, other.middle(), other.last_, other.grainsize_) {
+        other.last_ = first_;
+    }
+
+    [[nodiscard]] bool empty() const noexcept { return first_ == last_; }
+    [[nodiscard]] size_type size() const noexcept { return last_ - first_; }
+    [[nodiscard]] size_type grainsize() const noexcept { return grainsize_; }
+    [[nodiscard]] bool is_divisible() const noexcept { return size() > grainsize_; }
+    [[nodiscard]] const_iterator begin() const noexcept { return const_iterator(file_, first_); }
+    [[nodiscard]] const_iterator end() const noexcept { return const_iterator(file_, last_); }
+
+  private:
+    [[nodiscard]] size_type middle() const noexcept { return first_ + (last_ - first_) / 2; }
+
+    word_file *file_;
+    size_type first_, last_, grainsize_;
+};
+
+} // namespace detail
+} // namespace cvec
+
+#endif

@@ -1,0 +1,65 @@
+"""The numbers that the bindings for Python and plain Rust have in their sources are those of types.txt and statuses.txt, and the widths
+of Python's types are those of the former: tables.py"""
+import ast
+import os
+import re
+import sys
+
+HERE = os.path.dirname(os.path.abspath(__file__))
+BINDINGS = os.path.join(HERE, "..", "..", "bindings")
+sys.path.insert(0, os.path.join(BINDINGS, "python"))
+import cvec_records
+
+# What a vector never answers.
+OF_FILES = {"DONE", "NO_ROOM", "NO_FRAME", "NO_RECORD", "READ_ONLY", "AGAIN", "UNSETTLED"}
+
+
+def rows_of(name):
+    with open(os.path.join(HERE, name)) as file:
+        return [line.split(" ", 3) for line in file]
+
+
+def text_of(*path):
+    with open(os.path.join(BINDINGS, *path)) as file:
+        return file.read()
+
+
+def assigned(text, inside=None):
+    """The numbers that names get in a module, or in this class of it."""
+    body = ast.parse(text).body
+    if inside is not None:
+        body, = [it.body for it in body if isinstance(it, ast.ClassDef) and it.name == inside]
+    for it in body:
+        if not isinstance(it, ast.Assign):
+            continue
+        names, values = [part.elts if isinstance(part, ast.Tuple) else [part] for part in (it.targets[0], it.value)]
+        if all(isinstance(value, ast.Constant) for value in values):
+            yield from ((name.id, value.value) for name, value in zip(names, values))
+
+
+def upper(name):
+    """NotSegment as NOT_SEGMENT."""
+    return re.sub(r"(?<=[a-z])(?=[A-Z])", "_", name).upper()
+
+
+statuses = {name: int(number) for number, name, *_ in rows_of("statuses.txt")}
+types = {name: tuple(map(int, (number, width, size))) for number, name, width, size in rows_of("types.txt")}
+of_vectors = {name: number for name, number in statuses.items() if name not in OF_FILES}
+
+assert dict(assigned(text_of("python", "cvec_vector.py"), "Status")) == of_vectors
+for name in ("cvec.py", "cvec_vector.py"):
+    own = {it[1:]: number for it, number in assigned(text_of("python", name)) if it[1:] in statuses}
+    assert own and own.items() <= statuses.items(), (name, own)
+assert {it: (form.width, cvec_records.IN_C[it].width) for it, form in cvec_records.IN_FILE.items()} == {it: row[1:] for it, row in types.items()}
+
+vector, file = text_of("rust", "vector", "src", "lib.rs"), text_of("rust", "src", "lib.rs")
+told = re.findall(r"^ +\((\d+), Error::(\w+)\),$", vector, re.M)
+of_system = re.findall(r"^ +(\d+) => Error::(\w+)\(errno\),$", vector, re.M)
+assert of_system == [(number, name) for name, number in re.findall(r"Error::(\w+)\(_\) => Some\((\d+)\),", vector)]
+assert {upper(name).replace("NO_SEAT", "NOT_SO"): int(number) for number, name in told + of_system} == of_vectors
+own = {name: int(number) for name, number in re.findall(r"^const (\w+): u32 = (\d+);$", file, re.M)}
+assert own and own.items() <= statuses.items(), own
+numbers = re.findall(r"^    ([\w<>]+), (\d+);$", file, re.M)
+assert {re.sub("[<>]", "", name).lower(): int(number) for name, number in numbers} == {name: row[0] for name, row in types.items()}
+kept = {name.lower(): int(number) for name, number in re.findall(r"^const (\w+): u32 = (\d+);$", text_of("rust", "vector", "src", "record.rs"), re.M)}
+assert sorted(kept) == ["flagged", "pair", "u32", "u64"] and all(types[name][0] == number for name, number in kept.items()), kept
