@@ -7,16 +7,21 @@
 // block, or there would be more growths than an open vector takes.
 //
 //     grow threads= block= n=                             each thread grows by copies of a ready block of its own
+//     grow-in-place threads= block= n=                    the same, but copies it where it will stand (`grow_with`)
 //     append threads= block= n=                           single records, each through an appender of a block
 //     beside threads= block= preload= n= cap_ms=          threads sum a vector again and again while one more grows it
-//     read block= n= draws=                               a sum by iterators; by `[]` at random, and each where the last one says
+//     beside-pieces, with the same sizes                  the same, where they sum piece by piece and not by iterators
+//     read block= n= draws=                               a sum by iterators, and by pieces; reads at random by `[]`, by a view,
+//                                                         and 32 at once by its `visit`; and each where the last one says
+//     read-mixed growers= block= n= draws=                the same of a vector that so many threads have grown at once
 //     memory block= n=                                    what memory one thread's growths take
 //     durable dir= mode= threads= block= n= box_ms=       wait1, wait64: each waits after 1 or 64 blocks; flow: nobody waits
 //                                                         before the end, and one more thread commits meanwhile
 //     open-build dir= block= n=                           a vector's file is left in the folder
 //     open-read dir= n= work=                             it is opened; work names the figure
 //
-// Each vector has a file: in the folder, or among the temporary files. That what was grown reaches it is timed by `durable`.
+// A figure of one way among several to do a work names it. Each vector has a file: in the folder, or among the temporary files.
+// That what was grown reaches it is timed by `durable`.
 #include "cvec/concurrent_vector.hpp"
 
 #include <algorithm>
@@ -28,12 +33,14 @@
 #include <exception>
 #include <filesystem>
 #include <fstream>
+#include <functional>
 #include <map>
 #include <numeric>
 #include <stdexcept>
 #include <string>
 #include <system_error>
 #include <thread>
+#include <unistd.h>
 #include <utility>
 #include <vector>
 
@@ -44,7 +51,7 @@ using Clock = std::chrono::steady_clock;
 using Vector = cvec::concurrent_vector<u64>;
 
 // An open vector takes so many growths, and is opened again behind them.
-constexpr u64 most_growths = 1048568;
+constexpr u64 most_growths = 536870904;
 
 std::map<std::string, std::string> words;
 
@@ -197,11 +204,23 @@ void tell(const std::string &work, u64 threads, u64 n, double seconds, const std
     figures += "{\"work\":\"" + work + "\"," + times + rest + "}\n";
 }
 
+// One way among several to do the work.
+std::string by(const std::string &way) { return ",\"way\":\"" + way + "\""; }
+
 bool nothing() { return false; }
 
 // ---- growth
 
-void grow() {
+// Grows by a copy of the block.
+using Grow = void (*)(Vector &, const std::vector<u64> &);
+
+void grow_by_copy(Vector &vector, const std::vector<u64> &block) { vector.append(block.begin(), block.end()); }
+
+void grow_in_place(Vector &vector, const std::vector<u64> &block) {
+    vector.grow_with(block.size(), [&](auto &rows) { std::copy(block.begin(), block.end(), rows.begin()); });
+}
+
+void grow(Grow grow_once, const std::string &rest) {
     unsigned threads = unsigned(some("threads"));
     u64 block = some("block"), growths = number("n") / threads / block, sum = 0;
     std::vector<std::vector<u64>> blocks;
@@ -212,10 +231,10 @@ void grow() {
     Made made(threads);
     double seconds = race(threads, [&](unsigned thread) {
         const std::vector<u64> &ready = blocks[thread];
-        for (u64 k = 0; k < growths; k++) made.vector().append(ready.begin(), ready.end());
+        for (u64 k = 0; k < growths; k++) grow_once(made.vector(), ready);
     }, nothing);
     made.compare(growths * block * threads, sum);
-    tell("grow", threads, growths * block * threads, seconds);
+    tell("grow", threads, growths * block * threads, seconds, rest);
 }
 
 void append() {
@@ -237,7 +256,8 @@ void append() {
 // What the threads of `beside` share. The time is over for all of them at once.
 class Course {
   public:
-    Course(Vector &vector, u64 block) : vector_(vector), ready_(block_of(0, block)), block_(block) {
+    Course(Vector &vector, u64 block, bool sums_pieces)
+        : vector_(vector), ready_(block_of(0, block)), block_(block), sums_pieces_(sums_pieces) {
         sum_of_block_ = sum_of(ready_.data(), block);
     }
 
@@ -274,7 +294,11 @@ class Course {
 
     u64 sum_once() const {
         auto end = vector_.end();
-        u64 found = std::accumulate(vector_.begin(), end, u64(0)), length = end.position();
+        u64 found = 0, length = end.position();
+        if (sums_pieces_)
+            vector_.for_each_piece(0, length, [&](const auto &rows) { found += sum_of(rows.data(), rows.size()); });
+        else
+            found = std::accumulate(vector_.begin(), end, u64(0));
         require(length % block_ == 0 && found == length / block_ * sum_of_block_, "a reader hasn't whole growths");
         return length;
     }
@@ -282,25 +306,26 @@ class Course {
     Vector &vector_;
     const std::vector<u64> ready_;
     const u64 block_;
+    const bool sums_pieces_;
     u64 sum_of_block_;
     std::atomic<bool> ended_{false};
 };
 
-void beside() {
+void beside(bool sums_pieces, const std::string &rest) {
     unsigned readers = unsigned(some("threads"));
     u64 block = some("block"), before = number("preload") / block, growths = number("n") / block;
     growths_of((before + growths) * block, block);
     auto most = std::chrono::milliseconds(number("cap_ms"));
     Made made(readers);
-    Course course(made.vector(), block);
+    Course course(made.vector(), block, sums_pieces);
     course.grow(before);
     double seconds = race(readers + 1, [&](unsigned thread) {
         if (thread == 0) course.grow_within(growths, most);
         else course.sum_until_end(most);
     }, nothing);
     course.compare(made);
-    tell("beside.grow", readers, (course.grown - before) * block, course.seconds);
-    tell("beside.sum", readers, course.summed, seconds);
+    tell("beside.grow", readers, (course.grown - before) * block, course.seconds, rest);
+    tell("beside.sum", readers, course.summed, seconds, rest);
 }
 
 // Growths whose record at a place is `mix` of it.
@@ -314,12 +339,40 @@ void fill(Vector &vector, u64 block, u64 n) {
     }
 }
 
-void read_in_order(const Vector &vector, u64 n) {
+// The records of places, whatever the order in which threads grew: each thread's own.
+void fill_by(Vector &vector, unsigned threads, u64 block, u64 n) {
+    race(threads, [&](unsigned thread) {
+        std::vector<u64> records(block);
+        for (u64 k = 0; k < n / threads / block; k++) {
+            for (u64 at = 0; at < block; at++) records[at] = mix(u64(thread) << 40 | (k * block + at));
+            vector.append(records.begin(), records.end());
+        }
+    }, nothing);
+}
+
+// A copy of all records, call by call.
+std::vector<u64> copies_of(const Vector &vector) {
+    std::vector<u64> found(vector.size());
+    for (u64 place = 0; place < found.size(); place++) found[place] = vector.copy(place);
+    return found;
+}
+
+// By iterators; then piece by piece. What is lent is learned of before.
+void read_in_order(const std::string &work, const Vector &vector, u64 n, u64 expected) {
+    auto learning = Clock::now();
+    u64 length = vector.end().position();
+    tell(work + ".learn", 1, n, seconds_since(learning));
     auto begun = Clock::now();
     u64 sum = std::accumulate(vector.begin(), vector.end(), u64(0));
     double seconds = seconds_since(begun);
-    require(sum == sum_of_mixed(n), "wrong records in order");
-    tell("read.seq", 1, n, seconds);
+    require(sum == expected && length == n, "wrong records in order");
+    tell(work + ".seq", 1, n, seconds);
+    begun = Clock::now();
+    sum = 0;
+    vector.for_each_piece([&](const auto &rows) { sum += sum_of(rows.data(), rows.size()); });
+    seconds = seconds_since(begun);
+    require(sum == expected, "wrong records by pieces");
+    tell(work + ".seq", 1, n, seconds, by("pieces"));
 }
 
 // The sum of as many records, each as `get` finds it.
@@ -330,14 +383,43 @@ u64 sum_at_random(u64 first, u64 n, u64 draws, Get get) {
     return sum;
 }
 
-void read_at_random(const Vector &vector, unsigned threads, u64 n, u64 draws) {
+// The same, 32 at once.
+u64 sum_of_visits(u64 first, u64 n, u64 draws, const cvec::view<u64> &view) {
+    u64 places[32], sum = 0;
+    for (u64 k = 0; k < draws; k += 32) {
+        u64 some = std::min<u64>(32, draws - k);
+        for (u64 j = 0; j < some; j++) places[j] = below(mix(first + k + j), n);
+        view.visit(places, some, [&](u64 record) { sum += record; });
+    }
+    return sum;
+}
+
+// By so many threads, each of which sums records from a first draw on. `known` has the record at each place.
+template <class Sum, class Known>
+void read_at_random(const std::string &work, const std::string &rest, unsigned threads, u64 n, u64 draws, Sum sum, Known known) {
     std::vector<u64> sums(threads);
-    double seconds = race(threads, [&](unsigned thread) {
-        sums[thread] = sum_at_random(u64(thread) << 32, n, draws, [&](u64 place) { return vector[place]; });
-    }, nothing);
+    double seconds = race(threads, [&](unsigned thread) { sums[thread] = sum(u64(thread) << 32); }, nothing);
     for (u64 thread = 0; thread < threads; thread++)
-        require(sums[thread] == sum_at_random(thread << 32, n, draws, mix), "wrong records at random");
-    tell("read.random", threads, draws * threads, seconds);
+        require(sums[thread] == sum_at_random(thread << 32, n, draws, known), "wrong records at random");
+    tell(work + ".random", threads, draws * threads, seconds, rest);
+}
+
+// By `[]`, by a view, whose reads aren't checked, and by its `visit`.
+template <class Known>
+void read_at_random_each_way(const std::string &work, const Vector &vector, u64 n, u64 draws, Known known) {
+    const auto view = vector.view();
+    for (unsigned threads : {1, 2, 4})
+        read_at_random(work, "", threads, n, draws, [&](u64 first) {
+            return sum_at_random(first, n, draws, [&](u64 place) { return vector[place]; });
+        }, known);
+    for (unsigned threads : {1, 2, 4})
+        read_at_random(work, by("view"), threads, n, draws, [&](u64 first) {
+            return sum_at_random(first, n, draws, [&](u64 place) { return view[place]; });
+        }, known);
+    for (unsigned threads : {1, 2, 4})
+        read_at_random(work, by("visit"), threads, n, draws, [&](u64 first) {
+            return sum_of_visits(first, n, draws, view);
+        }, known);
 }
 
 template <class Get>
@@ -348,22 +430,38 @@ u64 last_of_row(u64 n, u64 reads, Get get) {
 }
 
 // Each at a place that the record before it gives.
-void read_in_a_row(const Vector &vector, u64 n, u64 reads) {
+template <class Known>
+void read_in_a_row(const std::string &work, const Vector &vector, u64 n, u64 reads, Known known) {
     auto begun = Clock::now();
     u64 last = last_of_row(n, reads, [&](u64 place) { return vector[place]; });
     double seconds = seconds_since(begun);
-    require(last == last_of_row(n, reads, mix), "a wrong record in a row");
-    tell("read.random-dependent", 1, reads, seconds);
+    require(last == last_of_row(n, reads, known), "a wrong record in a row");
+    tell(work + ".random-dependent", 1, reads, seconds);
 }
 
-void read() {
+void read_filled() {
     u64 block = some("block"), n = some("n"), draws = number("draws");
     Made made(4);
     fill(made.vector(), block, n);
-    read_in_order(made.vector(), n);
-    for (unsigned threads : {1, 2, 4}) read_at_random(made.vector(), threads, n, draws);
-    read_in_a_row(made.vector(), n, draws / 4);
+    read_in_order("read", made.vector(), n, sum_of_mixed(n));
+    read_at_random_each_way("read", made.vector(), n, draws, mix);
+    read_in_a_row("read", made.vector(), n, draws / 4, mix);
     made.compare(n, sum_of_mixed(n));
+}
+
+// The vector is grown by so many threads at once, so that pieces of each lie among those of others.
+void read_mixed() {
+    unsigned growers = unsigned(some("growers"));
+    u64 block = some("block"), n = some("n") / growers / block * growers * block, draws = number("draws");
+    Made made(4);
+    fill_by(made.vector(), growers, block, n);
+    const std::vector<u64> records = copies_of(made.vector());
+    auto known = [&](u64 place) { return records[place]; };
+    u64 sum = sum_of(records.data(), records.size());
+    read_in_order("read-mixed", made.vector(), n, sum);
+    read_at_random_each_way("read-mixed", made.vector(), n, draws, known);
+    read_in_a_row("read-mixed", made.vector(), n, draws / 4, known);
+    made.compare(n, sum);
 }
 
 // ---- memory
@@ -497,9 +595,18 @@ void open_read() {
 }  // namespace
 
 int main(int argc, char **argv) {
-    const std::map<std::string, void (*)()> works = {
-        {"grow", grow},     {"append", append},   {"beside", beside},         {"read", read},
-        {"memory", memory}, {"durable", durable}, {"open-build", open_build}, {"open-read", open_read},
+    const std::map<std::string, std::function<void()>> works = {
+        {"grow", [] { grow(grow_by_copy, ""); }},
+        {"grow-in-place", [] { grow(grow_in_place, by("in-place")); }},
+        {"append", append},
+        {"beside", [] { beside(false, ""); }},
+        {"beside-pieces", [] { beside(true, by("pieces")); }},
+        {"read", read_filled},
+        {"read-mixed", read_mixed},
+        {"memory", memory},
+        {"durable", durable},
+        {"open-build", open_build},
+        {"open-read", open_read},
     };
     for (int k = 2; k < argc; k++) {
         std::string given = argv[k];

@@ -114,7 +114,8 @@ inline void work_grow() {
             jobs.push_back(job("mutex+deque", [=] { return grow<Locked<std::deque<u64>>>(threads, block, n); }));
             jobs.push_back(job("limit.cold", [=] { return grow<PlainCopies<false>>(threads, block, n); }));
             jobs.push_back(job("limit.warm", [=] { return grow<PlainCopies<true>>(threads, block, n); }));
-            add_programs(jobs, {"grow", word("threads", u64(threads)), word("block", block), word("n", n)});
+            for (const char* work : {"grow", "grow-in-place"})
+                add_programs(jobs, {work, word("threads", u64(threads)), word("block", block), word("n", n)});
             measure(block, jobs);
         }
     }
@@ -223,8 +224,9 @@ inline void work_beside() {
         jobs.push_back(job("shared_mutex+vector", [=] { return beside<SharedMutexVector>(readers, block, preload, n, most); }));
         jobs.push_back(job("mutex+deque", [=] { return beside<MutexDeque>(readers, block, preload, n, most); }));
         jobs.push_back(job("limit", [=] { return beside<BesidePlain>(readers, block, preload, n, most); }));
-        add_programs(jobs, {"beside", word("threads", u64(readers)), word("block", block), word("preload", preload), word("n", n),
-                            word("cap_ms", most_ms)});
+        for (const char* work : {"beside", "beside-pieces"})
+            add_programs(jobs, {work, word("threads", u64(readers)), word("block", block), word("preload", preload), word("n", n),
+                                word("cap_ms", most_ms)});
         measure(block, jobs);
     }
 }
@@ -232,14 +234,14 @@ inline void work_beside() {
 // ---- read: a sum in order, reads at random, and reads each at a place that the record before it gives
 
 template <class Container>
-Figures read_all(const Container& records, u64 draws) {
+Figures read_all(const string& work, const Container& records, u64 draws) {
     Figures figures;
     u64 n = records.size();
     {
         double start = now();
         u64 total = 0;
         for (auto record = records.begin(), end = records.end(); record != end; ++record) total += *record;
-        figures.push_back({"read.seq", 1, double(n), now() - start, {}});
+        figures.push_back({work + ".seq", 1, double(n), now() - start, {}});
         sink_of_sums = total;
     }
     for (int threads : {1, 2, 4}) {
@@ -248,14 +250,14 @@ Figures read_all(const Container& records, u64 draws) {
             for (u64 k = 0; k < draws; k++) total += records[below(mix(first + k), n)];
             sink_of_sums = total;
         });
-        figures.push_back({"read.random", threads, double(draws) * threads, seconds, {}});
+        figures.push_back({work + ".random", threads, double(draws) * threads, seconds, {}});
     }
     {
         u64 reads = draws / 4;
         double start = now();
         u64 record = 1;
         for (u64 k = 0; k < reads; k++) record = records[below(mix(record ^ k), n)];
-        figures.push_back({"read.random-dependent", 1, double(reads), now() - start, {}});
+        figures.push_back({work + ".random-dependent", 1, double(reads), now() - start, {}});
         sink_of_sums = record;
     }
     return figures;
@@ -273,19 +275,39 @@ template <class Container>
 Figures read_filled(u64 block, u64 n, u64 draws) {
     Container records;
     for (u64 at = 0; at < n; at += block) add_block(records, mixed(at, std::min(block, n - at)));
-    return read_all(records, draws);
+    return read_all("read", records, draws);
+}
+
+// Filled by so many threads at once; a plain array, which has no such growth, by one.
+template <class Container>
+Figures read_mixed(int growers, u64 block, u64 n, u64 draws) {
+    Container records;
+    std::mutex one;
+    race(growers, [&](int thread) {
+        for (u64 at = 0; at + block <= n / u64(growers); at += block) {
+            vector<u64> ready = mixed(u64(thread) << 40 | at, block);
+            std::unique_lock<std::mutex> guard(one, std::defer_lock);
+            if constexpr (!requires { records.grow_by(1); }) guard.lock();
+            add_block(records, ready);
+        }
+    });
+    return read_all("read-mixed", records, draws);
 }
 
 inline void work_read() {
     const u64 n = options.quick ? 2000000 : 10000000, draws = options.quick ? 500000 : 2000000;
-    for (u64 block : {16, 4096}) {
+    for (u64 block : {16, 256, 4096}) {
         if (!wanted(options.blocks, block)) continue;
-        vector<Job> jobs;
+        vector<Job> jobs, mixed_jobs;
         jobs.push_back(job("tbb", [=] { return read_filled<TbbVector>(block, n, draws); }));
         jobs.push_back(job("deque", [=] { return read_filled<std::deque<u64>>(block, n, draws); }));
         jobs.push_back(job("limit.vector", [=] { return read_filled<vector<u64>>(block, n, draws); }));
         add_programs(jobs, {"read", word("block", block), word("n", n), word("draws", draws)});
         measure(block, jobs);
+        mixed_jobs.push_back(job("tbb", [=] { return read_mixed<TbbVector>(4, block, n, draws); }));
+        mixed_jobs.push_back(job("limit.vector", [=] { return read_mixed<vector<u64>>(4, block, n, draws); }));
+        add_programs(mixed_jobs, {"read-mixed", "growers=4", word("block", block), word("n", n), word("draws", draws)});
+        measure(block, mixed_jobs);
     }
 }
 

@@ -41,6 +41,7 @@ struct Figure {
     int threads = 1;
     double records = 0, seconds = 0;
     std::map<string, double> more;
+    string way = {}; // of a peer that does the work in several
 
     double rate() const { return records / seconds; }
 };
@@ -64,7 +65,7 @@ inline string json_of(const Figure& figure) {
     return json + "}";
 }
 
-// Reads a flat object of numbers, and of strings without escapes. Of the strings only the work is taken.
+// Reads a flat object of numbers, and of strings without escapes. Of the strings only the work and its way are taken.
 inline bool read_json(const string& json, Figure& figure) {
     bool has_work = false;
     for (size_t place = 0; place < json.size();) {
@@ -79,7 +80,9 @@ inline bool read_json(const string& json, Figure& figure) {
         if (value < json.size() && json[value] == '"') {
             size_t end = json.find('"', value + 1);
             if (end == string::npos) break;
-            if (name == "work") figure.work = json.substr(value + 1, end - value - 1), has_work = true;
+            string text = json.substr(value + 1, end - value - 1);
+            if (name == "work") figure.work = text, has_work = true;
+            if (name == "way") figure.way = text;
             place = end + 1;
         } else {
             double number = strtod(json.c_str() + value, nullptr);
@@ -220,6 +223,9 @@ inline std::pair<Figures, bool> repeat(const Job& job) {
     return {figures, WIFEXITED(status) && WEXITSTATUS(status) == 0};
 }
 
+// A peer that does a work in several ways has a name for each, behind its own.
+inline string name_of(const Job& job, const Figure& figure) { return figure.way.empty() ? job.peer : job.peer + "." + figure.way; }
+
 // All repetitions of one figure.
 struct Repeated {
     string peer, work;
@@ -259,15 +265,14 @@ inline void measure(u64 block, vector<Job> jobs, int times = 1) {
             if (!ended_well) failed.push_back(job.peer);
             for (auto& figure : figures) {
                 auto found = std::find_if(all.begin(), all.end(), [&](const Repeated& known) {
-                    return known.peer == job.peer && known.work == figure.work && known.threads == figure.threads;
+                    return known.peer == name_of(job, figure) && known.work == figure.work && known.threads == figure.threads;
                 });
-                if (found == all.end()) all.push_back({job.peer, figure.work, figure.threads, {figure}});
+                if (found == all.end()) all.push_back({name_of(job, figure), figure.work, figure.threads, {figure}});
                 else found->figures.push_back(figure);
             }
         }
-    for (auto& job : jobs)
-        for (auto& repeated : all)
-            if (repeated.peer == job.peer) print_best(repeated, block);
+    // In the order of the jobs, which is that of the first repetition.
+    for (auto& repeated : all) print_best(repeated, block);
     for (auto& peer : failed) printf("{\"peer\":\"%s\",\"failed\":1,\"block\":%lu}\n", peer.c_str(), block);
     fflush(stdout);
 }
