@@ -69,7 +69,7 @@ prove_all() {
     tell_minutes
     if [ "$failed" -eq 0 ]; then
         find "$c_library" "$threads_library" ! -newer "$began" -delete 2>/dev/null
-        "$top/tests/c_library" "$began" || :
+        "$top/tools/archives" "$began" || :
     fi
     rm -f "$began"
 }

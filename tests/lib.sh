@@ -59,6 +59,12 @@ ends_with_usage() {
     [ "$(wc -l <"$err")" -lt 8 ]
 }
 
+# Who reads standard output has gone, of which nothing is told.
+ends_with_a_closed_pipe() {
+    [ "$status" -eq 1 ]
+    [ ! -s "$err" ]
+}
+
 # Standard output can't be written, for this reason.
 ends_with_a_failed_write() {
     [ "$status" -eq 1 ]
@@ -214,15 +220,26 @@ build_older() { "$top/tools/current" "$1" || "$top/build" "$1" </dev/null >&2; }
 # ---- the library for C, and its callers, built as docs/use/c.md says
 
 c=$top/examples/c
+c_headers=$top/bindings/c/include
+c_sources=$top/bindings/c/src
 c_library=$top/crates/cvec_c/out/libcvec_c.a
 
 has_c() { has cc 'the library for C' && has rt 'the library for C'; }
+
+# Compiles the file of this name of bindings/c, with what each of them takes, to one object in this folder. Further words go to the
+# compiler.
+compile_c() {
+    name=$1 folder=$2
+    shift 2
+    cc -std=c99 -O2 -fPIC -Wall -Wextra -Werror -pedantic "$@" "-I$c_headers" -r -o "$folder/$name.o" "$c_sources/$name.c" \
+        "$c_sources/system.c" "$c_sources/types.c"
+}
 
 # The library is built, and the file's calls are compiled.
 make_c_library() {
     build_older cvec_c
     kit_library=$(dirname "$(rt doc)")/c/liblibc_c.a
-    cc -std=c99 -O2 -fPIC -Wall -Wextra -Werror -pedantic -c "$c/cvec_file.c" -o "$work/cvec_file.o"
+    compile_c cvec_file "$work"
 }
 
 # What stands in this file, as the program takes it.
@@ -259,12 +276,15 @@ await() {
 
 threads_library=$top/crates/cvec_threads/out/libcvec_threads.a
 
-# Compiles this program of the folder over the library, with these words to the compiler.
-compile_threads() {
+# Compiles this program over the library, with these words to the compiler.
+compile_over_library() {
     program_file=$1
     shift
-    cc -std=c99 -O2 -Wall -Wextra -Werror -pedantic "-I$c" "$@" "$program_file" "$threads_library" "$kit_library" -lpthread -lm
+    cc -std=c99 -O2 -Wall -Wextra -Werror -pedantic "-I$c_headers" "$@" "$program_file" "$threads_library" "$kit_library" -lpthread -lm
 }
+
+# The same over the files of C between them.
+compile_threads() { compile_over_library "$@" "$c_sources/cvec_vector.c" "$c_sources/system.c" "$c_sources/types.c"; }
 
 make_threads_library() {
     build_older cvec_threads

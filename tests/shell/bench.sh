@@ -78,6 +78,10 @@ scripts_in_python_refuse_wrong_words() (
     refuses follow
     refuses follow "$work" 0
     refuses follow "$work" 1 1 1
+    refuses many
+    refuses many "$work" 3
+    refuses many "$work" 4 0
+    refuses many "$work" 4 15 1
     refuses tokens
     for wrong in "$work/none" "$work 0" "$work one" "$work 1 1999" "$work 1 2000 1"; do
         # shellcheck disable=SC2086 # each word is one
@@ -104,6 +108,18 @@ a_run_measures_own_figures_among_the_peers() (
         grep -qxF '| 256 | tbb.grow_by(range) | 1.5 (1.3) **2.00** |' "$work/run/table.md"
         grep -qxF '| 256 | own | 3 (1.2) |' "$work/run/table.md"
     fi
+)
+
+a_table_has_ratios_to_a_peer() (
+    has python3 'tables of a run' || exit "$is_skipped"
+    seeming_repository
+    run_script table "$work/figures" --base=own --work=grow
+    [ "$status" -eq 0 ]
+    grep -qxF '| 256 | tbb.grow_by(range) | 1.5 (1.3) **2.00** |' "$out"
+    grep -qxF '| 256 | own | 3 (1.2) |' "$out"
+    run_script table "$work/figures" --of=own --work=grow
+    grep -qxF '| 256 | tbb.grow_by(range) | 1.5 (1.3) **0.50** |' "$out"
+    grep -qxF '| 256 | own | 3 (1.2) |' "$out"
 )
 
 a_run_whose_peers_fail_has_no_tables() (
@@ -141,6 +157,22 @@ a_run_is_drawn() (
     run_script plot "$work/figures"
     answers 0 ''
     cmp "$work/plots/growth.svg" "$there/docs/plots/growth.svg"
+)
+
+# A line for each way of reading.
+ways_of_reading_are_drawn() (
+    has python3 'plots of a run' || exit "$is_skipped"
+    seeming_repository
+    for peer in tbb own own.view own.visit own.pieces; do
+        for threads in 1 4; do
+            printf '{"peer":"%s","work":"%s","threads":%d,"block":16,"per_second":%de6}\n' \
+                "$peer" read.random "$threads" "$threads" "$peer" beside.sum "$threads" "$threads" "$peer" read.seq "$threads" "$threads"
+        done
+    done >"$work/ways"
+    run_script plot "$work/ways" "$work/plots"
+    answers 0 ''
+    [ "$(cd "$work/plots" && echo *)" = reads.svg ]
+    [ "$(points_over "$work/plots/reads.svg" 4 | head -n 1)" = 'cvec cvec, by a view cvec, 32 at once oneTBB cvec, by pieces' ]
 )
 
 # ---- the job over tokens, by the program itself

@@ -29,7 +29,7 @@ make_caller() {
 }
 
 make_c() {
-    [ -e "$built/c" ] || cc -std=c99 -O2 -Wall -Wextra -Werror "-I$c" -o "$built/c" "$bindings/driver.c" \
+    [ -e "$built/c" ] || cc -std=c99 -O2 -Wall -Wextra -Werror "-I$c_headers" -o "$built/c" "$bindings/driver.c" \
         "$built/cvec_file.o" "$c_library" "$kit_library"
 }
 
@@ -40,8 +40,9 @@ make_python() {
 
 make_client() {
     mkdir -p "$built"
-    [ -e "$built/client_c" ] || cc -std=c99 -O2 -Wall -Wextra -Werror "-I$c" -o "$built/client_c" "$bindings/client.c" \
-        "$c/cvec_client.c"
+    [ -e "$built/cvec_client.o" ] || compile_c cvec_client "$built"
+    [ -e "$built/client_c" ] || cc -std=c99 -O2 -Wall -Wextra -Werror "-I$c_headers" -o "$built/client_c" "$bindings/client.c" \
+        "$built/cvec_client.o"
 }
 
 # What tables and clients start: the program, and two programs in Python.
@@ -127,6 +128,17 @@ follows() {
 }
 
 # ---- tests
+
+# The tables of the header, written out by hand, and the numbers that callers have of them.
+each_type_and_each_status_has_one_number() (
+    for tool in cc python3; do has $tool 'the tables of the header' || exit $is_skipped; done
+    cc -std=c99 -Wall -Wextra -Werror -pedantic "-I$c_headers" -o "$work/tables" "$bindings/tables.c" "$c_sources/types.c"
+    for name in types statuses; do
+        "$work/tables" $name >"$out"
+        diff "$bindings/$name.txt" "$out"
+    done
+    PYTHONDONTWRITEBYTECODE=1 python3 "$bindings/tables.py"
+)
 
 answers_are_right() {
     has_caller "$1" || exit $is_skipped
@@ -392,7 +404,7 @@ has_first() { has_records 0 $(($1 - 1)); }
 make_terminal() {
     make_client
     make_programs
-    cc -std=c99 -O2 -Wall -Wextra -Werror "-I$c" -o "$built/waits" "$bindings/waits.c" "$c/cvec_client.c"
+    cc -std=c99 -O2 -Wall -Wextra -Werror "-I$c_headers" -o "$built/waits" "$bindings/waits.c" "$built/cvec_client.o"
 }
 
 # Ctrl-C reaches the client alone: its growths are settled while it waits for that, or leaves.
@@ -430,7 +442,7 @@ a_client_that_is_killed_ends_its_server() (
 
 a_client_in_c_is_beside_the_standard_streams() (
     has_tables || exit $is_skipped
-    cc -std=c99 -O2 -Wall -Wextra -Werror "-I$c" -o "$work/closed" "$bindings/closed.c"
+    cc -std=c99 -O2 -Wall -Wextra -Werror "-I$c_headers" "-I$c_sources" -o "$work/closed" "$bindings/closed.c"
     run create u64 "$work/t.cv"
     status=0
     timeout 20 "$work/closed" "$top/cvec" "$work/t.cv" || status=$?

@@ -427,32 +427,37 @@ the_gate_proves_as_the_toolchain_does() (
     tells 'usage: tools/prove [--gate]'
 )
 
+# A repository of one crate that no run has proved before, since what was proved is kept: $small, which crates.txt names so.
+a_small_crate() {
+    there=$work/small
+    small=small$(date +%s%N)
+    mkdir -p "$there/.git" "$there/crates/$small/src"
+    echo "$small$1:" >"$there/crates.txt"
+    printf '#![tactic(auto)]\n\n%b' "$2" >"$there/crates/$small/src/lib.rt"
+}
+
+# The toolchain proves it, by tools/prove with these words; what it said is shown where it doesn't.
+the_small_crate_is_proved() {
+    (cd "$there" && RT_JOBS=1 "$top/tools/prove" "$@" >"$out" 2>"$err") && grep -qx "rt: $small proved" "$out" &&
+        [ "$(tail -n 1 "$out")" = '1 passed, 0 failed' ] || { cat "$out" "$err" && return 1; }
+}
+
 # The toolchain at hand proves a crate of one function so, and keeps it apart.
 the_toolchain_at_hand_is_run() (
     has rt 'a proof by tools/prove' || exit "$is_skipped"
-    there=$work/small
-    mkdir -p "$there/.git" "$there/crates/small$$/src"
-    echo "small$$:" >"$there/crates.txt"
-    printf '#![tactic(auto)]\n\npub fn one() -> u8 {\n    1\n}\n' >"$there/crates/small$$/src/lib.rt"
-    (cd "$there" && RT_JOBS=1 "$top/tools/prove" >"$out" 2>"$err")
-    grep -qx "rt: small$$ proved" "$out"
-    if grep -q '^empty contracts' "$out"; then return 1; fi
-    [ "$(tail -n 1 "$out")" = '1 passed, 0 failed' ]
+    a_small_crate '' 'pub fn one() -> u8 {\n    1\n}\n'
+    the_small_crate_is_proved
+    if grep '^empty contracts' "$out"; then return 1; fi
 )
 
 # With it the proof of a static library leaves its archive, also in the gate, which looks for all.
 the_toolchain_at_hand_archives_what_it_proves() (
     has rt 'a proof by tools/prove' || exit "$is_skipped"
-    there=$work/small
-    mkdir -p "$there/.git" "$there/crates/small$$/src"
-    echo "small$$ staticlib:" >"$there/crates.txt"
-    printf '#![tactic(auto)]\n\n#[unsafe(no_mangle)]\npub extern "C" fn small_one() -> u8 {\n    1\n}\n' \
-        >"$there/crates/small$$/src/lib.rt"
+    a_small_crate ' staticlib' '#[unsafe(no_mangle)]\npub extern "C" fn small_one() -> u8 {\n    1\n}\n'
     for words in '' --gate; do
-        (cd "$there" && RT_JOBS=1 "$top/tools/prove" $words >"$out" 2>"$err")
-        grep -qx "rt: small$$ proved" "$out"
-        grep -q small_one "$there/crates/small$$/out/libsmall$$.a"
-        rm "$there/crates/small$$/out/libsmall$$.a"
+        the_small_crate_is_proved $words
+        grep -q small_one "$there/crates/$small/out/lib$small.a"
+        rm "$there/crates/$small/out/lib$small.a"
     done
     grep -q '^empty contracts' "$out"
 )
@@ -490,8 +495,8 @@ a_static_library_is_built_over_what_is_proved() (
 # What `rt ci` leaves of a library, and an `rt lib` that makes an archive of its note and this file.
 seeming_libraries() {
     seeming_repository
-    mkdir -p "$there/tests" "$there/crates/low/src" "$there/crates/low/out/rlib/low.rlib"
-    cp "$top/tests/c_library" "$there/tests"
+    mkdir -p "$there/crates/low/src" "$there/crates/low/out/rlib/low.rlib"
+    cp "$top/tools/archives" "$there/tools"
     printf 'low: clap\ncvec_c staticlib: low\ncvec_threads staticlib: low\n' >"$there/crates.txt"
     for name in cvec_c cvec_threads; do mkdir -p "$there/crates/$name/src"; done
     touch -d '1 hour ago' "$there/crates/low/src/lib.rt"
@@ -503,7 +508,7 @@ seeming_libraries() {
 
 makes_libraries() {
     status=0
-    PATH=$there/bin:/usr/bin:/bin "$there/tests/c_library" "$@" 2>"$err" || status=$?
+    PATH=$there/bin:/usr/bin:/bin "$there/tools/archives" "$@" 2>"$err" || status=$?
 }
 
 the_libraries_for_c_are_made_of_what_was_proved() (

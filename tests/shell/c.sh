@@ -2,22 +2,22 @@
 
 # ---- the library for C, and its callers, built as docs/use/c.md says
 
-# Compiles this example in C. A further word is what it is linked with beside the libraries.
+# Compiles this example in C.
 compile() {
-    cc -std=c99 -O2 -Wall -Wextra -Werror -pedantic "-I$c" -o "$work/$1" "$c/$1.c" ${2+"$2"} "$c_library" "$kit_library"
+    cc -std=c99 -O2 -Wall -Wextra -Werror -pedantic "-I$c_headers" -o "$work/$1" "$c/$1.c" "$work/cvec_file.o" "$c_library" "$kit_library"
 }
 
 a_c_program_appends_and_reads() (
     has_c || exit $is_skipped
     make_c_library
-    compile use "$work/cvec_file.o"
+    compile use
     "$work/use" "$work/file" >"$out"
     [ "$(tr '\n' ' ' <"$out")" = '5 7 11 13 ' ]
     is_shown_as_written u64 "$work/file"
     status=0
     "$work/use" "$work/file" >"$out" 2>"$err" || status=$?
     [ "$status" -eq 1 ]
-    tells 'create: exists'
+    tells 'create: something is there already'
 )
 
 # The function that reads beside another process is compiled with it.
@@ -25,7 +25,7 @@ the_c_program_that_is_shown_appends_and_reads() (
     has_c || exit $is_skipped
     make_c_library
     shown_in use/c.md c >"$work/shown.c"
-    cc -std=c99 -O2 -Wall -Wextra -Werror -pedantic "-I$c" -o "$work/shown" "$work/shown.c" "$work/cvec_file.o" \
+    cc -std=c99 -O2 -Wall -Wextra -Werror -pedantic "-I$c_headers" -o "$work/shown" "$work/shown.c" "$work/cvec_file.o" \
         "$c_library" "$kit_library"
     "$work/shown" "$work/file" >"$out"
     [ "$(tr '\n' ' ' <"$out")" = '5 7 11 ' ]
@@ -35,7 +35,7 @@ the_c_program_that_is_shown_appends_and_reads() (
 a_c_program_has_records_of_each_type() (
     has_c || exit $is_skipped
     make_c_library
-    compile types "$work/cvec_file.o"
+    compile types
     for type in u8 u16 u32 u64 i32 i64 pair flagged bytes16 bytes24 bytes32 bytes64; do
         "$work/types" $type "$work/file.$type" >"$out"
         [ "$(wc -l <"$out")" -eq 2 ]
@@ -53,15 +53,15 @@ has_two() {
     "$work/check" "$1" "$work/file.$1" >"$out"
     [ "$(cat "$out")" = "version 1 width $2 size 2 frames 1 changes 0 folded 0 gate $((17 + payload))" ]
     if "$work/check" flagged "$work/file.$1" >"$out"; then exit 1; fi
-    [ "$(cat "$out")" = "refused: width $2" ]
+    [ "$(cat "$out")" = "refused: the records have another width: $2" ]
 }
 
 # The bytes of a record are in C in the order of the file.
 a_c_program_has_records_of_bytes() (
     has_c || exit $is_skipped
     make_c_library
-    compile types "$work/cvec_file.o"
-    compile check "$work/cvec_file.o"
+    compile types
+    compile check
     for width in 16 24 32 64; do
         zeros=$(printf "%0$((2 * width - 4))d" 0)
         has_two bytes$width $width "0102$zeros\n${zeros}feff\n" "0102$zeros${zeros}feff"
@@ -72,8 +72,8 @@ a_c_program_has_records_of_bytes() (
 a_c_program_has_numbers_of_each_width() (
     has_c || exit $is_skipped
     make_c_library
-    compile types "$work/cvec_file.o"
-    compile check "$work/cvec_file.o"
+    compile types
+    compile check
     has_two u8 1 '1\n255\n' 01ff
     has_two u16 2 '258\n65535\n' 0201ffff
     has_two i32 4 '-2\n-2147483648\n' feffffff00000080
@@ -130,17 +130,24 @@ int main(int argc, char **argv) {
     }
 }
 MEMORY
-    cc -std=c99 -O2 -Wall -Wextra -Werror -pedantic "-I$c" -o "$work/memory" "$work/memory.c" "$work/cvec_file.o" \
+    cc -std=c99 -O2 -Wall -Wextra -Werror -pedantic "-I$c_headers" -o "$work/memory" "$work/memory.c" "$work/cvec_file.o" \
         "$c_library" "$kit_library"
     "$work/memory" "$work/file"
 )
+
+# The sentence of C for this line of the program, which has names.
+in_sentences() {
+    sed -e 's/^refused: unborn$/refused: no vector was begun in the file/' -e 's/^refused: not a segment$/refused: it is no segment file/' \
+        -e "s/^refused: version /refused: the file's version isn't known: /" -e 's/^refused: width /refused: the records have another width: /' \
+        -e 's/^refused: damaged at /refused: a frame of the file is damaged at /' "$1"
+}
 
 # Each front of a file, and a file with another byte at each place.
 a_file_is_refused_in_c_as_by_the_program() (
     has_c || exit $is_skipped
     make_c_library
-    compile use "$work/cvec_file.o"
-    compile check "$work/cvec_file.o"
+    compile use
+    compile check
     "$work/use" "$work/file" >/dev/null
     for k in $(seq 0 71); do
         head -c "$k" "$work/file" >"$work/front"
@@ -148,7 +155,7 @@ a_file_is_refused_in_c_as_by_the_program() (
         for image in front other; do
             hex_of "$work/$image" >"$in"
             run show u64
-            [ "$status" -eq 0 ] || cp "$out" "$work/refusal"
+            [ "$status" -eq 0 ] || in_sentences "$out" >"$work/refusal"
             checked=0
             "$work/check" u64 "$work/$image" >"$work/told_by_c" || checked=$?
             [ "$checked" -eq "$status" ]
@@ -167,7 +174,8 @@ a_file_is_refused_in_c_as_by_the_program() (
 a_call_that_fails_in_c_loses_nothing() (
     has_c || exit $is_skipped
     make_c_library
-    compile faults -lpthread
+    cc -std=c99 -O2 -Wall -Wextra -Werror -pedantic "-I$c_headers" "-I$c_sources" -o "$work/faults" "$top/tests/bindings/file_faults.c" \
+        "$c_library" "$kit_library" -lpthread
     "$work/faults" "$work/file" >"$out" || { cat "$out" && exit 1; }
     cat "$out"
     [ "$(tail -n 1 "$out")" = 'each of 16 calls failed once' ]
@@ -178,24 +186,24 @@ a_call_that_fails_in_c_loses_nothing() (
 a_file_is_open_in_one_process() (
     has_c || exit $is_skipped
     make_c_library
-    compile use "$work/cvec_file.o"
+    compile use
     status=0
     flock "$work/file" timeout 5 "$work/use" "$work/file" >"$out" 2>"$err" || status=$?
     [ "$status" -eq 1 ]
-    tells 'create: in use'
+    tells 'create: the file is in use'
 )
 
 a_wait_of_the_library_for_c_is_as_long_as_it_says() (
     has_c && has_calls && has flock 'a file that a reader has' || exit $is_skipped
     make_c_library
-    compile use "$work/cvec_file.o"
+    compile use
     waits_for_readers_by_the_clock "$work/use" "$work/held.cv"
-    tells 'create: in use'
+    tells 'create: the file is in use'
 )
 
 make_looks() {
     make_c_library
-    cc -std=c99 -O2 -Wall -Wextra -Werror "-I$c" -o "$work/looks" "$top/tests/bindings/looks.c" "$work/cvec_file.o" \
+    cc -std=c99 -O2 -Wall -Wextra -Werror "-I$c_headers" -o "$work/looks" "$top/tests/bindings/looks.c" "$work/cvec_file.o" \
         "$c_library" "$kit_library"
 }
 
@@ -250,10 +258,21 @@ a_c_program_reads_a_file_system_that_is_read_only() (
     done
 )
 
+# In memory alone, and what is refused by a type's number, or of bytes that are no records. A read or a write past what is lent ends it.
+a_c_program_has_images_of_each_type() (
+    has_c && has_sanitizer address || exit $is_skipped
+    make_c_library
+    cc -std=c99 -g -O1 -Wall -Wextra -Werror -pedantic -fsanitize=address,undefined -fno-sanitize-recover=all "-I$c_headers" \
+        -o "$work/images" "$top/tests/bindings/images.c" "$c_sources/cvec_file.c" "$c_sources/system.c" "$c_sources/types.c" \
+        "$c_library" "$kit_library"
+    "$work/images" "$work/none" >"$out" || { cat "$out" && exit 1; }
+    [ "$(cat "$out")" = '399 checks, 0 wrong' ]
+)
+
 the_header_is_cpp_too() (
     has c++ 'the header in C++' || exit $is_skipped
     printf '#include "cvec.h"\nint main() { return cvec_frame_at(nullptr, 0, 0, 1, 8, nullptr) ? 0 : 1; }\n' >"$work/use.cc"
-    c++ -Wall -Wextra -Werror "-I$c" -fsyntax-only "$work/use.cc"
+    c++ -Wall -Wextra -Werror "-I$c_headers" -fsyntax-only "$work/use.cc"
 )
 
 # By what the header says. C++ takes no pointer to a record of another type.
@@ -268,5 +287,5 @@ the_header_has_numbers_of_each_type() (
             echo "uint32_t (*append_$type)(const cvec_stat *, const $record *, size_t, uint8_t *, size_t, cvec_stat *) = cvec_append_$type;"
         done
     } >"$work/use.cc"
-    c++ -Wall -Wextra -Werror "-I$c" -fsyntax-only "$work/use.cc"
+    c++ -Wall -Wextra -Werror "-I$c_headers" -fsyntax-only "$work/use.cc"
 )

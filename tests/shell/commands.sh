@@ -140,8 +140,54 @@ a_file_is_upgraded() (
     # A file of few bytes, which aren't those of a creation that was stopped, is not written over.
     printf 'secret=abc1\n' >"$work/s.cv"
     run upgrade u64 "$work/t.cv" "$work/s.cv"
-    was_refused 'new exists' 'a vector or other bytes; it is as it was; remove it, or name another file'
+    was_refused 'new exists' 'a vector or other bytes; it is as it was; name another new file'
     printf 'secret=abc1\n' | cmp - "$work/s.cv"
+)
+
+# It is refused so, and NEW, if it is there, is as it was.
+refuses_the_old_file() {
+    name=$1 sentence=$2 before=
+    shift 2
+    for word; do new=$word; done
+    [ ! -f "$new" ] || before=$(cksum <"$new")
+    run "$@"
+    was_refused "$name" "$sentence"
+    if [ -n "$before" ]; then [ "$(cksum <"$new")" = "$before" ]; else [ ! -e "$new" ]; fi
+}
+
+# Whatever NEW is: FILE is read and found old before anything is asked of NEW, and nothing was made there.
+what_is_wrong_with_the_old_file_is_told_first() (
+    a_changed_file
+    run create u64 "$work/two.cv" --format=2
+    run create u64 "$work/vector.cv"
+    printf 'secret=abc1\n' >"$work/bytes.cv"
+    : >"$work/empty.cv"
+    head -c 30 "$work/t.cv" >"$work/cut.cv"
+    run create u64 "$work/taken.cv"
+    exec 9<"$work/taken.cv"
+    flock --exclusive 9
+    for new in vector bytes empty taken none folder/none; do
+        n=$work/$new.cv
+        for command in copy upgrade; do
+            refuses_the_old_file 'old width 8' 'those of u32 have 4' $command u32 "$work/t.cv" "$n"
+            refuses_the_old_file 'old damaged at 11: short frame' 'the 0 records before that are sound' $command u64 "$work/cut.cv" "$n"
+            refuses_the_old_file 'old unborn' 'no vector was made' $command u64 "$work/bytes.cv" "$n"
+            refuses_the_old_file file "$work/no.cv: there is no such file" $command u64 "$work/no.cv" "$n"
+        done
+        refuses_the_old_file 'not version 1' 'version 2 already' upgrade u64 "$work/two.cv" "$n"
+    done
+    for n in two t; do
+        refuses_the_old_file 'old width 8' 'those of u32 have 4' upgrade u32 "$work/$n.cv" "$work/$n.cv"
+    done
+    refuses_the_old_file 'not version 1' 'version 2 already' upgrade u64 "$work/two.cv" "$work/two.cv"
+    # Of a sound old file what is wrong with NEW is told.
+    refuses_the_old_file file "$work/taken.cv: another command uses it" upgrade u64 "$work/t.cv" "$work/taken.cv"
+    refuses_the_old_file file "$work/folder/none.cv: there is no folder" upgrade u64 "$work/t.cv" "$work/folder/none.cv"
+    for new in vector bytes; do
+        refuses_the_old_file 'new exists' "$work/$new.cv: there is something in this file already" upgrade u64 "$work/t.cv" "$work/$new.cv"
+    done
+    run upgrade u64 "$work/t.cv" "$work/empty.cv"
+    did 'upgraded size 1\n'
 )
 
 # A file of version $1: five records of which some were changed, then fewer and more ones, with changes put home. Its list is
@@ -218,11 +264,10 @@ a_copy_has_growths_of_so_many_records() (
     # The most that a frame of its version takes, and one more.
     for of in 1:131071:131072 2:2097151:2097152; do
         fits=${of#*:}
-        rm "$work/n.cv"
+        rm -f "$work/n.cv"
         run copy u64 "$work/t.cv" "$work/n.cv" "--format=${of%%:*}" "--block=${of##*:}"
         was_refused 'new too large' 'nothing was written to it; give a smaller --block'
-        [ -f "$work/n.cv" ]
-        [ ! -s "$work/n.cv" ]
+        [ ! -e "$work/n.cv" ]
         run copy u64 "$work/t.cv" "$work/n.cv" "--format=${of%%:*}" "--block=${fits%%:*}"
         did 'copied size 5\n'
     done

@@ -32,6 +32,10 @@ link_to_itself() { ln -s t.cv "$work/t.cv"; }
 # A file of these bytes, in the form of printf.
 bytes() { printf '%b' "$1" >"$2"; }
 
+nothing() { : >"$work/t.cv"; }
+
+other() { bytes 'secret=abc1' "$work/t.cv"; }
+
 not_a_segment() { bytes 'no segment at all' "$work/t.cv"; printf '\001' | dd of="$work/t.cv" conv=notrunc 2>/dev/null; }
 
 of_version_3() { bytes '\0001CVECSEG\0003\0010\0000\0000' "$work/t.cv"; }

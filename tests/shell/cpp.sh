@@ -1,6 +1,7 @@
-# cvec::concurrent_vector for C++ (examples/cpp), over examples/c/cvec_vector.c and cvec_threads.
+# cvec::concurrent_vector for C++ (bindings/cpp), over bindings/c/src/cvec_vector.c and cvec_threads.
 
 cpp=$top/examples/cpp
+cpp_headers=$top/bindings/cpp/include
 cpp_tests=$top/tests/cpp
 
 # ---- programs in C++, each built once, beside the folder of a test's files
@@ -11,7 +12,7 @@ has_cpp() { has_c && has c++ 'the vector for C++'; }
 
 # Compiles a file of C++ with these words to the compiler, which say what is made of it.
 compile_cpp() {
-    "${compiler-c++}" -std=c++17 -O1 -Wall -Wextra -Wpedantic -Wconversion -Werror "-I$cpp" "-I$c" "$@"
+    "${compiler-c++}" -std=c++17 -O1 -Wall -Wextra -Wpedantic -Wconversion -Werror "-I$cpp_headers" "-I$c_headers" "$@"
 }
 
 # Links what is compiled with the calls of the system, the library and these words.
@@ -22,20 +23,31 @@ link_cpp() {
 make_cpp() {
     make_threads_library
     mkdir -p "$built"
-    [ -e "$built/cvec_vector.o" ] || cc -std=c99 -O2 -c "$c/cvec_vector.c" -o "$built/cvec_vector.o"
+    [ -e "$built/cvec_vector.o" ] || compile_c cvec_vector "$built"
     for name; do
         [ -e "$built/$name" ] || link_cpp -o "$built/$name" "$cpp_tests/$name.cc"
     done
 }
 
-# Each of these behaviours is as it is promised, on a new file.
-behaves() {
+# Each of these behaviours of the first program is as it is promised, on a new file.
+behaves_by() {
     has_cpp || exit $is_skipped
-    make_cpp behaviours
+    make_cpp "$1"
+    tested=$built/$1
+    shift
+    each_behaves "$tested" "$@"
+}
+
+behaves() { behaves_by behaviours "$@"; }
+
+each_behaves() {
+    tested=$1
+    shift
     for name; do
         rm -f "$work"/t.cv*
-        echo "behaviour: $name"
-        timeout 300 "$built/behaviours" "$name" "$work/t.cv"
+        status=0
+        timeout 300 "$tested" "$name" "$work/t.cv" >"$work/said" 2>&1 || status=$?
+        [ "$status" -eq 0 ] || { echo "${tested##*/} $name: status $status" && cat "$work/said" && return 1; }
     done
 }
 
@@ -53,9 +65,15 @@ ends_by_a_kill() {
 compiles_without_a_warning() {
     has_c && has "$1" 'the vector for C++' || exit $is_skipped
     compiler=$1
-    compile_cpp -O2 -Wshadow -Wnon-virtual-dtor -fsyntax-only "$cpp_tests/behaviours.cc"
-    compile_cpp -O2 -fsyntax-only "$cpp_tests/threads.cc"
-    compile_cpp -fsyntax-only "$cpp_tests/sizes.cc"
+    for name in behaviours lent views in_place; do
+        compile_cpp -O2 -Wshadow -Wnon-virtual-dtor -fsyntax-only "$cpp_tests/$name.cc"
+    done
+    for name in lent in_place; do
+        compile_cpp -std=c++20 -Wshadow -Wnon-virtual-dtor -fsyntax-only "$cpp_tests/$name.cc"
+    done
+    for name in threads sizes index; do
+        compile_cpp -O2 -fsyntax-only "$cpp_tests/$name.cc"
+    done
 }
 
 the_header_for_cpp_is_clean_by_gcc() (
@@ -64,6 +82,16 @@ the_header_for_cpp_is_clean_by_gcc() (
 
 the_header_for_cpp_is_clean_by_clang() (
     compiles_without_a_warning clang++
+)
+
+# Nor does any of those beside it.
+each_header_for_cpp_stands_by_itself() (
+    has_cpp || exit $is_skipped
+    for header in "$cpp_headers"/cvec/*.hpp; do
+        echo "header: $header"
+        printf '#include "cvec/%s"\n' "${header##*/}" >"$work/other.cc"
+        compile_cpp -Wshadow -fsyntax-only "$work/other.cc"
+    done
 )
 
 # Two files of a program may have it, and need no other header before it.
@@ -117,10 +145,11 @@ compiles_with() {
     compile_cpp -fsyntax-only "$work/other.cc" >"$out" 2>"$err"
 }
 
-# It would write to a copy.
+# Rows are lent.
 nothing_is_assigned_to_a_row() (
     has_cpp || exit $is_skipped
     compiles_with 'sample copy = v[0]; copy = *v.begin(); v.change(0, copy);'
+    compiles_with 'const sample &row = v[0]; auto &same = v.at(0); const sample *place = &row; static_cast<void>(place == &same);'
     for line in 'v[0] = sample{};' '*v.begin() = sample{};' 'std::fill(v.begin(), v.end(), sample{});'; do
         status=0
         compiles_with "$line" || status=$?
@@ -264,6 +293,76 @@ rows_of_killed_threads_stand_in_cpp() (
     PYTHONDONTWRITEBYTECODE=1 timeout 120 python3 "$top/tests/bindings/vector_killed.py" "$work/t.cv" 12 "$built/writer"
 )
 
+# ---- rows that are lent
+
+# References, iterators and pieces, of each size of row, and beside threads that grow.
+rows_are_lent_in_cpp() (
+    behaves_by lent each_type many_growths early_references lent_anew
+)
+
+references_are_kept_in_cpp() (
+    behaves_by lent a_part_is_kept a_member_is_kept the_greater_one_is_kept iterators_of_two_vectors
+)
+
+what_is_lent_is_never_moved_by_growing_in_cpp() (
+    behaves_by lent room_for_eight
+)
+
+a_forked_child_reads_what_its_parent_knew_in_cpp() (
+    behaves_by lent forked
+)
+
+# In C++20 as those of std::span too.
+rows_are_a_span_in_cpp() (
+    behaves_by lent spans
+    behaves_by in_place what_it_gives
+    for name in lent in_place; do
+        link_cpp -std=c++20 -o "$work/$name" "$cpp_tests/$name.cc"
+    done
+    each_behaves "$work/lent" spans
+    each_behaves "$work/in_place" what_it_gives
+)
+
+an_index_says_where_rows_stand_in_cpp() (
+    has_cpp || exit $is_skipped
+    compile_cpp -O2 -o "$work/index" "$cpp_tests/index.cc" -lpthread
+    timeout 120 "$work/index" 60
+)
+
+views_keep_rows_from_calls_of_the_whole_vector_in_cpp() (
+    behaves_by views each_call the_reason flushers_go_on no_view copies what_it_shows
+)
+
+calls_of_the_whole_vector_wait_for_views_in_cpp() (
+    behaves_by views a_call_waits a_wait_ends calls_come_soon a_view_within_a_view
+)
+
+a_view_outlives_its_vector_in_cpp() (
+    behaves_by views it_outlives_the_vector it_outlives_an_assignment what_was_grown_is_kept a_child_has_its_own
+)
+
+# ---- growth in place
+
+# By hand: rows 0 and 1 of three numbers of 4 bytes, of which each has 4 bytes of zeros behind it, and of 27 bytes.
+rows_are_grown_in_place_in_cpp() (
+    behaves_by in_place each_type
+    run list u64 "$work/t.cv.three"
+    [ "$(head -n 4 "$out" | paste -sd ' ')" = '0 4294967295 12884901889 4294967294' ]
+    run list u64 "$work/t.cv.odd"
+    [ "$(head -n 4 "$out" | paste -sd ' ')" = '3615022833237690369 7666072512169984057 11717122191102277745 12038313' ]
+    run list flagged "$work/t.cv.flagged"
+    [ "$(head -n 4 "$out" | paste -sd ' ')" = '0:1 1:0 2:0 3:1' ]
+)
+
+a_growth_in_place_leaves_nothing_where_it_is_refused_in_cpp() (
+    behaves_by in_place what_it_throws refusals a_fork_within_it
+)
+
+a_growth_in_place_is_beside_other_calls_in_cpp() (
+    behaves_by in_place calls_within_it one_within_another whole_calls_within_it whole_calls_beside_it \
+        a_whole_call_comes_as_it_begins threads
+)
+
 # ---- sanitizers
 
 # Whether programs with this sanitizer are built and run here.
@@ -278,38 +377,69 @@ sanitized() {
         "$work/cvec_vector.o" "$threads_library" "$kit_library" -lpthread
 }
 
-# These behaviours, and threads over some seconds with so many readers besides, without a complaint.
-no_complaint_of() {
-    sanitizer=$1 readers=$2
-    shift 2
-    has_cpp || exit $is_skipped
-    has_cpp_sanitizer "$sanitizer" || exit $is_skipped
+# Programs below are built with this sanitizer.
+has_cpp_under() {
+    sanitizer=$1
+    has_cpp && has_cpp_sanitizer "$sanitizer" || exit $is_skipped
     make_threads_library
-    cc -std=c99 -O1 -g "-fsanitize=$sanitizer" -c "$c/cvec_vector.c" -o "$work/cvec_vector.o"
-    sanitized behaviours
+    compile_c cvec_vector "$work" -O1 -g "-fsanitize=$sanitizer"
+    export TSAN_OPTIONS="suppressions=$top/tests/threads/suppressed.txt"
+}
+
+# These behaviours of the first program, without a complaint.
+no_complaint_by() {
+    sanitized "$1"
+    tested=$work/$1
+    shift
+    each_behaves "$tested" "$@"
+}
+
+# Threads over some seconds, and so many of them that read.
+no_complaint_of_threads() {
     sanitized threads
-    timeout 120 "$work/threads" "$work/t.cv" 8 3000 "$readers" >/dev/null
-    for name; do
-        rm -f "$work"/t.cv*
-        echo "behaviour: $name"
-        timeout 300 "$work/behaviours" "$name" "$work/t.cv"
-    done
+    timeout 120 "$work/threads" "$work/t.cv" 8 3000 "$1" >/dev/null
 }
 
 memory_is_used_rightly_in_cpp() (
-    no_complaint_of address,undefined 2 growing greatest_growth structs other_types reading iterators shared_iterator \
-        ranges changing changing_counts_on changing_has_seats_again changing_ends changing_breaks appenders closing \
+    has_cpp_under address,undefined
+    no_complaint_of_threads 2
+    no_complaint_by behaviours growing greatest_growth structs other_types reading iterators shared_iterator ranges changing \
+        changing_counts_on changing_has_seats_again changing_ends changing_beside changing_breaks appenders closing \
         closing_meanwhile moving opening_without_memory refusals breaking few_seats many_threads renewing
     rm -f "$work"/t.cv*
     sanitized sizes
     "$work/sizes" "$work/t.cv"
 )
 
-# The library isn't built for this sanitizer, which sees how it copies records, but not by what its threads are in order: so
-# none reads here what others grow beside it.
+memory_that_is_lent_is_used_rightly_in_cpp() (
+    has_cpp_under address,undefined
+    no_complaint_by lent each_type many_growths a_part_is_kept a_member_is_kept spans early_references lent_anew \
+        room_for_eight forked
+    no_complaint_by views each_call copies a_call_waits calls_come_soon it_outlives_the_vector it_outlives_an_assignment \
+        what_was_grown_is_kept a_child_has_its_own
+    no_complaint_by in_place each_type what_it_gives what_it_throws refusals calls_within_it one_within_another \
+        whole_calls_beside_it a_whole_call_comes_as_it_begins threads
+    sanitized index
+    timeout 120 "$work/index" 12
+)
+
+# The library isn't built for this sanitizer, which sees how it copies records, but not by what its threads are in order. Of what is
+# lent it is told that, so readers are beside growers here.
 threads_are_in_order_in_cpp() (
-    no_complaint_of thread 0 deadlines_for_a_seat flushing shortening shared_iterator closing_meanwhile few_seats many_threads \
-        turns reading_beside_reads renewing
+    has_cpp_under thread
+    no_complaint_of_threads 2
+    no_complaint_by behaviours deadlines_for_a_seat flushing shortening shared_iterator changing_beside closing_meanwhile \
+        few_seats many_threads turns reading_beside_reads renewing
+    no_complaint_by lent early_references
+    no_complaint_by views a_call_waits calls_come_soon
+    # As in a program whose C isn't built for it either.
+    make_cpp
+    compile_cpp -O0 -g -fsanitize=thread -o "$work/lent" "$cpp_tests/lent.cc" "$built/cvec_vector.o" "$threads_library" \
+        "$kit_library" -lpthread
+    each_behaves "$work/lent" early_references
+    no_complaint_by in_place calls_within_it whole_calls_beside_it threads
+    sanitized index
+    timeout 120 "$work/index" 12
 )
 
 # ---- the page, the examples, and oneTBB
@@ -381,11 +511,13 @@ has_tbb() {
     c++ -std=c++17 -o "$work/empty" "$work/empty.cc" -ltbb 2>/dev/null || lacks 'there is no oneTBB (libtbb-dev)'
 }
 
-# But for two lines the program is the one that is written for oneTBB.
+# But for its include, its type and its constructor the program is the one that is written for oneTBB.
 a_program_for_onetbb_is_made_durable() (
     has_cpp || exit $is_skipped
     make_cpp
-    [ "$(diff "$cpp/primes_tbb.cc" "$cpp/primes.cc" | grep -c '^>')" -eq 2 ]
+    sed -e 's|<oneapi/tbb/concurrent_vector\.h>|<cvec/concurrent_vector.hpp>|' \
+        -e 's|tbb::concurrent_vector|cvec::concurrent_vector|' -e 's|> primes;|> primes("primes.cv");|' "$cpp/primes_tbb.cc" |
+        cmp - "$cpp/primes.cc"
     link_cpp -o "$work/primes" "$cpp/primes.cc"
     cd "$work"
     ./primes >"$out"
@@ -415,7 +547,8 @@ the_bench_grows_by_threads_of_cpp() (
     has_cpp || exit $is_skipped
     make_cpp
     link_cpp -o "$work/native" "$top/bench/native.cc"
-    for words in 'grow block=16' 'grow block=1' 'append block=64' 'durable mode=wait1 block=16' 'durable mode=wait64 block=1' \
+    for words in 'grow block=16' 'grow block=1' 'grow-in-place block=16' 'append block=64' 'beside block=16 preload=160 cap_ms=20' \
+        'beside-pieces block=16 preload=160 cap_ms=20' 'durable mode=wait1 block=16' 'durable mode=wait64 block=1' \
         'durable mode=wait64 block=4096' 'durable mode=flow block=16'; do
         echo "work: $words"
         # shellcheck disable=SC2086 # each word is one
@@ -423,8 +556,9 @@ the_bench_grows_by_threads_of_cpp() (
         grep -q '"threads":3,"n":[1-9][0-9]*,"seconds":0\.[0-9]*[,}]' "$out"
     done
     [ -z "$(find "$work" -name '*.cvec')" ]
-    for words in read 'grow threads=1' 'grow threads=0 block=16' 'grow threads=3 block=0' 'append threads=0 block=16' \
-        'append threads=3 block=0' 'durable mode=wait1 threads=0 block=16' 'durable mode=flow threads=3 block=0'; do
+    for words in read read-mixed beside-pieces 'grow threads=1' 'grow threads=0 block=16' 'grow threads=3 block=0' \
+        'grow-in-place threads=0 block=16' 'append threads=0 block=16' 'append threads=3 block=0' \
+        'durable mode=wait1 threads=0 block=16' 'durable mode=flow threads=3 block=0'; do
         echo "work: $words"
         status=0
         # shellcheck disable=SC2086 # each word is one
@@ -433,6 +567,25 @@ the_bench_grows_by_threads_of_cpp() (
         [ ! -s "$out" ]
         [ "$(wc -l <"$err")" -le 1 ]
     done
+)
+
+# In order by iterators and by pieces; at random by `[]`, by a view and by its visit, each by three numbers of threads.
+the_bench_reads_in_each_way_of_cpp() (
+    has_cpp || exit $is_skipped
+    make_cpp
+    link_cpp -o "$work/native" "$top/bench/native.cc"
+    for words in 'read block=16' 'read-mixed growers=3 block=16'; do
+        work_name=${words%% *}
+        # shellcheck disable=SC2086 # each word is one
+        "$work/native" $words n=6000 draws=500 "dir=$work" >"$out"
+        [ "$(grep -c "\"work\":\"$work_name.seq\",.*[0-9]}\$" "$out")" -eq 1 ]
+        [ "$(grep -c "\"work\":\"$work_name.seq\",.*,\"way\":\"pieces\"}\$" "$out")" -eq 1 ]
+        [ "$(grep -c "\"work\":\"$work_name.random\",.*[0-9]}\$" "$out")" -eq 3 ]
+        for way in view visit; do
+            [ "$(grep -c "\"work\":\"$work_name.random\",.*,\"way\":\"$way\"}\$" "$out")" -eq 3 ]
+        done
+    done
+    [ -z "$(find "$work" -name '*.cvec')" ]
 )
 
 # The greatest size of a file stands for a full disk.

@@ -120,14 +120,15 @@ changes_that_a_full_device_takes_no_more_leave_the_file() (
     for words in 'set u64 FILE 0 --records=9' 'resize u64 FILE 61 --record=9' 'resize u64 FILE 1 --record=9' 'clear u64 FILE'; do
         # shellcheck disable=SC2046 # each word is one
         on_a_full_device $(echo "$words" | sed "s|FILE|$work/t.cv|")
-        was_refused 'disk write' "cvec: $work/t.cv: the system didn't write it: the device may be full; "
+        was_refused 'disk write' "cvec: $work/t.cv: it may not become so long (File too large (os error 27)); "
+        if tells 'restart'; then return 1; fi
         stands_as_before
     done
     run set u64 "$work/t.cv" 0 --records=9
     did 'ok\n'
     { echo 9; seq 2 60; } >"$work/lines"
     on_a_full_device fold u64 "$work/t.cv"
-    was_refused 'disk write' "the device may be full"
+    was_refused 'disk write' "it may not become so long (File too large (os error 27)); "
     stands_as_before
     run fold u64 "$work/t.cv"
     did 'folded 1\n'
@@ -138,7 +139,8 @@ growths_that_a_full_device_takes_no_more_leave_the_file() (
     a_nearly_full_device
     given '61\n'
     on_a_full_device load u64 "$work/t.cv"
-    was_refused broken 'the device, which may be full'
+    was_refused broken "cvec: $work/t.cv: it may not become so long (File too large (os error 27)); what stood before stands; "
+    if tells 'restart'; then return 1; fi
     stands_as_before
     on_a_full_device append u64 "$work/t.cv"
     was_refused 'disk write' 'the growths of the first 0 lines stand'
@@ -151,7 +153,7 @@ growths_that_a_full_device_takes_no_more_leave_the_file() (
         *) return 1 ;;
     esac
     [ "$status" -eq 1 ]
-    tells 'may be full; '
+    tells 'it may not become so long (File too large (os error 27)); '
     tells '; the first 0 growths of its clients stand'
     stands_as_before
     run append u64 "$work/t.cv"
@@ -170,6 +172,62 @@ an_append_that_fills_a_device_leaves_the_first_lines() (
     head -n "$(wc -l <"$out")" "$in" | cmp - "$out"
 )
 
+# A device of so many bytes, in the folder full.
+a_small_device() {
+    mkdir "$work/full"
+    mount -t tmpfs -o "size=$1" none "$work/full" 2>/dev/null || lacks 'no small device may be mounted' || exit $is_skipped
+    trap 'umount "$work/full"' EXIT
+}
+
+# Of a full device its error is told, how many lines stand, and that no restart is needed: with room the same command goes on.
+an_append_goes_on_where_a_device_was_full() (
+    a_small_device 256k
+    t=$work/full/t.cv
+    run create u64 "$t"
+    seq 1 100000 >"$work/lines"
+    head -n 1000 "$work/lines" >"$in"
+    run append u64 "$t" --block=100
+    [ "$status" -eq 0 ]
+    tail -n +1001 "$work/lines" >"$in"
+    run append u64 "$t" --block=100
+    was_refused 'disk write' "cvec: $t: the device is full (No space left on device (os error 28)); "
+    tells '; make room, and the same command goes on with the lines behind those that stand'
+    if tells 'restart'; then return 1; fi
+    stood=$(sed 's/.*growths of the first \([0-9]*\) lines stand.*/\1/' "$err")
+    run list u64 "$t"
+    size=$(wc -l <"$out")
+    [ "$size" -ge $((1000 + stood)) ]
+    mount -o remount,size=4m "$work/full"
+    tail -n +$((size + 1)) "$work/lines" >"$in"
+    run append u64 "$t" --block=100
+    [ "$status" -eq 0 ]
+    run list u64 "$t"
+    cmp "$work/lines" "$out"
+)
+
+# What a refused command has made itself is taken away, and what was there stays.
+what_is_not_made_leaves_no_file() (
+    a_small_device 64k
+    run create u64 "$work/t.cv"
+    run resize u64 "$work/t.cv" 20000 --record=5
+    did 'ok\n'
+    for command in copy upgrade; do
+        run $command u64 "$work/t.cv" "$work/full/n.cv"
+        was_refused 'new disk write' "cvec: $work/full/n.cv: the device is full (No space left on device (os error 28)); nothing was left there; make room, "
+        [ -z "$(ls -A "$work/full")" ]
+    done
+    run copy u64 "$work/t.cv" "$work/full/n.cv" --block=131072
+    was_refused 'new too large' 'nothing was written to it; give a smaller --block'
+    [ -z "$(ls -A "$work/full")" ]
+    # Bytes of others fill it.
+    head -c 65536 /dev/zero >"$work/full/other" || :
+    for over in '' --over; do
+        run create u64 "$work/full/t.cv" $over
+        was_refused 'disk write' "cvec: $work/full/t.cv: the device is full (No space left on device (os error 28)); "
+        [ "$(ls -A "$work/full")" = other ]
+    done
+)
+
 # What was written of it would look like a vector.
 a_new_file_that_a_full_device_takes_no_more_is_emptied() (
     run create u64 "$work/t.cv"
@@ -182,10 +240,9 @@ a_new_file_that_a_full_device_takes_no_more_is_emptied() (
         left=${of##*:} of=${of%:*}
         [ -z "$left" ] || printf '%b' "$left" >"$work/n.cv"
         on_a_full_device "${of%:*}" u64 "$work/t.cv" "$work/n.cv"
-        was_refused 'new disk write' "cvec: $work/n.cv: the system didn't write it, or put it on the device, which may be full; it may have a part; "
+        was_refused 'new disk write' "cvec: $work/n.cv: it may not become so long (File too large (os error 27)); nothing was left there; "
         [ "$(cksum <"$work/t.cv")" = "$sum" ]
-        [ -f "$work/n.cv" ]
-        [ ! -s "$work/n.cv" ]
+        if [ -n "$left" ]; then [ -f "$work/n.cv" ] && [ ! -s "$work/n.cv" ]; else [ ! -e "$work/n.cv" ]; fi
         run "${of%:*}" u64 "$work/t.cv" "$work/n.cv"
         did "${of#*:} size 100\n"
     done

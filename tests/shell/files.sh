@@ -9,7 +9,8 @@ a_file_of_any_length_is_checked() (
         head -c "$n" "$work/t.cv" >"$work/c.cv"
         run check u64 "$work/c.cv"
         case $n in
-            0 | 1) was_refused unborn 'cvec create u64' ;;
+            0) was_refused unborn "cvec create u64 $work/c.cv" ;;
+            1) was_refused unborn 'which has other bytes; it is as it was' ;;
             [2-9] | 10) was_refused 'not a segment' "it isn't a segment file" ;;
             11 | 33 | 55) was_refused "damaged at $n: no gate" "byte $n" ;;
             1? | 2? | 3[0-2]) was_refused 'damaged at 11: short frame' 'byte 11' ;;
@@ -54,7 +55,7 @@ files_that_cannot_be_used_are_told() (
         was_refused file 'there is no such file'
     done
     run create u64 "$work/none/t.cv"
-    was_refused file 'there is no such file, or no folder'
+    was_refused file 'there is no folder for it'
     run create u64 "$work"
     was_refused file 'it is a folder'
     a_changed_file
@@ -67,7 +68,7 @@ files_that_cannot_be_used_are_told() (
     was_refused unborn 'no vector was made'
     printf '\001no vector in this' >"$work/n.cv"
     run create u64 "$work/n.cv"
-    was_refused exists 'name another file, or give --over'
+    was_refused exists 'other bytes in this file already; it is as it was; name another file'
     run check u64 "$work/n.cv"
     was_refused 'not a segment' "$work/n.cv"
 )
@@ -77,7 +78,7 @@ create_leaves_the_bytes_of_others() (
         printf "$bytes" >"$work/n.cv"
         cp "$work/n.cv" "$work/was"
         run create u64 "$work/n.cv"
-        was_refused exists 'other bytes; it is as it was'
+        was_refused exists 'other bytes in this file already; it is as it was; name another file'
         cmp "$work/was" "$work/n.cv"
     done
     for bytes in '' '\0' '\1' '\0CVEC' '\0\0VEC\0EG\1\0\0\0' '\0CVECSEG\1\10\0\0'; do
@@ -87,6 +88,39 @@ create_leaves_the_bytes_of_others() (
         run check u64 "$work/n.cv"
         did 'ok version 1 width 8 size 0 frames 0 live 0\n'
     done
+)
+
+# It is refused, the file is as it was, and the sentence names nothing that takes its bytes away.
+advises_nothing_over_bytes() {
+    cp "$work/n.cv" "$work/was"
+    run "$@"
+    [ "$status" -eq 1 ]
+    cmp "$work/was" "$work/n.cv"
+    for advice in 'cvec create' --over 'makes one' 'remove'; do
+        if tells "$advice"; then return 1; fi
+    done
+}
+
+# Neither `create` nor --over is named over bytes that are no vector. Of a vector it is told what --over takes away.
+no_advice_takes_bytes_away() (
+    a_changed_file
+    for bytes in 'secret=abc1\n' s '\1no vector in this, and more bytes than an empty file has\n' '\0CVECSEG\1\4\0' '\0'; do
+        printf "$bytes" >"$work/n.cv"
+        for words in 'list u64' 'append u64' 'load u64' 'clear u64' 'follow u64 --once' stat; do
+            # shellcheck disable=SC2086 # each word is one
+            advises_nothing_over_bytes $words "$work/n.cv"
+        done
+        advises_nothing_over_bytes upgrade u64 "$work/n.cv" "$work/m.cv"
+        # What a stopped creation leaves `create` takes.
+        case $bytes in '\0'*) continue ;; esac
+        advises_nothing_over_bytes create u64 "$work/n.cv"
+        advises_nothing_over_bytes copy u64 "$work/t.cv" "$work/n.cv"
+    done
+    : >"$work/n.cv"
+    run list u64 "$work/n.cv"
+    was_refused unborn "\`cvec create u64 $work/n.cv\` makes one"
+    run create u64 "$work/t.cv"
+    was_refused exists 'or give --over, which takes all its records away'
 )
 
 create_over_takes_whatever_is_there() (
@@ -232,12 +266,12 @@ a_full_device_is_told_of_a_file() (
     a_changed_file
     run fold u64 "$work/t.cv"
     run_on_a_full_device resize u64 "$work/t.cv" 200 --record=5
-    was_refused 'disk write' 'the device may be full'
+    was_refused 'disk write' 'it may not become so long (File too large (os error 27))'
     run list u64 "$work/t.cv"
     did '7\n'
     seq -s ' ' 1 100 >"$in"
     run_on_a_full_device load u64 "$work/t.cv"
-    was_refused broken 'the device, which may be full'
+    was_refused broken 'it may not become so long (File too large (os error 27))'
     run list u64 "$work/t.cv"
     did '7\n'
     run load u64 "$work/t.cv"
@@ -265,7 +299,7 @@ a_pipe_that_closes_ends_a_list() (
     trap '' PIPE
     { { "$top/cvec" list u64 "$work/t.cv" 2>"$err" && echo 0 >"$work/status" || echo $? >"$work/status"; } | :; }
     status=$(cat "$work/status")
-    ends_with_a_failed_write 'Broken pipe'
+    ends_with_a_closed_pipe
 )
 
 one_writer_has_a_file_alone() (

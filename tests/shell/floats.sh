@@ -1030,7 +1030,7 @@ a_closed_output_ends_a_list_of_floats() (
         { timeout 20 "$program" "$command" f64 "$work/t.cv" "$@" 2>"$err" || echo $? >"$work/status"; } | head -n 2 >"$out"
         printf '0.5\n-1.7976931348623157e308\n' | cmp - "$out"
         [ "$(cat "$work/status")" = 1 ]
-        tells 'cvec: standard output: Broken pipe'
+        [ ! -s "$err" ]
     done
 )
 

@@ -212,7 +212,7 @@ a_closed_output_ends_it() (
     { timeout 20 "$program" follow u64 "$work/t.cv" 2>"$err" || echo $? >"$work/status"; } | head -n 3 >"$out"
     printf '5\n6\n7\n' | cmp - "$out"
     [ "$(cat "$work/status")" = 1 ]
-    tells 'cvec: standard output: Broken pipe'
+    [ ! -s "$err" ]
     out=/dev/full
     run follow u64 "$work/t.cv"
     ends_with_a_failed_write 'No space left on device'

@@ -37,7 +37,7 @@ the_installed_program_outlives_a_full_disk() (
     status=0
     (ulimit -f 1 && seq 1 1000 | "$prefix/bin/cvec" append u64 "$work/t.cv") >"$out" 2>"$err" || status=$?
     answers_refusal 'disk write'
-    tells "cvec: $work/t.cv: the system didn't write it: the device may be full"
+    tells "cvec: $work/t.cv: it may not become so long (File too large (os error 27))"
     "$prefix/bin/cvec" check u64 "$work/t.cv" >"$out"
     grep -q '^ok .* size 0 ' "$out"
 )
@@ -119,6 +119,19 @@ a_c_program_is_built_by_pkg_config() (
     [ "$(cut -d ' ' -f -7 "$out")" = 'ok version 1 width 8 size 600' ]
 )
 
+# What the files of C share with one another is none of a program's.
+the_shared_library_has_what_its_headers_declare() (
+    can_install && has nm 'the names in a library' || exit $is_skipped
+    installs_once
+    printf '#include "%s"\n' cvec.h cvec_client.h cvec_vector.h >"$work/all.c"
+    cc -E -P "-I$prefix/include" "$work/all.c" >"$work/declared"
+    nm -D --defined-only "$prefix/lib/python3/dist-packages/libcvec.so" | sed -n 's/.* \(cvec_[a-z0-9_]*\)$/\1/p' >"$work/names"
+    [ "$(wc -l <"$work/names")" -gt 100 ]
+    while read -r name; do
+        grep -qw "$name" "$work/declared" || { echo "$name is declared nowhere" && exit 1; }
+    done <"$work/names"
+)
+
 a_cpp_program_is_built_by_pkg_config() (
     can_install && has pkg-config 'the library for C' && has c++ 'the vector for C++' || exit $is_skipped
     installs_once
@@ -184,7 +197,7 @@ pip_installs_the_modules() (
     cp -R "$top/bindings/python" "$work/python"
     CVEC_LIB=$prefix/lib/python3/dist-packages python3 -m pip install --quiet --no-index --no-cache-dir \
         --disable-pip-version-check --target "$work/site" "$work/python" 2>"$err" || { cat "$err" && exit 1; }
-    for name in cvec.py cvec_client.py cvec_records.py cvec_vector.py libcvec.so; do
+    for name in cvec.py cvec_client.py cvec_cut.py cvec_dask.py cvec_frames.py cvec_records.py cvec_vector.py libcvec.so; do
         cmp "$prefix/lib/python3/dist-packages/$name" "$work/site/$name"
     done
     [ "cvec $(sed -n 's/^Version: //p' "$work/site"/cvec-*.dist-info/METADATA)" = "$("$program" --version | head -n 1)" ]
@@ -208,7 +221,7 @@ a_rust_program_is_built_by_rustc() (
     rust=$prefix/share/cvec/rust
     rustc --edition 2024 -D warnings --crate-type rlib --crate-name cvec -L "native=$prefix/lib" -l static=cvec \
         -o "$work/libcvec.rlib" "$rust/src/lib.rs"
-    rustc --edition 2024 -D warnings -o "$work/use" "$rust/examples/use.rs" --extern "cvec=$work/libcvec.rlib"
+    rustc --edition 2024 -D warnings -o "$work/use" "$top/examples/rust/use.rs" --extern "cvec=$work/libcvec.rlib"
     "$work/use" "$work/file" >"$out"
     [ "$(tr '\n' ' ' <"$out")" = '5 7 11 13 ' ]
 )
@@ -218,8 +231,8 @@ a_rust_program_is_built_by_cargo() (
     can_install && has cargo 'a crate of plain Rust' || exit $is_skipped
     installs_once
     mkdir -p "$work/src/bin"
-    cp "$top/bindings/rust/examples/use.rs" "$work/src/bin"
-    cp "$top/bindings/rust/vector/examples/use_vector.rs" "$work/src/bin"
+    cp "$top/examples/rust/use.rs" "$work/src/bin"
+    cp "$top/examples/rust/use_vector.rs" "$work/src/bin"
     cat >"$work/src/bin/both.rs" <<'RUST'
 fn main() {
     let path = std::env::args().nth(1).unwrap();
@@ -241,12 +254,18 @@ RUST
     sed -n 1p "$out" | grep -qx '286 records of 15 growths'
 )
 
-# The folder of the repository as cargo takes it: its examples are built, and the programs of its documents compile.
+# The folders of the repository as cargo takes them: the examples are built, and the programs of documents compile.
 cargo_tests_the_crates() (
     can_install && has cargo 'a crate of plain Rust' || exit $is_skipped
     installs_once
-    cp -R "$top/bindings/rust" "$work/rust"
-    cd "$work/rust"
+    mkdir "$work/bindings" "$work/examples"
+    cp -R "$top/bindings/rust" "$work/bindings"
+    cp -R "$top/examples/rust" "$work/examples"
+    CVEC_LIB=$prefix/lib cargo build --quiet --offline --manifest-path "$work/examples/rust/Cargo.toml" --target-dir "$work/target" \
+        >"$out" 2>&1 || { cat "$out" && exit 1; }
+    "$work/target/debug/use" "$work/file" >"$out"
+    [ "$(tr '\n' ' ' <"$out")" = '5 7 11 13 ' ]
+    cd "$work/bindings/rust"
     CVEC_LIB=$prefix/lib cargo test --quiet --offline --target-dir "$work/target" >"$out" 2>&1 || { cat "$out" && exit 1; }
     [ "$(grep -c '^test result: ok. 1 passed' "$out")" -eq 2 ]
     for crate in . vector; do
@@ -308,7 +327,7 @@ an_older_install_is_replaced() (
     sed -i "s|$prefix|$work/there|" "$work/there/lib/pkgconfig/cvec.pc"
     found_in "$prefix" >"$work/wanted"
     found_in "$work/there" | diff "$work/wanted" -
-    cmp "$c/cvec.h" "$work/there/include/cvec.h"
+    cmp "$c_headers/cvec.h" "$work/there/include/cvec.h"
     make_there uninstall "PREFIX=$work/there"
     [ ! -e "$work/there" ]
 )
@@ -399,7 +418,7 @@ libraries_are_made_by_two_at_once() (
     has make 'the libraries' && has cc 'the libraries' || exit $is_skipped
     there=$work/there
     mkdir -p "$there/bin" "$there/kit/c" "$there/crates/cvec_c/out" "$there/crates/cvec_threads/out"
-    cp -R "$top/Makefile" "$top/tools" "$top/examples" "$there"
+    cp -R "$top/Makefile" "$top/tools" "$top/bindings" "$there"
     printf 'cvec_c staticlib: clap\ncvec_threads staticlib: clap\n' >"$there/crates.txt"
     for made in crates/cvec_c/out/libcvec_c.a crates/cvec_threads/out/libcvec_threads.a kit/c/liblibc_c.a; do
         echo "int $(basename "$made" .a);" | cc -x c -fPIC -c -o "$work/$(basename "$made" .a).o" -

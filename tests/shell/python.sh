@@ -11,18 +11,15 @@ for it in python3 /usr/bin/python3; do
     fi
 done
 
-# Runs this example in Python with further words.
+# Runs this program in Python with further words.
 python_runs() {
-    example=$1
-    shift
-    CVEC_LIBRARY=$work/libcvec.so PYTHONPATH=$top/bindings/python PYTHONDONTWRITEBYTECODE=1 \
-        "$python" "$top/examples/python/$example.py" "$@" >"$out" 2>"$err"
+    CVEC_LIBRARY=$work/libcvec.so PYTHONPATH=$top/bindings/python PYTHONDONTWRITEBYTECODE=1 "$python" "$@" >"$out" 2>"$err"
 }
 
 a_python_program_appends_and_reads() (
     has_c && has python3 'the library for Python' || exit $is_skipped
     make_python_library
-    python_runs use "$work/file"
+    python_runs "$top/examples/python/use.py" "$work/file"
     [ "$(tr '\n' ' ' <"$out")" = '5 7 11 13 ' ]
     is_shown_as_written u64 "$work/file"
 )
@@ -30,7 +27,7 @@ a_python_program_appends_and_reads() (
 the_python_program_that_is_shown_reads() (
     has_c && has python3 'the library for Python' || exit $is_skipped
     make_python_library
-    python_runs use "$work/numbers.cvec"
+    python_runs "$top/examples/python/use.py" "$work/numbers.cvec"
     shown_in use/c.md python >"$work/shown.py"
     (cd "$work" && flock numbers.cvec env "CVEC_LIBRARY=$work/libcvec.so" "PYTHONPATH=$top/bindings/python" PYTHONDONTWRITEBYTECODE=1 \
         "$python" shown.py >"$out")
@@ -42,17 +39,17 @@ the_python_program_that_is_shown_reads() (
 a_python_program_loses_nothing() (
     has_c && has python3 'the library for Python' || exit $is_skipped
     make_python_library
-    python_runs faults "$work" plain
+    python_runs "$top/tests/bindings/file_faults.py" "$work" plain
     [ "$(cat "$out")" = 'without numpy' ]
     "$python" -c 'import numpy' 2>/dev/null || lacks 'there is no numpy for arrays for Python' || exit $is_skipped
-    python_runs faults "$work"
+    python_runs "$top/tests/bindings/file_faults.py" "$work"
     [ "$(cat "$out")" = 'with numpy' ]
 )
 
 # The file of this type and hex is listed this way.
 lists() {
     python3 -c 'import sys; open(sys.argv[1], "wb").write(bytes.fromhex(sys.argv[2]))' "$work/file" "$3"
-    python_runs list "$2" "$work/file"
+    python_runs "$top/examples/python/list.py" "$2" "$work/file"
     tells "by $1"
 }
 

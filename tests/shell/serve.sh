@@ -6,8 +6,8 @@
 clients_of_a_server_find_what_they_were_told() (
     has python3 'the clients of a server' || exit $is_skipped
     if command -v cc >/dev/null; then
-        cc -std=c99 -Wall -Wextra -pedantic -Werror -I"$top/examples/c" "$top/examples/c/append_blocks.c" \
-            "$top/examples/c/cvec_client.c" -o "$work/append_blocks"
+        compile_c cvec_client "$work"
+        cc -std=c99 -Wall -Wextra -pedantic -Werror "-I$c_headers" "$c/append_blocks.c" "$work/cvec_client.o" -o "$work/append_blocks"
         set -- "$work/append_blocks"
     fi
     "$top/tests/serve.py" "$top/cvec" "$work" 1000000 "$@" >"$out"
@@ -134,16 +134,16 @@ the_client_in_c_is_one_for_cpp() (
     has c++ 'the client in C++' || exit $is_skipped
     printf '#include "%s"\n' cvec.h cvec_client.h >"$work/use.cc"
     printf 'int main() { cvec_server server; return cvec_server_wait(&server); }\n' >>"$work/use.cc"
-    cc -std=c99 -I"$top/examples/c" -c "$top/examples/c/cvec_client.c" -o "$work/cvec_client.o"
-    c++ -Wall -Wextra -pedantic -Werror -I"$top/examples/c" "$work/use.cc" "$work/cvec_client.o" -o "$work/use"
+    compile_c cvec_client "$work"
+    c++ -Wall -Wextra -pedantic -Werror "-I$c_headers" "$work/use.cc" "$work/cvec_client.o" -o "$work/use"
 )
 
 # The program of the examples appends a growth to a new file, and without a server says so, and ends with 1. The client in
 # Python that the README shows is run by the section blocks.
 the_client_that_is_shown_appends() (
     has cc 'the client that is shown' || exit $is_skipped
-    cc -std=c99 -Wall -Wextra -pedantic -Werror -I"$top/examples/c" "$top/examples/c/use_server.c" \
-        "$top/examples/c/cvec_client.c" -o "$work/use_server"
+    compile_c cvec_client "$work"
+    cc -std=c99 -Wall -Wextra -pedantic -Werror "-I$c_headers" "$c/use_server.c" "$work/cvec_client.o" -o "$work/use_server"
     ln -s "$top/cvec" "$work/cvec"
     cd "$work"
     run create u64 numbers.cvec

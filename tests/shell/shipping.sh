@@ -408,6 +408,109 @@ a_command_runs_again_while_it_was_stopped() (
     done
 )
 
+# As for want of memory. What is stopped on purpose isn't begun anew.
+a_command_runs_again_where_it_was_killed() (
+    for signal in KILL SEGV ABRT TERM INT; do
+        rm -f "$work/runs"
+        printf '#!/bin/sh\necho x >>"%s/runs"\n[ "$(wc -l <"%s/runs")" -gt 2 ] || kill -s %s $$\nexit 3\n' "$work" "$work" $signal >"$work/killed"
+        chmod +x "$work/killed"
+        status=0
+        timeout 20 "$shipping/again" sh -c "'$work/killed'" || status=$?
+        case $signal in
+        TERM) wanted='143 1' ;;
+        INT) wanted='130 1' ;;
+        *) wanted='3 3' ;;
+        esac
+        [ "$status $(wc -l <"$work/runs")" = "$wanted" ]
+    done
+)
+
+# As where ssh finds no `cvec` on the other machine.
+a_follower_that_is_not_there_is_not_asked_for_again() (
+    has python3 'copies by follow' || exit "$is_skipped"
+    export PYTHONDONTWRITEBYTECODE=1
+    for end in 126 127; do
+        status=0
+        timeout 20 "$shipping/again" "$shipping/to_sqlite" "$work/t.db" sh -c "exit $end" >"$out" 2>"$err" || status=$?
+        [ "$status" -eq 2 ]
+        tells "ended with status $end"
+    done
+)
+
+# Another file has the name, with the same records, while nobody follows and while one does.
+a_copy_of_a_file_that_was_replaced_is_refused() (
+    has python3 'copies by follow' && has sqlite3 'a copy in SQLite' || exit "$is_skipped"
+    export PYTHONDONTWRITEBYTECODE=1
+    keeps_same() {
+        status=0
+        "$shipping/to_sqlite" "$work/t.db" "$shipping/same" "$work/t.cv" "$work/follower" >"$out" 2>"$err" || status=$?
+        [ ! -s "$out" ]
+    }
+    echo 5 >"$work/t.cv"
+    follows '' '+ 5\\n+ 6\\n. 33:1:0\\n'
+    keeps_same
+    [ "$status" -eq 0 ]
+    place=$(sqlite3 "$work/t.db" 'select place from place')
+    [ "$place" = "33:1:0:$(stat -c '%d:%i:%.9W' "$work/t.cv" | tr . :)" ]
+    # It may grow.
+    echo 6 >>"$work/t.cv"
+    follows --after=33:1:0 '+ 7\\n. 40:2:0\\n'
+    keeps_same
+    [ "$status" -eq 0 ]
+    cp "$work/t.cv" "$work/other"
+    mv "$work/other" "$work/t.cv"
+    leaves_a_file
+    keeps_same
+    [ "$status" -eq 3 ]
+    tells 'refused: replaced'
+    [ ! -e "$work/begun" ]
+    [ "$(sqlite3 "$work/t.db" 'select record from vector order by position' | paste -sd ' ')" = '5 6 7' ]
+    # So too where the copy was begun without `same`, and where the file goes as its steps come.
+    rm "$work/t.db"
+    follows '' '+ 5\\n. 33:1:0\\n'
+    keeps
+    keeps_same
+    [ "$status" -eq 3 ]
+    rm "$work/t.db"
+    follows '' '+ 5\\n. 33:1:0\\n' "mv '$work/t.cv' '$work/gone'; printf '+ 6\\\\n. 40:2:0\\\\n'"
+    keeps_same
+    [ "$status" -eq 3 ]
+    tells 'refused: replaced'
+)
+
+# In place of redis-cli, what a cluster answers. The slots of t0, t1 and t2 are 13006, 8943 and 4748.
+the_node_of_a_part_is_asked_for() (
+    cat >"$work/cli" <<'CLI'
+#!/bin/sh
+case "$*" in
+*'cluster keyslot {t0}') echo 13006 ;;
+*'cluster keyslot {t1}') echo 8943 ;;
+*'cluster keyslot {t2}') echo 4748 ;;
+*'cluster keyslot {none}') echo 16383 ;;
+*'cluster nodes')
+    echo '07c3 10.0.0.1:7000@17000 myself,master - 0 1426238316232 1 connected 0-4747 4748 4750-5460'
+    echo '6ec2 10.0.0.2:7001@17001,host2 master - 0 1426238318243 2 connected 5461-10922 [13006-<-e7d1]'
+    echo 'e7d1 fd00::3:7002@17002 master - 0 1426238317239 3 connected 10923-16382'
+    echo '292f 10.0.0.4:7003@17003 slave e7d1 0 1426238317741 4 connected'
+    ;;
+*) exit 1 ;;
+esac
+CLI
+    chmod +x "$work/cli"
+    while read -r name words; do
+        [ "$("$shipping/node" "$name" "$work/cli" -h any)" = "$words" ]
+    done <<'ROWS'
+t0 -h fd00::3 -p 7002
+t1 -h 10.0.0.2 -p 7001
+t2 -h 10.0.0.1 -p 7000
+ROWS
+    status=0
+    "$shipping/node" none "$work/cli" >"$out" || status=$?
+    [ "$status" -eq 1 ]
+    [ ! -s "$out" ]
+    if "$shipping/node" other "$work/cli" >"$out"; then exit 1; fi
+)
+
 # The first step is what was there. Two records come about a second later.
 the_rate_of_growth_is_shown() (
     has python3 'copies by follow' || exit "$is_skipped"
@@ -464,5 +567,5 @@ a_python_reader_has_each_type() (
     is_read_as bytes64 "${head}0140000101480000000100000001000000$one$two$two${one}00" "$one$two$two$one\\n"
     # It has records of 64 bytes still.
     if python3 "$top/examples/python/beside.py" bytes32 "$work/t.cv" >"$out" 2>"$err"; then exit 1; fi
-    tells 'not a segment of a known version and this width'
+    tells 'width 64 at 9'
 )

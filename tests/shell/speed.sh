@@ -73,7 +73,7 @@ a_load_that_gets_little_memory_ends() (
 each_request_of_a_vector_in_c_for_memory_may_be_refused() (
     has_c || exit "$is_skipped"
     make_threads_library
-    compile_threads "$top/tests/threads/refused.c" "$c/cvec_vector.c" -o "$work/refused"
+    compile_threads "$top/tests/threads/refused.c" -o "$work/refused"
     measure 60 "$work/refused" "$work/t.cv"
     cat "$out" "$err"
     [ "$status" -eq 0 ]
@@ -89,8 +89,8 @@ make_native() {
     make_threads_library
     [ ! -e "$built/native" ] || return 0
     mkdir -p "$built"
-    cc -std=c99 -O2 "-I$c" -c "$c/cvec_vector.c" -o "$built/cvec_vector.o"
-    c++ -std=c++17 -O1 -Wall -Wextra -Werror "-I$top/examples/cpp" "-I$c" "$top/bench/native.cc" "$built/cvec_vector.o" \
+    compile_c cvec_vector "$built"
+    c++ -std=c++17 -O1 -Wall -Wextra -Werror "-I$top/bindings/cpp/include" "-I$c_headers" "$top/bench/native.cc" "$built/cvec_vector.o" \
         "$threads_library" "$kit_library" -lpthread -o "$built/native"
 }
 
@@ -111,7 +111,8 @@ counts() {
 works_in_memory_count_what_they_made() (
     has_native || exit "$is_skipped"
     make_native
-    counts '1000 100 200 400 25' read block=16 n=1000 draws=100
+    # Learned, in order by references and by pieces, at random by references, a view and visits with 1, 2 and 4 threads, one by one.
+    counts '1000 1000 1000 100 200 400 100 200 400 100 200 400 25' read block=16 n=1000 draws=100
     counts 992 memory block=16 n=1000
     counts 102400 memory block=1024 n=102400
     # A record has 8 bytes; the system may give memory by pages of 2 MiB.
@@ -133,7 +134,8 @@ readers_sum_what_another_thread_grows() (
 more_growths_than_an_open_vector_takes_are_no_work() (
     has_native || exit "$is_skipped"
     make_native
-    for words in 'memory block=1 n=1048569' 'read block=1 n=1048569 draws=1' 'beside threads=1 block=1 preload=1048568 n=1 cap_ms=1'; do
+    for words in 'memory block=1 n=536870905' 'read block=1 n=536870905 draws=1' \
+        'beside threads=1 block=1 preload=536870904 n=1 cap_ms=1'; do
         # shellcheck disable=SC2086 # each word is one
         measure 60 "$built/native" $words "dir=$work"
         [ "$status" -eq 3 ]

@@ -108,6 +108,8 @@ an_upgrade_commits_to_a_new_file() (
     given '5 6 7\n'
     run load u64 "$work/t.cv"
     is_noted upgrade u64 "$work/t.cv" "$work/folder/n.cv"
+    # FILE is read before NEW is made.
+    [ "$(head -n 1 "$work/calls")" = 'sync t.cv' ]
     grep -vx 'sync t.cv' "$work/calls" >"$work/of_new"
     mv "$work/of_new" "$work/calls"
     made 'sync folder' "$(creation n.cv)" "$(commit n.cv 11 38 01)" 'answer 16'

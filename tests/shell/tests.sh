@@ -68,19 +68,19 @@ for words, folder in (["--crate-name", "one"], "."), (["--crate-name", "one"], "
 RT
     chmod +x "$work/rt"
     cd "$work"
-    "$top/tests/gate_times" --table "$work/table" "$work/rt" ci >"$out"
+    "$top/tools/times" --table "$work/table" "$work/rt" ci >"$out"
     # Each step has seconds, more on a busy machine, and the tests, the compiler and what comes behind none.
     some='*[1-9][0-9]* |' none='*|'
     grep -q "^| one  *| $some $none $some $none $some $none $none $some\$" "$work/table"
     mkdir "$work/tools"
     cp "$work/rt" "$work/tools/prove"
-    "$top/tests/gate_times" --table "$work/table" "$work/tools/prove" --gate >"$out"
+    "$top/tools/times" --table "$work/table" "$work/tools/prove" --gate >"$out"
     grep -q "^| one  *| $some $none $some $none $some $none $none $some\$" "$work/table"
     # By itself it proves for a build.
-    "$top/tests/gate_times" --table "$work/table" "$work/tools/prove" >"$out"
+    "$top/tools/times" --table "$work/table" "$work/tools/prove" >"$out"
     grep -q "^| one  *| $none $none $none $none $none $some $some $some\$" "$work/table"
     status=0
-    "$top/tests/gate_times" sh -c 'exit 3' >"$out" || status=$?
+    "$top/tools/times" sh -c 'exit 3' >"$out" || status=$?
     [ "$status" -eq 3 ]
 )
 
@@ -258,8 +258,8 @@ the_gate_proves_half_as_many_crates_at_once_as_there_are_processors() (
 # A check that keeps its files as it makes them: two of one function, one of another. An older one lies there.
 slow_functions_of_a_crate_are_told() (
     there=$work/there kept=$work/there/crates/low/out/incremental
-    mkdir -p "$there/tests" "$there/bin" "$kept/old"
-    cp "$top/tests/slow" "$there/tests"
+    mkdir -p "$there/tools" "$there/bin" "$kept/old"
+    cp "$top/tools/slow" "$there/tools"
     touch -d @90 "$kept/old/Rattle-low-proofs.gone.Lts.oantt"
     cat >"$there/bin/rt" <<'SH'
 #!/bin/sh
@@ -275,19 +275,19 @@ echo 'what it says'
 SH
     chmod +x "$there/bin/rt"
     PATH=$there/bin:$PATH
-    "$there/tests/slow" low >"$out"
+    "$there/tools/slow" low >"$out"
     printf '%8s one.first\n%8s one.second\n' 4.0 2.0 | cmp - "$out"
-    [ "$("$there/tests/slow" low 1)" = '     4.0 one.first' ]
+    [ "$("$there/tools/slow" low 1)" = '     4.0 one.first' ]
     : >"$there/crates/low/broken"
     status=0
-    "$there/tests/slow" low >"$out" 2>"$err" || status=$?
+    "$there/tools/slow" low >"$out" 2>"$err" || status=$?
     [ "$status" -eq 1 ]
     [ ! -s "$out" ]
     [ "$(cat "$err")" = 'what it says' ]
     status=0
-    "$there/tests/slow" none 2>"$err" || status=$?
+    "$there/tools/slow" none 2>"$err" || status=$?
     [ "$status" -eq 2 ]
-    tells 'usage: tests/slow CRATE [N]'
+    tells 'usage: tools/slow CRATE [N]'
 )
 
 # Under `set -e` neither `! this` ends a test nor any part of `this && that` but the last.
@@ -308,8 +308,8 @@ no_library_of_an_earlier_run_is_left_by_the_gate() (
     rm "$there/tests/shell/second.sh"
     # It is told when the proofs began.
     echo "sleep 0.1; touch '$there/edited'" >>"$there/bin/rt"
-    printf '#!/bin/sh\nfind "%s/edited" -newer "$1" >"%s/told"\nexit 1\n' "$there" "$there" >"$there/tests/c_library"
-    chmod +x "$there/tests/c_library"
+    printf '#!/bin/sh\nfind "%s/edited" -newer "$1" >"%s/told"\nexit 1\n' "$there" "$there" >"$there/tools/archives"
+    chmod +x "$there/tools/archives"
     for name in cvec_c cvec_threads; do
         mkdir -p "$there/crates/$name/out"
         : >"$there/crates/$name/out/lib$name.a"

@@ -1,4 +1,4 @@
-# Threads of C that grow one vector (`cvec_threads`), by examples/c/cvec_vector.c.
+# Threads of C that grow one vector (`cvec_threads`), by bindings/c/src/cvec_vector.c.
 
 # ---- programs, each built once, beside the folder of a test's files
 
@@ -8,23 +8,33 @@ make_threads() {
     has_c || exit $is_skipped
     make_threads_library
     mkdir -p "$built"
-    [ -e "$built/use" ] || compile_threads "$c/use_vector.c" "$c/cvec_vector.c" -o "$built/use"
-    [ -e "$built/behaviours" ] || compile_threads "$top/tests/threads/behaviours.c" -Wl,--wrap=malloc,--wrap=realloc -o "$built/behaviours"
-    [ -e "$built/fill" ] || compile_threads "$top/tests/threads/fill.c" "$c/cvec_vector.c" -o "$built/fill"
-    [ -e "$built/writer" ] || compile_threads "$top/tests/threads/writer.c" "$c/cvec_vector.c" -o "$built/writer"
+    [ -e "$built/use" ] || compile_threads "$c/use_vector.c" -o "$built/use"
+    [ -e "$built/behaviours" ] || compile_over_library "$top/tests/threads/behaviours.c" "-I$c_sources" -Wl,--wrap=malloc,--wrap=realloc -o "$built/behaviours"
+    [ -e "$built/fill" ] || compile_threads "$top/tests/threads/fill.c" -o "$built/fill"
+    [ -e "$built/writer" ] || compile_threads "$top/tests/threads/writer.c" -o "$built/writer"
 }
 
 # ---- the programs of the page and the example
 
-the_c_program_of_the_page_grows_and_reads() (
+# The program of this number on the page.
+shown_program() { shown_in use/threads.md c | awk -v wanted="$1" '/^#include "cvec_vector.h"$/ { at++ } at == wanted'; }
+
+the_c_programs_of_the_page_grow_and_read() (
     has_c || exit $is_skipped
     make_threads_library
-    shown_in use/threads.md c >"$work/shown.c"
-    compile_threads "$work/shown.c" "$c/cvec_vector.c" -o "$work/shown"
-    "$work/shown" "$work/t.cv" >"$out"
+    for number in 1 2; do
+        shown_program $number >"$work/shown.c"
+        compile_threads "$work/shown.c" -o "$work/shown$number"
+    done
+    "$work/shown1" "$work/t.cv" >"$out"
     [ "$(cat "$out")" = '3 at 0' ]
     run list u64 "$work/t.cv"
     did '5\n7\n11\n'
+    rm "$work/t.cv"
+    "$work/shown2" "$work/t.cv" >"$out"
+    [ "$(cat "$out")" = 499500 ]
+    run list u64 "$work/t.cv"
+    seq 0 999 | cmp - "$out"
 )
 
 a_wait_of_the_library_for_threads_is_as_long_as_it_says() (
@@ -66,7 +76,7 @@ int __wrap_pthread_create(pthread_t *thread, const pthread_attr_t *how, void *(*
     return ++asked == 3 ? EAGAIN : __real_pthread_create(thread, how, run, with);
 }
 REFUSED
-    compile_threads "$c/use_vector.c" "$c/cvec_vector.c" "$work/refused.c" -Wl,--wrap=pthread_create -o "$work/use"
+    compile_threads "$c/use_vector.c" "$work/refused.c" -Wl,--wrap=pthread_create -o "$work/use"
     status=0
     timeout 60 "$work/use" "$work/t.cv" 8 5 >"$out" || status=$?
     [ "$status" -eq 1 ]
@@ -79,7 +89,7 @@ REFUSED
 make_example() {
     has_c || exit $is_skipped
     make_threads_library
-    compile_threads "$c/$1.c" "$c/cvec_vector.c" -Wconversion -o "$work/$1"
+    compile_threads "$c/$1.c" -Wconversion -o "$work/$1"
 }
 
 samples_of_sensors_go_on_in_c() (
@@ -166,15 +176,6 @@ a_behaviour_of_a_vector_in_c() {
     timeout 60 "$built/behaviours" "$1" "$work/t.cv"
 }
 
-# Each number that a call may answer has its sentence: the callers in other languages show just these.
-each_status_of_a_vector_has_a_sentence() (
-    a_behaviour_of_a_vector_in_c texts >"$out"
-    cmp "$top/tests/bindings/vector_texts.txt" "$out"
-    sed -n '/^enum cvec_vector_status/,/^}/s/^ *CVEC_[A-Z_]* = \([0-9]*\).*/\1/p' "$c/cvec_vector.h" >"$work/numbers"
-    [ "$(wc -l <"$work/numbers")" -gt 3 ]
-    awk '$1 >= 64 { print $1 }' "$out" | cmp - "$work/numbers"
-)
-
 a_vector_in_c_is_open_once() (
     a_behaviour_of_a_vector_in_c lock
     rm "$work/t.cv"
@@ -218,7 +219,7 @@ memory_that_a_vector_in_c_is_refused_loses_nothing() (
 # 64 MB of records: while they are opened the file's bytes stand beside them, and then they alone.
 opening_in_c_holds_the_bytes_of_a_file_once() (
     make_threads
-    compile_threads "$top/tests/threads/opening.c" "$c/cvec_vector.c" -o "$work/opening"
+    compile_threads "$top/tests/threads/opening.c" -o "$work/opening"
     seq 0 7999999 >"$in"
     run create u64 "$work/t.cv"
     run append u64 "$work/t.cv" --block=131071
@@ -233,15 +234,15 @@ a_vector_in_c_that_is_full_goes_on_by_its_seats() (
     a_behaviour_of_a_vector_in_c full
 )
 
-# Past 1,048,568 growths of one record each, by 1, 4 and 16 threads, beside a flusher, waits and calls of the whole vector.
+# Three phases of growths of one record each, by 1, 4 and 16 threads, beside a flusher, waits and calls of the whole vector.
 threads_of_c_fill_phases() (
     make_threads
     for threads in 1 4 16; do
         rm -f "$work/t.cv"
-        timeout 60 "$built/fill" "$work/t.cv" "$threads" 1200000 >"$out"
-        [ "$(cat "$out")" = '1200000 growths, each there once' ]
+        timeout 60 "$built/fill" "$work/t.cv" "$threads" 240000 100000 >"$out"
+        [ "$(cat "$out")" = '240000 growths, each there once' ]
         run check u32 "$work/t.cv"
-        [ "$(cut -d ' ' -f -7 "$out")" = 'ok version 2 width 4 size 1200000' ]
+        [ "$(cut -d ' ' -f -7 "$out")" = 'ok version 2 width 4 size 240000' ]
     done
 )
 
@@ -275,7 +276,7 @@ threads_of_c_that_are_killed_as_a_phase_ends_lose_nothing_settled() (
     while
         rm -f "$work/t.cv"
         status=0
-        KILL_AT=$kill_at LD_PRELOAD=$work/syncs.so timeout 60 "$built/fill" "$work/t.cv" 4 1100000 told >"$out" || status=$?
+        KILL_AT=$kill_at LD_PRELOAD=$work/syncs.so timeout 60 "$built/fill" "$work/t.cv" 4 110000 100000 told >"$out" || status=$?
         [ "$status" -ne 0 ]
     do
         [ "$status" -eq 137 ]
@@ -284,8 +285,8 @@ threads_of_c_that_are_killed_as_a_phase_ends_lose_nothing_settled() (
         [ "$kill_at" -lt 40 ]
     done
     # Some were killed before the first phase was durable, and some behind it.
-    [ "$(awk '$1 < 1048568' "$work/left" | wc -l)" -gt 0 ]
-    [ "$(awk '$1 >= 1048568' "$work/left" | wc -l)" -gt 0 ]
+    [ "$(awk '$1 < 100000' "$work/left" | wc -l)" -gt 0 ]
+    [ "$(awk '$1 >= 100000' "$work/left" | wc -l)" -gt 0 ]
 )
 
 a_phase_of_c_that_ends_beside_calls_refuses_none() (
@@ -363,6 +364,12 @@ a_flusher_in_c_commits_what_nobody_awaits() (
     a_behaviour_of_a_vector_in_c flusher
     rm "$work/t.cv"
     a_behaviour_of_a_vector_in_c flusher_takes_all
+    rm "$work/t.cv"
+    a_behaviour_of_a_vector_in_c flusher_once
+)
+
+a_flusher_in_c_commits_blocks() (
+    a_behaviour_of_a_vector_in_c flusher_takes_blocks
 )
 
 a_flusher_in_c_ends_by_what_is_refused() (
@@ -394,10 +401,10 @@ makes_random_calls_under() {
     has_c || exit $is_skipped
     has_sanitizer "$1" || exit $is_skipped
     make_threads_library
-    compile_threads "$top/tests/threads/random_calls.c" "$c/cvec_vector.c" -g "-fsanitize=$1" -fno-sanitize-recover=all -o "$work/calls"
+    compile_threads "$top/tests/threads/random_calls.c" -g "-fsanitize=$1" -fno-sanitize-recover=all -o "$work/calls"
     seed=$(od -An -N4 -tu4 /dev/urandom | tr -d ' ')
     echo "seed $seed"
-    TSAN_OPTIONS=suppressions=$top/tests/threads/suppressed.txt timeout 300 "$work/calls" "$work/t.cv" "$seed" 8 2>"$err" ||
+    timeout 300 "$work/calls" "$work/t.cv" "$seed" 8 2>"$err" ||
         { cat "$err" && exit 1; }
     [ ! -s "$err" ]
     run check u64 "$work/t.cv"
@@ -410,4 +417,125 @@ random_calls_in_c_use_memory_rightly() (
 
 random_calls_in_c_are_in_order() (
     makes_random_calls_under thread
+)
+
+# ---- what is lent
+
+while_a_vector_in_c_is_held_nobody_has_it_whole() (
+    for behaviour in hold_refuses hold_waits hold_comes_first hold_renews hold_broken hold_forks; do
+        rm -f "$work/t.cv"
+        a_behaviour_of_a_vector_in_c $behaviour
+    done
+)
+
+memory_that_is_refused_in_c_takes_nothing_lent() (
+    a_behaviour_of_a_vector_in_c compaction_memory
+    rm "$work/t.cv"
+    a_behaviour_of_a_vector_in_c seats_are_lost
+)
+
+make_lent() {
+    has_c || exit $is_skipped
+    make_threads_library
+    mkdir -p "$built"
+    [ -e "$built/lent" ] || compile_threads "$top/tests/threads/lent.c" -Wconversion -o "$built/lent"
+}
+
+# A behaviour of what is lent, by its name.
+lends_in_c() {
+    make_lent
+    timeout 120 "$built/lent" "$1" "$work/t.cv"
+}
+
+pieces_of_a_vector_in_c_are_where_they_are_said() (
+    lends_in_c pieces
+)
+
+what_is_lent_in_c_stays_while_threads_grow() (
+    lends_in_c stays
+)
+
+a_seat_in_c_counts_and_finds_beside_growers() (
+    lends_in_c counts
+)
+
+a_block_in_c_is_grown_in_place() (
+    lends_in_c blocks
+    run check flagged "$work/t.cv"
+    [ "$(cut -d ' ' -f -7 "$out")" = 'ok version 2 width 9 size 15' ]
+)
+
+a_block_in_c_that_is_refused_stays() (
+    lends_in_c blocks_refused
+)
+
+a_block_in_c_is_published_in_the_next_phase() (
+    lends_in_c blocks_renewed
+)
+
+a_vector_in_c_that_lends_nothing_goes_on() (
+    lends_in_c goes_on
+)
+
+a_vector_in_c_that_lends_is_full_until_it_is_compacted() (
+    for behaviour in full full_by_blocks full_by_pushes stays_beside_refusals; do lends_in_c $behaviour; done
+)
+
+options_of_a_vector_in_c_are_refused_by_name() (
+    lends_in_c options
+)
+
+options_of_a_vector_in_c_have_defaults() (
+    lends_in_c defaults
+)
+
+# 4 bytes of addresses for each growth of the room, for each seat and who commits: 1 GiB together by default. Built with a sanitizer
+# a phase isn't wide.
+a_wide_phase_in_c_reserves_addresses() (
+    lends_in_c reserves >"$out"
+    read -r one all narrow <"$out"
+    for wide in "$one" "$all"; do
+        [ "$wide" -gt 1000000 ]
+        [ "$wide" -lt 1300000 ]
+    done
+    [ "$narrow" -lt 200000 ]
+    for sanitizer in address thread; do
+        has_sanitizer $sanitizer || exit $is_skipped
+        compile_threads "$top/tests/threads/lent.c" -fsanitize=$sanitizer -o "$work/lent"
+        "$work/lent" reserves "$work/t.cv" >"$out"
+        read -r one all narrow <"$out"
+        [ "$one" -lt 200000 ]
+        [ "$all" -lt 600000 ]
+    done
+)
+
+a_program_in_c_forks_beside_a_vector_as_it_is_by_default() (
+    lends_in_c forks_by_default
+)
+
+# Without addresses for a wide phase one takes 1,048,568 growths.
+what_is_lent_in_c_stays_where_a_phase_is_narrow() (
+    make_lent
+    (ulimit -v 1500000 && exec timeout 120 "$built/lent" narrow "$work/t.cv")
+)
+
+# What threads lend and read beside growers, under this sanitizer.
+lends_under() {
+    has_c || exit $is_skipped
+    has_sanitizer "$1" || exit $is_skipped
+    make_threads_library
+    compile_threads "$top/tests/threads/lent.c" -g "-fsanitize=$1" -fno-sanitize-recover=all -o "$work/lent"
+    for behaviour in pieces stays counts blocks blocks_refused blocks_renewed goes_on full full_by_blocks; do
+        timeout 300 "$work/lent" $behaviour "$work/t.cv" 2>"$err" ||
+            { cat "$err" && exit 1; }
+        [ ! -s "$err" ]
+    done
+}
+
+what_is_lent_in_c_is_memory_that_is_had() (
+    lends_under address,undefined
+)
+
+what_is_lent_in_c_is_in_order() (
+    lends_under thread
 )

@@ -1,6 +1,6 @@
 # The vector that threads of Python grow (bindings/python/cvec_vector.py), over the library for threads of C.
 
-# ---- the shared library, built once as docs/use/threads.md says, beside the folder of a test's files
+# ---- the shared library, built once as docs/use/threads.md builds a program, beside the folder of a test's files
 
 built=$work-built
 
@@ -19,7 +19,7 @@ make_python_vector() {
     make_threads_library
     mkdir -p "$built"
     if [ -e "$built/libcvec_vector.so" ]; then return; fi
-    cc -std=c99 -O2 -fPIC -Wall -Wextra -Werror -pedantic -c "$c/cvec_vector.c" -o "$built/cvec_vector.o"
+    compile_c cvec_vector "$built"
     cc -shared -o "$built/libcvec_vector.so" "$built/cvec_vector.o" "$threads_library" "$kit_library" -lpthread
 }
 
@@ -69,15 +69,47 @@ the_python_example_grows_by_threads() (
     seq 0 249 | cmp - "$work/rest"
 )
 
+# The page has two programs, each of which begins with what it uses.
+run_program_of_the_page() {
+    shown_in use/python.md python | awk -v wanted="$1" '/^import sys/ { at++ } at == wanted' >"$work/shown.py"
+    python_vector_runs "$work/shown.py" "$work/t.cv" >"$out"
+}
+
 the_python_program_of_the_page_grows_by_threads() (
     has_python_vector || exit $is_skipped
     make_python_vector
-    shown_in use/threads.md python >"$work/shown.py"
-    python_vector_runs "$work/shown.py" "$work/t.cv" >"$out"
+    run_program_of_the_page 1
     echo '16 records, 8 growths durable' | cmp - "$out"
     run list u64 "$work/t.cv"
     paste -d ' ' - - <"$out" | sort >"$work/blocks"
     for name in 0 1 2 3 4 5 6 7; do echo "$name $((name + 100))"; done | cmp - "$work/blocks"
+)
+
+# A sample is a sensor, a second, and half the second as a double.
+the_python_program_of_the_page_writes_rows_in_place() (
+    has_python_vector || exit $is_skipped
+    "$python" -c 'import numpy' 2>/dev/null || lacks 'there is no numpy for arrays for Python' || exit $is_skipped
+    make_python_vector
+    run_program_of_the_page 2
+    echo '60 samples up to 29.5, the last (7, 59, 29.5)' | cmp - "$out"
+    run list u64 "$work/t.cv"
+    [ "$(wc -l <"$out")" -eq 180 ]
+    [ "$(sed -n '1p;5p;9p' "$out" | tr '\n' ' ')" = '7 1 4607182418800017408 ' ]
+)
+
+# The commands of the page, in a copy of the repository over the crates as they are built.
+the_build_of_the_page_makes_the_python_example() (
+    has_python_vector && has make 'the libraries' || exit $is_skipped
+    make_c_library
+    make_threads_library
+    mkdir "$work/there"
+    cd "$work/there"
+    cp -Rp "$top/bindings" "$top/examples" "$top/tools" "$top/Makefile" "$top/crates.txt" .
+    ln -s "$top/crates" .
+    sed -n '/^```sh$/,/^```$/p' "$top/docs/use/python.md" | sed '/^```/d' >"$work/build.sh"
+    unset CVEC_LIB
+    PYTHONDONTWRITEBYTECODE=1 sh -e "$work/build.sh" >"$out" 2>"$err" || { cat "$err" && exit 1; }
+    printf '286 records of 15 growths\n286 records, the last 249, in all 31185\n' | cmp - "$out"
 )
 
 samples_of_sensors_go_on_in_python() (
@@ -125,6 +157,7 @@ a_python_vector_takes_arrays_of_numpy() (
 a_python_vector_has_rows_of_a_dtype() (
     is_so_with_numpy rows_of_a_dtype
     is_so_with_numpy rows_with_padding
+    is_so_with_numpy tuples_for_a_dtype
 )
 
 a_python_vector_has_records_of_each_type() (
@@ -199,7 +232,99 @@ calls_of_a_whole_python_vector_that_are_killed_are_made_or_not() (
     did '40\n'
 )
 
-# ---- more growths than C counts
+# ---- what is lent
+
+what_a_python_vector_lends_stays() (
+    is_so_with_and_without_numpy what_is_lent_stays
+)
+
+what_a_python_vector_lends_is_read_alone() (
+    is_so_with_and_without_numpy what_is_lent_is_read_alone
+)
+
+what_a_python_vector_lends_holds_it() (
+    is_so_with_and_without_numpy what_is_lent_holds_the_vector
+    rm -rf "$work/files"
+    is_so_with_and_without_numpy an_exception_goes_on_where_records_are_lent
+)
+
+a_python_vector_is_searched_beside_calls() (
+    is_so_with_and_without_numpy count_and_find_need_nobody_out
+    rm -rf "$work/files"
+    is_so_with_and_without_numpy what_equals_is_found
+)
+
+no_call_of_python_is_made_for_each_record() (
+    is_so_with_and_without_numpy no_call_is_made_for_each_record
+    rm -rf "$work/files"
+    is_so_with_and_without_numpy passes_go_over_any_growths
+    rm -rf "$work/files"
+    is_so_with_and_without_numpy short_growths_are_copied_by_c
+    rm -rf "$work/files"
+    is_so_with_and_without_numpy a_pass_copies_no_more_than_it_takes
+)
+
+a_pass_of_python_holds_a_vector_no_longer() (
+    is_so_with_and_without_numpy nobody_waits_for_what_was_read
+    rm -rf "$work/files"
+    is_so_with_and_without_numpy records_stay_under_a_pass
+)
+
+numpy_takes_a_python_vector() (
+    is_so_with_numpy numpy_takes_a_vector
+)
+
+a_python_vector_is_compacted() (
+    is_so_with_and_without_numpy each_piece_is_put_behind_the_others
+)
+
+a_python_vector_makes_room_where_nothing_is_lent() (
+    is_so_with_and_without_numpy a_room_of_eight
+)
+
+threads_of_python_read_where_records_stand() (
+    is_so_with_and_without_numpy threads_lend_and_change
+)
+
+a_forked_python_process_reads_what_was_lent() (
+    is_so_with_and_without_numpy a_forked_process_reads_what_was_lent
+)
+
+what_is_lent_outlives_a_python_vector() (
+    is_so_with_and_without_numpy what_is_lent_outlives_the_vector
+    rm -rf "$work/files"
+    is_so_with_and_without_numpy cycles_of_what_is_lent_are_collected
+    rm -rf "$work/files"
+    is_so_with_and_without_numpy a_program_ends_with_what_is_lent
+)
+
+# ---- growth in place
+
+rows_of_a_python_vector_are_written_in_place() (
+    is_so_with_and_without_numpy rows_are_written_in_place
+)
+
+a_block_of_python_that_is_left_by_an_exception_is_dropped() (
+    is_so_with_and_without_numpy a_block_that_is_left_by_an_exception_is_dropped
+)
+
+what_is_kept_of_a_block_of_python_writes_no_record() (
+    is_so_with_and_without_numpy what_is_kept_of_a_block_writes_no_record
+)
+
+a_block_of_python_is_refused_as_a_growth_is() (
+    is_so_with_and_without_numpy a_block_is_refused_as_a_growth_is
+)
+
+blocks_of_python_that_are_interrupted_are_grown_once() (
+    is_so_with_and_without_numpy blocks_are_interrupted
+)
+
+threads_of_python_grow_in_place() (
+    is_so_with_and_without_numpy threads_grow_in_place
+)
+
+# ---- more growths than a phase has room for
 
 a_full_python_vector_goes_on() (
     has_python_vector || exit $is_skipped
@@ -224,6 +349,18 @@ each_status_in_python_has_the_sentence_of_c() (
 
 a_python_vector_names_each_refusal() (
     is_so_with_and_without_numpy each_refusal
+)
+
+what_the_system_refused_to_a_python_vector_is_an_os_error() (
+    is_so_without_numpy what_the_system_refused_is_an_os_error
+)
+
+a_python_vector_shows_what_it_is() (
+    is_so_with_and_without_numpy a_vector_shows_what_it_is
+)
+
+a_python_vector_is_opened_or_created() (
+    is_so_without_numpy a_vector_is_opened_or_created
 )
 
 a_refusal_of_a_python_vector_goes_to_another_process() (
@@ -293,6 +430,22 @@ a_flusher_in_python_commits_what_nobody_settles() (
     is_so_without_numpy a_close_waits_for_a_flusher_that_is_late
     rm -rf "$work/files"
     is_so_without_numpy a_close_that_is_interrupted_is_made_again
+)
+
+a_flusher_in_python_lasts_as_long_as_its_block() (
+    is_so_without_numpy a_flusher_lasts_as_long_as_its_block
+    rm -rf "$work/files"
+    is_so_without_numpy a_block_of_a_flusher_reports_what_is_refused
+    rm -rf "$work/files"
+    is_so_without_numpy a_vector_that_is_given_up_ends_its_flusher
+    rm -rf "$work/files"
+    is_so_without_numpy a_forked_process_leaves_the_block_of_a_flusher
+)
+
+a_flusher_in_python_ends_with_its_program() (
+    is_so_without_numpy an_interrupt_ends_a_flusher_of_the_main_thread
+    rm -rf "$work/files"
+    is_so_without_numpy a_program_ends_beside_flushers
 )
 
 a_python_vector_that_is_closed_waits_for_calls() (

@@ -10,7 +10,7 @@ make_rust_vector() {
     make_threads_library
     mkdir -p "$built"
     if [ -e "$built/libcvec_vector.rlib" ]; then return; fi
-    cc -std=c99 -O2 -fPIC -Wall -Wextra -Werror -pedantic -c "$c/cvec_vector.c" -o "$built/cvec_vector.o"
+    compile_c cvec_vector "$built"
     rustc --edition 2024 -D warnings --crate-type rlib --crate-name cvec_vector -o "$built/libcvec_vector.rlib" \
         "$top/bindings/rust/vector/src/lib.rs"
 }
@@ -55,7 +55,7 @@ a_rust_vector_has_records_of_each_type() (
 the_rust_example_grows_by_threads() (
     has_rust_vector || exit $is_skipped
     make_rust_vector
-    make_rust_program "$top/bindings/rust/vector/examples/use_vector.rs" "$work/use"
+    make_rust_program "$top/examples/rust/use_vector.rs" "$work/use"
     "$work/use" "$work/t.cv" >"$out"
     printf '286 records of 15 growths\n286 records, the last 249, in all 31185\n' | cmp - "$out"
     run list u64 "$work/t.cv"
@@ -68,51 +68,63 @@ the_rust_example_grows_by_threads() (
 samples_of_sensors_go_on_in_rust() (
     has_rust_vector || exit $is_skipped
     make_rust_vector
-    make_rust_program "$top/bindings/rust/vector/examples/samples.rs" "$work/samples"
+    make_rust_program "$top/examples/rust/samples.rs" "$work/samples"
     goes_on_with_its_samples "$work/samples"
 )
 
 words_are_indexed_in_rust() (
     has_rust_vector || exit $is_skipped
     make_rust_vector
-    make_rust_program "$top/bindings/rust/vector/examples/word_index.rs" "$work/word_index"
+    make_rust_program "$top/examples/rust/word_index.rs" "$work/word_index"
     indexes_words 1 "$work/word_index"
 )
 
 results_of_a_pool_are_kept_in_rust() (
     has_rust_vector || exit $is_skipped
     make_rust_vector
-    make_rust_program "$top/bindings/rust/vector/examples/pool.rs" "$work/pool"
+    make_rust_program "$top/examples/rust/pool.rs" "$work/pool"
     has_results_of_a_pool u64 2 "$work/pool"
 )
 
-the_rust_program_of_the_page_grows_by_threads() (
+# The page has two programs, each of which begins with what it uses.
+make_program_of_the_page() {
     has_rust_vector || exit $is_skipped
     make_rust_vector
-    shown_in use/threads.md rust >"$work/shown.rs"
+    shown_in use/rust.md rust | awk -v wanted="$1" '/^use cvec_vector/ { at++ } at == wanted' >"$work/shown.rs"
     make_rust_program "$work/shown.rs" "$work/shown"
     "$work/shown" "$work/t.cv" >"$out"
+}
+
+the_rust_program_of_the_page_grows_by_threads() (
+    make_program_of_the_page 1
     echo '16 records, 8 growths durable' | cmp - "$out"
     run list u64 "$work/t.cv"
     paste -d ' ' - - <"$out" | sort >"$work/blocks"
     for name in 0 1 2 3 4 5 6 7; do echo "$name $((name + 100))"; done | cmp - "$work/blocks"
 )
 
-# The commands of the page's section, in a copy of the repository over the crates as they are built.
-the_build_of_the_page_makes_both() (
-    has_c && has make 'the libraries' && has cargo 'a crate of plain Rust' && has python3 'the vector for Python' || exit $is_skipped
+# A sensor and a second are the key, and half the second, as a double, is the value.
+the_rust_program_of_the_page_writes_structs_in_place() (
+    make_program_of_the_page 2
+    echo '60 samples up to 29.5, the last Sample { sensor: 7, second: 59, value: 29.5 }' | cmp - "$out"
+    run list pair "$work/t.cv"
+    [ "$(wc -l <"$out")" -eq 60 ]
+    [ "$(sed -n '1p;3p' "$out" | tr '\n' ' ')" = '7:0 8589934599:4607182418800017408 ' ]
+)
+
+# The commands of the page, in a copy of the repository over the crates as they are built.
+the_build_of_the_page_makes_the_rust_example() (
+    has_c && has make 'the libraries' && has cargo 'a crate of plain Rust' || exit $is_skipped
     make_c_library
     make_threads_library
     mkdir "$work/there"
     cd "$work/there"
     cp -Rp "$top/bindings" "$top/examples" "$top/tools" "$top/Makefile" "$top/crates.txt" .
     ln -s "$top/crates" .
-    sed -n '/^## From Python/,$p' "$top/docs/use/threads.md" | sed -n '/^```sh$/,/^```$/p' | sed '/^```/d' >"$work/build.sh"
+    sed -n '/^```sh$/,/^```$/p' "$top/docs/use/rust.md" | sed '/^```/d' >"$work/build.sh"
     unset CVEC_LIB
-    CARGO_NET_OFFLINE=true PYTHONDONTWRITEBYTECODE=1 sh -e "$work/build.sh" >"$out" 2>"$err" || { cat "$err" && exit 1; }
-    for _ in python rust; do
-        printf '286 records of 15 growths\n286 records, the last 249, in all 31185\n'
-    done | cmp - "$out"
+    CARGO_NET_OFFLINE=true sh -e "$work/build.sh" >"$out" 2>"$err" || { cat "$err" && exit 1; }
+    printf '286 records of 15 growths\n286 records, the last 249, in all 31185\n' | cmp - "$out"
 )
 
 the_rust_document_compiles() (
@@ -127,6 +139,54 @@ a_rust_vector_grows_and_reads() (
     printf '%s\n' 5 7 11 18446744073709551615 0 13 17 | has_lines
     run check u64 "$work/files/t.cv"
     [ "$(cut -d ' ' -f -7 "$out")" = 'ok version 2 width 8 size 7' ]
+)
+
+# The last of them are five samples, of three words each.
+a_rust_vector_has_own_structs_as_records() (
+    is_so_in_rust has_own_structs
+    run list u64 "$work/files/t.cv"
+    [ "$(sed -n '7,9p' "$out" | tr '\n' ' ')" = '4294967296 4746794007248502784 562954248388608 ' ]
+    [ "$(wc -l <"$out")" -eq 15 ]
+)
+
+own_structs_are_searched_and_resized_in_rust() (
+    is_so_in_rust searches_and_resizes_own_structs
+    run check u64 "$work/files/t.cv"
+    [ "$(cut -d ' ' -f -7 "$out")" = 'ok version 1 width 8 size 6' ]
+)
+
+threads_of_rust_keep_what_they_are_lent() (
+    is_so_in_rust lends
+    run check u64 "$work/files/t.cv"
+    [ "$(cut -d ' ' -f -7 "$out")" = 'ok version 1 width 8 size 19999' ]
+)
+
+a_rust_vector_that_has_lent_records_is_full() (
+    is_so_in_rust is_full_where_it_lends
+    seq 0 64 | has_lines
+)
+
+a_view_of_a_rust_vector_has_its_records_by_position() (
+    is_so_in_rust views
+    run check u64 "$work/files/t.cv"
+    [ "$(cut -d ' ' -f -7 "$out")" = 'ok version 1 width 8 size 303889' ]
+)
+
+a_rust_vector_grows_in_place() (
+    is_so_in_rust fills_in_place
+    printf '%s\n' 1 2 3 3 2 | has_lines
+)
+
+a_rust_vector_is_searched_beside_growers() (
+    is_so_in_rust searches_beside_growers
+    run check u64 "$work/files/t.cv"
+    [ "$(cut -d ' ' -f -7 "$out")" = 'ok version 1 width 8 size 27000' ]
+)
+
+a_rust_vector_takes_options() (
+    is_so_in_rust has_options
+    run check u64 "$work/files/t.cv"
+    [ "$(cut -d ' ' -f -7 "$out")" = 'ok version 2 width 8 size 0' ]
 )
 
 a_rust_appender_grows_by_blocks() (
@@ -260,7 +320,7 @@ the_compiler_refuses_what_a_seat_is_not_for() (
     is_refused_by_rustc 'cannot be shared between threads safely'
     sed -i '/scope/d' "$work/wrong.rs"
     is_refused_by_rustc 'cannot move out of `vector` because it is borrowed'
-    for call in 'change(0, \&[5])' 'resize(0, 5)' 'clear()' 'fold()' 'count(5)' 'find(5, 0)'; do
+    for call in 'change(0, \&[5])' 'resize(0, 5)' 'clear()' 'fold()' 'compact()'; do
         sed "s/close(vector: Vector)/change(mut vector: Vector)/; s/vector\.close()/vector.$call/" "$work/wrong.rs" >"$work/changed.rs"
         sed '/seat\.settled/s/.*/    Ok(0)/; /let seat/d' "$work/changed.rs" >"$work/right.rs"
         compile_wrong "$work/right.rs"
@@ -268,6 +328,84 @@ the_compiler_refuses_what_a_seat_is_not_for() (
     done
     sed -i '/vector.close/d' "$work/wrong.rs"
     compile_wrong
+)
+
+# The numbers of the errors for which this program of tests/bindings isn't compiled, with these names, each once.
+errors_of() {
+    program_of_errors=$top/tests/bindings/$1.rs
+    shift
+    if rustc --edition 2024 --crate-type lib --emit=metadata --error-format short -o "$work/wrong" "$program_of_errors" \
+        --extern "cvec_vector=$built/libcvec_vector.rlib" "$@" 2>"$err"; then
+        echo none
+        return
+    fi
+    sed -n 's/^[^ ]* error\[\(E[0-9]*\)\].*/\1/p' "$err" | sort -u
+}
+
+# Each line has names, with which the program is refused for this error alone, in these words. With the other name besides it isn't.
+is_refused_for_each() {
+    [ "$(errors_of "$1")" = none ]
+    while IFS='|' read -r names wanted sentence; do
+        words=
+        for name in $names; do words="$words --cfg $name"; done
+        # shellcheck disable=SC2086 # several words
+        [ "$(errors_of "$1" $words)" = "$wanted" ] && tells "$sentence" || { echo "$names" && cat "$err" && exit 1; }
+        # shellcheck disable=SC2086
+        [ "$(errors_of "$1" $words --cfg "$2")" = none ] || { echo "$names $2" && cat "$err" && exit 1; }
+    done
+}
+
+the_compiler_keeps_what_is_lent() (
+    has_rust_vector || exit $is_skipped
+    make_rust_vector
+    is_refused_for_each vector_lent used_before <<'NAMES'
+change|E0502|cannot borrow `vector` as mutable
+resize|E0502|cannot borrow `vector` as mutable
+clear|E0502|cannot borrow `vector` as mutable
+fold|E0502|cannot borrow `vector` as mutable
+compact|E0502|cannot borrow `vector` as mutable
+close|E0505|cannot move out of `vector`
+end|E0505|cannot move out of `vector`
+swap|E0502|cannot borrow `vector` as mutable
+assign|E0506|cannot assign to `vector`
+send|E0505|cannot move out of `vector`
+outlive|E0597|`vector` does not live long enough
+keep|E0521|borrowed data escapes
+change of_pieces|E0502|cannot borrow `vector` as mutable
+compact of_view|E0502|cannot borrow `vector` as mutable
+close of_record|E0505|cannot move out of `vector`
+NAMES
+)
+
+the_compiler_keeps_a_seat_in_its_thread() (
+    has_rust_vector || exit $is_skipped
+    make_rust_vector
+    is_refused_for_each vector_shared here <<'NAMES'
+seat_shared|E0277|cannot be shared between threads safely
+pieces_sent|E0277|cannot be shared between threads safely
+appender_sent|E0277|cannot be shared between threads safely
+NAMES
+)
+
+the_compiler_refuses_structs_that_are_no_records() (
+    has_rust_vector || exit $is_skipped
+    make_rust_vector
+    is_refused_for_each vector_records mended <<'NAMES'
+padded|E0080|a record has no padding between its fields or behind them
+padded_behind|E0080|a record has no padding between its fields or behind them
+hidden|E0026|does not have a field named `other`
+reference|E0277|`&'static u64` isn't plain: not any bytes are a value of it
+boolean|E0277|`bool` isn't plain: not any bytes are a value of it
+character|E0277|`char` isn't plain: not any bytes are a value of it
+pointer|E0277|isn't plain: not any bytes are a value of it
+machine|E0277|`usize` isn't plain: not any bytes are a value of it
+unsaid|E0277|`Inner` isn't plain: not any bytes are a value of it
+small|E0080|a record has 4 bytes, or 8, 16, 24, .. 256
+odd|E0080|a record has 4 bytes, or 8, 16, 24, .. 256
+large|E0080|a record has 4 bytes, or 8, 16, 24, .. 256
+unaligned|E0080|a larger one to 8: write #[repr(align(8))] over the struct
+overaligned|E0080|a record is aligned to 8 bytes at most
+NAMES
 )
 
 # No round of kills: 8 threads with 20 growths each are all told.
