@@ -472,7 +472,7 @@ a_copy_of_a_file_that_was_replaced_is_refused() (
     keeps_same
     [ "$status" -eq 3 ]
     rm "$work/t.db"
-    follows '' '+ 5\\n. 33:1:0\\n' "mv '$work/t.cv' '$work/gone'; printf '+ 6\\\\n. 40:2:0\\\\n'"
+    follows '' '+ 5\\n. 33:1:0\\n' "mv '$work/t.cv' '$work/gone'; printf '+ 6\\n. 40:2:0\\n'"
     keeps_same
     [ "$status" -eq 3 ]
     tells 'refused: replaced'
