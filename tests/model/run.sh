@@ -1,10 +1,12 @@
 #!/bin/sh
-# run.sh [all | deep | bugs [N..] | trail N]: explores the models by spin, as README.md tells.
+# run.sh [all [NAME..] | deep [NAME..] | bugs [N..] | trail N]: explores the models by spin, as README.md tells.
 #
 # run.sh            the checks: of each, how many states there are, the depth, the seconds and the memory
 # run.sh deep       the checks that take longer
 # run.sh bugs       each planted bug: it has to be found, by the property that the table below names
 # run.sh trail N    a schedule that finds the bug of this number, statement by statement
+#
+# With names of scenarios, or numbers of bugs: these alone.
 #
 # It needs spin and a C compiler, one processor and less than 3 GB. The last line is 'N passed, N failed'.
 here=$(cd "$(dirname "$0")" && pwd) || exit 1
@@ -47,6 +49,7 @@ hold_compact|seats.pml|-DSEATS=1 -DLIMIT=1 -DWORKERS=1 -DHOLDERS=1 -DWHOLES=1 -D
 hold_by_two|seats.pml|-DSEATS=2 -DLIMIT=1 -DWORKERS=1 -DHOLDERS=2 -DGROWTHS=2 -DNO_LINE
 hold_by_two_whole|seats.pml|-DSEATS=1 -DLIMIT=1 -DWORKERS=0 -DHOLDERS=2 -DWHOLES=1 -DFLUSHERS=1 -DREFUSALS=1
 push|seats.pml|-DSEATS=2 -DLIMIT=1 -DWORKERS=2 -DREFUSALS=1 -DFAILURES=1 -DPUSHES -DNO_LINE
+push_refused|seats.pml|-DSEATS=1 -DLIMIT=1 -DWORKERS=1 -DGROWTHS=3 -DREFUSALS=2 -DPUSHES -DNO_LINE
 push_often|seats.pml|-DSEATS=2 -DLIMIT=1 -DWORKERS=2 -DGROWTHS=2 -DREFUSALS=1 -DPUSHES -DNO_LINE
 fork|fork.pml|
 TABLE
@@ -64,7 +67,6 @@ flush_twice|all
 flush_once|all
 flush_by_one|fair
 renew|all
-renew|finite
 renew_refused|all
 renew_in_line|all
 line|all
@@ -76,8 +78,8 @@ lend_compact|all
 hold|all
 hold_compact|all
 push|all
+push_refused|all
 fork|all
-fork|finite
 TABLE
 }
 
@@ -89,12 +91,14 @@ flush_by_two|all
 flush_by_two|fair
 flush_for_two|all
 whole_two|finite
+fork|finite
 renew_in_line|finite
 line|finite
 renew_all|all
 renew_flush|all
 renew_whole|all
 whole_late|all
+renew|finite
 lend|finite
 lend_refused|all
 lend_often|all
@@ -170,7 +174,7 @@ bugs() {
 64|lend|all|what is lent stays
 65|lend|all|what is lent stays
 66|push_often|all|nobody has all handles
-67|push_often|all|nobody has all handles
+67|push_refused|all|nobody has all handles
 68|push|all|deadlock
 69|lend_often|all|a block is there
 70|flush_once|all|nobody is inside a vector that is closed
@@ -232,7 +236,9 @@ count() {
 
 check_all() {
     "$1" >"$session/table"
+    shift
     while IFS='|' read -r scenario kind; do
+        case " ${*:-$scenario} " in *" $scenario "*) ;; *) continue ;; esac
         explore "$scenario" "$kind"
         printf '%-18s %-6s %s  %s\n' "$scenario" "$kind" "$(size_told)" "${fault:-holds}"
         [ -z "$fault" ]
@@ -267,21 +273,20 @@ trap 'rm -rf "$session"' EXIT
 trap 'exit 1' HUP INT TERM
 work=$session/work
 mkdir "$work"
-case ${1-all} in
-all) check_all checks ;;
-deep) check_all deep_checks ;;
-bugs)
-    shift
-    find_bugs "$@"
-    ;;
+does=${1-all}
+[ $# -eq 0 ] || shift
+case $does in
+all) check_all checks "$@" ;;
+deep) check_all deep_checks "$@" ;;
+bugs) find_bugs "$@" ;;
 trail)
-    show_trail "$2"
+    show_trail "${1-}"
     exit
     ;;
 *)
-    echo 'usage: run.sh [all | deep | bugs [N..] | trail N]' >&2
+    echo 'usage: run.sh [all [NAME..] | deep [NAME..] | bugs [N..] | trail N]' >&2
     exit 2
     ;;
 esac
 echo "$passed passed, $failed failed"
-[ "$failed" -eq 0 ]
+[ "$failed" -eq 0 ] && [ "$passed" -gt 0 ]

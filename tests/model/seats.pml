@@ -35,6 +35,7 @@ inline choose_call() {
     :: call = PIECES
     :: !(blocks & MY_SEAT) -> call = BLOCK
     :: blocks & MY_SEAT -> call = PUBLISH
+    :: blocks & MY_SEAT -> call = DROP
     fi
 #else
 #ifdef PUSHES
@@ -76,7 +77,10 @@ inline work() {
     :: grows < GROWTHS ->
         grows++;
         choose_call();
-        call_by_seat();
+        if
+        :: call == DROP -> cvec_vector_drop()
+        :: else -> call_by_seat()
+        fi;
 #ifndef LENDS
         if
         :: answer == DONE && call == GROW ->

@@ -35,9 +35,9 @@ byte spurious = SPURIOUS, refusals = REFUSALS, failures = FAILURES;
 #endif
 
 mtype = { DONE, MEMORY, BROKEN, LATE, OUT_OF_RANGE, NOT_SO, IS_FULL, DISK_WRITE, DISK_SYNC, IS_BUSY };
-mtype = { FREE, INSIDE, ASIDE };                /* what a seat's thread does */
-mtype = { NONE, FRESH, LISTED, IDLE };          /* where a seat is: nowhere, being made, among `first`, among `idle` */
-mtype = { GROW, PUBLISH, PIECES, BLOCK, PUSH }; /* calls by a seat's grower */
+mtype = { FREE, INSIDE, ASIDE };       /* what a seat's thread does */
+mtype = { NONE, FRESH, LISTED, IDLE }; /* where a seat is: nowhere, being made, among `first`, among `idle` */
+mtype = { GROW, PUBLISH, PIECES, BLOCK, DROP, PUSH }; /* calls by a seat */
 
 #define NOBODY 255
 #define MINE (1 << id)
@@ -64,15 +64,15 @@ byte blocks, pushes; /* the seats that have a block, and those that have records
 #define MY_SEAT (1 << seat)
 
 /* ghost */
-bool closing;           /* a close is under way: no call begins */
-bool freed;             /* the vector is gone */
-byte calls;             /* so many calls by no seat are under way */
-byte total;             /* so many growths were made */
-bool has_all;           /* a call has all handles */
-byte owner[3] = NOBODY; /* who has the seat */
+bool closing;            /* a close is under way: no call begins */
+bool freed;              /* the vector is gone */
+byte calls;              /* so many calls by no seat are under way */
+byte total;              /* so many growths were made */
+bool has_all;            /* a call has all handles */
+byte owner[3] = NOBODY;  /* who has the seat */
 byte caller[3] = NOBODY; /* who is in a call by it */
-byte readers;           /* the threads that read what they were lent */
-bool is_lent;           /* of this phase something was lent, or is about to be */
+byte readers;            /* the threads that read what they were lent */
+bool is_lent;            /* of this phase something was lent, or is about to be */
 
 /* ---- libcvec_threads.a */
 
@@ -92,7 +92,7 @@ inline cvec_phase_seat() {
 }
 
 inline cvec_phase_size() {
-    assert(caller[seat] == id);                    /* one call at a time has a seat */
+    assert(caller[seat] == id);                /* one call at a time has a seat */
     assert(grower[seat] == phases && !has_all) /* a seat's grower is open, and nobody has all handles */
 }
 
