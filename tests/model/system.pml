@@ -1,5 +1,5 @@
-/* What vector.pml takes of the system: the mutex, the conditions and the time. What calls promise each other stands here too, since
- * the C has no line for it. A name here is none of the C's. */
+/* What vector.pml takes of the system: the mutex, the conditions and the time; and what callers promise, or are promised. No name here
+ * is one of the C's. */
 
 inline lock() {
     mutex == NOBODY -> mutex = id;
@@ -89,6 +89,15 @@ inline end_call() {
     unlock()
 }
 
-/* ---- what is lent: who may read it says when that ends */
+/* ---- what calls answered */
 
+/* A wait, for the growth of this thread's number, or for that many behind it. */
+inline check_answer(ahead) {
+    assert(answer != DONE || number + 1 + ahead <= synced);            /* what a wait tells to be durable is */
+    assert(answer != OUT_OF_RANGE || ahead > 0);                       /* a growth that was made is known */
+    assert((answer != LATE || timed) && (answer != BROKEN || broken)); /* a wait is late or broken for a reason */
+    answer = DONE
+}
+
+/* Who was lent records reads them until then. */
 inline stop_reading() { readers = readers & ~MINE }

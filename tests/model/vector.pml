@@ -966,7 +966,7 @@ next:  atomic { let_pass() }
     od
 }
 
-/* `ahead`: for the growth behind that one, which may not be there. It leaves its answer in `answer`, DONE where that is asked for. */
+/* `ahead`: for the growth behind that one, which may not be there. */
 inline await_until(ahead) {
 #if BUG == 12
     was = committing;
@@ -989,10 +989,7 @@ inline await_until(ahead) {
         unlock();
         leave_seat();
 told_before:
-        assert(answer != DONE || number + 1 + ahead <= synced);            /* what a wait tells to be durable is */
-        assert(answer != OUT_OF_RANGE || ahead > 0);                       /* a growth that was made is known */
-        assert((answer != LATE || timed) && (answer != BROKEN || broken)); /* a wait is late or broken for a reason */
-        answer = DONE;
+        check_answer(ahead);
         was = false;
         late = false;
         growths = 0

@@ -42,7 +42,7 @@ no_model_names_a_function_that_is_gone() (
 
 the_protocol_of_threads_holds_in_each_schedule() (
     has_spin || exit $is_skipped
-    "$models/run.sh" >"$out"
+    "$models/run.sh" >"$out" || :
     cat "$out"
     [ "$(grep -c '[1-9][0-9]* states, .* holds$' "$out")" -eq 21 ]
     [ "$(tail -n 1 "$out")" = '21 passed, 0 failed' ]
@@ -72,7 +72,7 @@ a_check_of_a_model_sees_a_planted_bug() (
 # The bug of this number, and the property that finds it.
 planted_bugs_are_found() (
     has_spin || exit $is_skipped
-    "$models/run.sh" bugs 1 46 50 62 71 >"$out"
+    "$models/run.sh" bugs 1 46 50 62 71 >"$out" || :
     cat "$out"
     for found in '1 wait_twice .*what the mark tells is durable' '46 wait_twice .*: nothing' '50 lend .*what is lent stays' \
         '62 shared_seat .*one call at a time has a seat' "71 fork .*who has begun it isn't refused"; do
