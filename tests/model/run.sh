@@ -157,6 +157,9 @@ bugs() {
 44|fork|all|no child gives the lock up
 45|fork|all|CVEC_FORKED
 46|wait_twice|all|nothing
+47|hold_compact|all|the vector is there
+48|whole_two|all|each other handle is closed
+49|hold|all|a call of the whole vector has it alone
 50|lend|all|what is lent stays
 51|lend|all|nothing
 52|lend_compact|all|a phase is full where something of it is lent

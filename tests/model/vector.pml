@@ -471,11 +471,11 @@ inline leave_alone() {
 inline enter_alone() {
     atomic {
         begin_call();
-        was = (BUG == 25 && broken);
+        was = (BUG == 25 && broken) || (BUG == 49 && is_used);
         await_handles();
         if
-        :: is_used -> answer = IS_BUSY
-        :: !is_used && (BUG == 25 -> was : broken) -> answer = BROKEN
+        :: (BUG == 49 -> was : is_used) -> answer = IS_BUSY
+        :: !(BUG == 49 -> was : is_used) && (BUG == 25 -> was : broken) -> answer = BROKEN
         :: else -> answer = DONE
         fi;
         was = false;
@@ -522,7 +522,7 @@ inline cvec_vector_compact() {
 #if BUG == 55
     when(answer == DONE, atomic { lock(); has_all = false; claimed = false; asking--; shut(); broadcast(released); end_call() })
 #else
-    when(answer == DONE, leave_alone())
+    when(answer == DONE || BUG == 47, leave_alone())
 #endif
 }
 
@@ -708,7 +708,7 @@ inline cvec_vector_seat_within() {
         begin_call();
         answer = DONE;
         if
-        :: !claimed && is_one_spare
+        :: (!claimed || BUG == 48) && is_one_spare
         :: else -> await_turn()
         fi;
         assert(answer != DONE || seats < SEATS); /* whose turn it is has a seat */
