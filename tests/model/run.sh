@@ -182,6 +182,7 @@ bugs() {
 69|lend_often|all|a block is there
 70|flush_once|all|nobody is inside a vector that is closed
 71|fork|all|who has begun it isn't refused
+72|renew_refused|all|there is a vault to share
 TABLE
 }
 

@@ -156,11 +156,13 @@ inline cvec_phase_gather() {
     fi
 }
 
+/* Refused memory, it may lose the vault. */
 inline cvec_phase_share() {
     assert(has_vault); /* there is a vault to share */
     if
     :: has_vault = false; has_phase = true; free_seats = SEATS; grown = 0; taken = 0; told = 0
     :: refusals > 0 -> refusals--; answer = MEMORY
+    :: refusals > 0 -> refusals--; answer = MEMORY; has_vault = false
     fi
 }
 
@@ -400,7 +402,10 @@ inline gather() {
 inline share() {
     atomic {
         cvec_phase_share();
-        when(answer == DONE, alone = false; base = committed; phases++)
+        if
+        :: answer == DONE -> alone = false; base = committed; phases++
+        :: else -> broken = broken || (!has_vault && BUG != 72)
+        fi
     }
 }
 
