@@ -38,6 +38,14 @@ no_model_names_a_function_that_is_gone() (
     [ ! -s "$work/gone" ]
 )
 
+# A bug without a line of the table would never be looked for.
+each_planted_bug_has_what_finds_it() (
+    cat "$models"/*.pml | grep -o 'BUG [!=]= [0-9]*' | cut -d ' ' -f 3 | grep -vx 0 | sort -nu >"$work/planted"
+    [ "$(wc -l <"$work/planted")" -gt 60 ]
+    sed -n "s/^\([0-9][0-9]*\)|[a-z_]*|[a-z]*|..*/\1/p" "$models/run.sh" | sort -n >"$work/listed"
+    diff "$work/planted" "$work/listed"
+)
+
 # ---- that they hold, and would be seen not to
 
 the_protocol_of_threads_holds_in_each_schedule() (
@@ -58,7 +66,7 @@ is_found_in_a_check() {
     cat "$out"
     [ "$status" -eq 1 ]
     grep -qF "$3" "$out"
-    ! grep -q 'holds$' "$out"
+    [ "$(grep -c 'holds$' "$out")" -eq 0 ]
     rm -r "$work/planted"
 }
 
