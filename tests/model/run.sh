@@ -46,6 +46,7 @@ lend_often|seats.pml|-DSEATS=2 -DLIMIT=1 -DWORKERS=2 -DGROWTHS=3 -DLENDS -DNO_LI
 lend_compact|seats.pml|-DSEATS=1 -DLIMIT=1 -DWORKERS=2 -DWHOLES=1 -DGROWTHS=2 -DLENDS -DCOMPACTS -DNO_LINE
 hold|seats.pml|-DSEATS=1 -DLIMIT=1 -DWORKERS=1 -DHOLDERS=1 -DWHOLES=1 -DREFUSALS=1 -DFAILURES=1 -DNO_LINE
 hold_compact|seats.pml|-DSEATS=1 -DLIMIT=1 -DWORKERS=1 -DHOLDERS=1 -DWHOLES=1 -DREFUSALS=1 -DCOMPACTS -DRELEASES
+hold_and_lend|seats.pml|-DSEATS=2 -DLIMIT=1 -DWORKERS=1 -DHOLDERS=1 -DWHOLES=1 -DGROWTHS=2 -DREFUSALS=1 -DLENDS -DCOMPACTS -DRELEASES -DNO_LINE
 hold_by_two|seats.pml|-DSEATS=2 -DLIMIT=1 -DWORKERS=1 -DHOLDERS=2 -DGROWTHS=2 -DNO_LINE
 hold_by_two_whole|seats.pml|-DSEATS=1 -DLIMIT=1 -DWORKERS=0 -DHOLDERS=2 -DWHOLES=1 -DFLUSHERS=1 -DREFUSALS=1
 push|seats.pml|-DSEATS=2 -DLIMIT=1 -DWORKERS=2 -DREFUSALS=1 -DFAILURES=1 -DPUSHES -DNO_LINE
@@ -102,6 +103,9 @@ renew|finite
 lend|finite
 lend_refused|all
 lend_often|all
+hold|finite
+hold_compact|fair
+hold_and_lend|all
 hold_by_two|all
 hold_by_two_whole|all
 push_often|all
