@@ -46,7 +46,7 @@ lend_often|seats.pml|-DSEATS=2 -DLIMIT=1 -DWORKERS=2 -DGROWTHS=3 -DLENDS -DNO_LI
 lend_compact|seats.pml|-DSEATS=1 -DLIMIT=1 -DWORKERS=2 -DWHOLES=1 -DGROWTHS=2 -DLENDS -DCOMPACTS -DNO_LINE
 hold|seats.pml|-DSEATS=1 -DLIMIT=1 -DWORKERS=1 -DHOLDERS=1 -DWHOLES=1 -DREFUSALS=1 -DFAILURES=1 -DNO_LINE
 hold_compact|seats.pml|-DSEATS=1 -DLIMIT=1 -DWORKERS=1 -DHOLDERS=1 -DWHOLES=1 -DREFUSALS=1 -DCOMPACTS -DRELEASES
-hold_and_lend|seats.pml|-DSEATS=2 -DLIMIT=1 -DWORKERS=1 -DHOLDERS=1 -DWHOLES=1 -DGROWTHS=2 -DREFUSALS=1 -DLENDS -DCOMPACTS -DRELEASES -DNO_LINE
+hold_lend|seats.pml|-DSEATS=2 -DLIMIT=1 -DWORKERS=1 -DHOLDERS=1 -DWHOLES=1 -DGROWTHS=2 -DREFUSALS=1 -DLENDS -DCOMPACTS -DRELEASES -DNO_LINE
 hold_by_two|seats.pml|-DSEATS=2 -DLIMIT=1 -DWORKERS=1 -DHOLDERS=2 -DGROWTHS=2 -DNO_LINE
 hold_by_two_whole|seats.pml|-DSEATS=1 -DLIMIT=1 -DWORKERS=0 -DHOLDERS=2 -DWHOLES=1 -DFLUSHERS=1 -DREFUSALS=1
 push|seats.pml|-DSEATS=2 -DLIMIT=1 -DWORKERS=2 -DREFUSALS=1 -DFAILURES=1 -DPUSHES -DNO_LINE
@@ -105,7 +105,7 @@ lend_refused|all
 lend_often|all
 hold|finite
 hold_compact|fair
-hold_and_lend|all
+hold_lend|all
 hold_by_two|all
 hold_by_two_whole|all
 push_often|all
@@ -207,7 +207,8 @@ explore() {
     rm -rf "${work:?}"/*
     cp "$here"/*.pml "$work"
     # shellcheck disable=SC2086 # options are words
-    (cd "$work" && spin -a $options "$model" && cc -w -O0 $how -DMEMLIM=3000 -o pan pan.c && ./pan $run -m1000000 -w22) >"$work/told" 2>&1
+    (cd "$work" && spin -a $options "$model" && cc -w -O0 $how -DMEMLIM=3000 -o pan pan.c && ./pan $run -m1000000 -w22) \
+        >"$work/told" 2>&1
     fault=$(fault_told)
 }
 
@@ -258,9 +259,13 @@ find_bugs() {
     bugs >"$session/table"
     while IFS='|' read -r number scenario kind expected; do
         case " ${*:-$number} " in *" $number "*) ;; *) continue ;; esac
+        begun=$(date +%s)
         explore "$scenario" "$kind" "-DBUG=$number"
-        case ${fault:-nothing} in *"$expected"*) found=0 ;; *) found=1 ;; esac
-        printf '%3d %-14s %s: %s\n' "$number" "$scenario" "$([ "$found" -eq 0 ] && echo 'as expected' || echo "FAILED, expected: $expected")" "${fault:-nothing}"
+        case ${fault:-nothing} in
+        *"$expected"*) found=0 told='as expected' ;;
+        *) found=1 told="FAILED, expected: $expected" ;;
+        esac
+        printf '%3d %-14s %3d s  %s: %s\n' "$number" "$scenario" $(($(date +%s) - begun)) "$told" "${fault:-nothing}"
         count "$found"
     done <"$session/table"
 }
