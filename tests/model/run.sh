@@ -233,7 +233,8 @@ fault_told() {
 
 # States, depth, seconds, megabytes.
 size_told() {
-    awk '/states, stored/ { states = $1 } /depth reached/ { depth = $6 + 0 } /actual memory usage/ { memory = $1 } /elapsed time/ { time = $4 }
+    awk '/states, stored/ { states = $1 } /depth reached/ { depth = $6 + 0 }
+        /actual memory usage/ { memory = $1 } /elapsed time/ { time = $4 }
         END { printf "%9d states, depth %4d, %5.1f s, %4d MB", states, depth, time, memory }' "$work/told"
 }
 
