@@ -4,6 +4,8 @@
 
 #include "cvec.h"
 
+#pragma GCC visibility push(hidden)
+
 /* The bytes of a flagged in a file, and of no type more. */
 enum { FLAGGED_LEN = sizeof(uint64_t) + 1, MOST_WIDTH = 64 };
 
@@ -16,5 +18,7 @@ void cvec_pack(const void *records, size_t count, uint8_t *out);
 
 /* Makes records of flagged of the bytes of so many, which stand in front of the same memory. */
 void cvec_unpack(void *records, size_t count);
+
+#pragma GCC visibility pop
 
 #endif
