@@ -1634,6 +1634,8 @@ static void widths(const char *path) {
     HOLDS(cvec_phase_find(&seat->grower, two, 9, 0, &count) == CVEC_NO_RECORD && count == 9);
     HOLDS(cvec_phase_count(&vector->committer, two, 8, &count) == CVEC_NOT_SO && count == 9);
     HOLDS(cvec_phase_read(&vector->committer, 0, &out, 8, &count) == CVEC_NOT_SO && count == 9 && out == 9);
+    /* So many records have more bytes than a number has: as many as one record by what is left of it. */
+    HOLDS(cvec_vector_grow_records(seat, two, SIZE_MAX / 8 + 2, &receipt) == CVEC_TOO_LARGE && receipt.number == 9);
     HOLDS(grow(5, &out) == CVEC_DONE && out == 0);
     out = 9;
     HOLDS(cvec_phase_read(&seat->grower, 0, &out, 7, &count) == CVEC_DONE && count == 0 && out == 9);
