@@ -17,18 +17,9 @@ pub extern "C" fn cvec_phase_plan(alloc: Global, committer: &mut Handle, growths
     ensures plans { result ≡ 0 → Becomes (AtAny (λ _ _ _. Plans growths.new)) (end_of committer.old) (end_of committer.new) }
     ensures refused { result ≢ 0 → Refused (λ refusal. AtAny (λ _ _ _. RefusesPlan refusal)) result (end_of committer.old) (end_of committer.new) × (growths.new ≡ growths.old) }
 {
-    let Some(mut end) = committer.take(alloc) else {
-        return Refusal::NotSo.code();
-    };
-    let planned = end.plan();
-    committer.put(end);
-    match planned {
-        Ok(count) => {
-            *growths = count;
-            0
-        }
-        Err(refusal) => refusal.code(),
-    }
+    let count = answer_of!(alloc, committer, end => end.plan());
+    *growths = count;
+    0
 }
 
 /// The call of that number, in the order in which they are to be made: `OutOfRange` where so many are listed. The bytes that it writes
@@ -43,18 +34,9 @@ pub extern "C" fn cvec_phase_call(
     ensures told { result ≡ 0 → Becomes (TellsCall number call.new) (end_of committer.old) (end_of committer.new) }
     ensures refused { result ≢ 0 → Refused (RefusesCall number) result (end_of committer.old) (end_of committer.new) × (call.new ≡ call.old) }
 {
-    let Some(end) = committer.take(alloc) else {
-        return Refusal::NotSo.code();
-    };
-    let found = call_at(&end, number);
-    committer.put(end);
-    match found {
-        Ok(found) => {
-            *call = found;
-            0
-        }
-        Err(refusal) => refusal.code(),
-    }
+    let found = answer_of!(alloc, committer, end => call_at(&end, number));
+    *call = found;
+    0
 }
 
 /// The host has made the calls, and each has succeeded: the growers are told what is durable. `count`: how many growths are.
@@ -63,16 +45,7 @@ pub extern "C" fn cvec_phase_settle(alloc: Global, committer: &mut Handle, count
     ensures settled { result ≡ 0 → Becomes (AtAny (λ _ _ _. Settles count.new)) (end_of committer.old) (end_of committer.new) }
     ensures refused { result ≢ 0 → Refused (λ refusal. AtAny (λ _ _ _. RefusesSettle refusal)) result (end_of committer.old) (end_of committer.new) × (count.new ≡ count.old) }
 {
-    let Some(mut end) = committer.take(alloc) else {
-        return Refusal::NotSo.code();
-    };
-    let settled = end.settle();
-    committer.put(end);
-    match settled {
-        Ok(found) => {
-            *count = found;
-            0
-        }
-        Err(refusal) => refusal.code(),
-    }
+    let found = answer_of!(alloc, committer, end => end.settle());
+    *count = found;
+    0
 }

@@ -66,19 +66,10 @@ pub extern "C" fn cvec_phase_settled(
     ensures told { result ≡ 0 → Becomes (AtAny (λ _ _ _. Tells count.new (state_of state.new))) (end_of grower.old) (end_of grower.new) }
     ensures refused { result ≢ 0 → Refused (λ refusal. AtAny (λ _ _ _. IsNoGrower refusal)) result (end_of grower.old) (end_of grower.new) × (count.new ≡ count.old) × (state.new ≡ state.old) }
 {
-    let Some(mut end) = grower.take(alloc) else {
-        return Refusal::NotSo.code();
-    };
-    let settled = end.settled();
-    grower.put(end);
-    match settled {
-        Ok((settled, told)) => {
-            *count = settled;
-            *state = state_code(told);
-            0
-        }
-        Err(refusal) => refusal.code(),
-    }
+    let (settled, told) = answer_of!(alloc, grower, end => end.settled());
+    *count = settled;
+    *state = state_code(told);
+    0
 }
 
 /// Learns what others grew, and how many records there are.
@@ -87,18 +78,9 @@ pub extern "C" fn cvec_phase_size(alloc: Global, grower: &mut Handle, size: &mut
     ensures size { result ≡ 0 → Becomes (AtAny (λ _ _ _. Sizes size.new)) (end_of grower.old) (end_of grower.new) }
     ensures refused { result ≢ 0 → Refused (λ refusal. AtAny (λ _ _ _. RefusesLook refusal)) result (end_of grower.old) (end_of grower.new) × (size.new ≡ size.old) }
 {
-    let Some(mut end) = grower.take(alloc) else {
-        return Refusal::NotSo.code();
-    };
-    let sized = end.size();
-    grower.put(end);
-    match sized {
-        Ok(found) => {
-            *size = found;
-            0
-        }
-        Err(refusal) => refusal.code(),
-    }
+    let found = answer_of!(alloc, grower, end => end.size());
+    *size = found;
+    0
 }
 
 /// Grows by the records that these bytes are, as one block behind all that was grown before.
@@ -112,18 +94,9 @@ pub extern "C" fn cvec_phase_grow(
     ensures grown { result ≡ 0 → Becomes (AtAny (λ _ _ _. Grows records.now (receipt_of receipt.new))) (end_of grower.old) (end_of grower.new) }
     ensures refused { result ≢ 0 → Refused (λ refusal. AtAny (λ _ _ _. RefusesGrowth records.now refusal)) result (end_of grower.old) (end_of grower.new) × (receipt.new ≡ receipt.old) }
 {
-    let Some(mut end) = grower.take(alloc) else {
-        return Refusal::NotSo.code();
-    };
-    let grown = end.grow(alloc, records);
-    grower.put(end);
-    match grown {
-        Ok(grown) => {
-            *receipt = CvecReceipt::of(grown);
-            0
-        }
-        Err(refusal) => refusal.code(),
-    }
+    let grown = answer_of!(alloc, grower, end => end.grow(alloc, records));
+    *receipt = CvecReceipt::of(grown);
+    0
 }
 
 /// Copies the bytes of records from position `from` on to the front of `out`, of as many as stand in one piece there.
@@ -138,18 +111,9 @@ pub extern "C" fn cvec_phase_read(
     ensures read { result ≡ 0 → Becomes (AtAny (λ _ _ _. Reads from out.old out.new count.new)) (end_of grower.old) (end_of grower.new) }
     ensures refused { result ≢ 0 → Refused (λ refusal. AtAny (λ _ _ _. IsNoGrower refusal)) result (end_of grower.old) (end_of grower.new) × (out.new ≡ out.old) × (count.new ≡ count.old) }
 {
-    let Some(mut end) = grower.take(alloc) else {
-        return Refusal::NotSo.code();
-    };
-    let read = end.read(from, out);
-    grower.put(end);
-    match read {
-        Ok(copied) => {
-            *count = copied;
-            0
-        }
-        Err(refusal) => refusal.code(),
-    }
+    let copied = answer_of!(alloc, grower, end => end.read(from, out));
+    *count = copied;
+    0
 }
 
 /// How many of the records that the grower knows equal the one that these bytes are.
@@ -163,18 +127,9 @@ pub extern "C" fn cvec_phase_count(
     ensures count { result ≡ 0 → Becomes (AtAny (λ _ _ _. Counts sought.now count.new)) (end_of grower.old) (end_of grower.new) }
     ensures refused { result ≢ 0 → Refused (λ refusal. AtAny (λ _ _ _. RefusesSearch sought.now refusal)) result (end_of grower.old) (end_of grower.new) × (count.new ≡ count.old) }
 {
-    let Some(mut end) = grower.take(alloc) else {
-        return Refusal::NotSo.code();
-    };
-    let counted = end.count(sought);
-    grower.put(end);
-    match counted {
-        Ok(equal) => {
-            *count = equal;
-            0
-        }
-        Err(refusal) => refusal.code(),
-    }
+    let equal = answer_of!(alloc, grower, end => end.count(sought));
+    *count = equal;
+    0
 }
 
 /// The first position from `from` on whose record equals the one that these bytes are, or how many records the grower knows.
@@ -189,18 +144,9 @@ pub extern "C" fn cvec_phase_find(
     ensures found { result ≡ 0 → Becomes (AtAny (λ _ _ _. Finds sought.now from place.new)) (end_of grower.old) (end_of grower.new) }
     ensures refused { result ≢ 0 → Refused (λ refusal. AtAny (λ _ _ _. RefusesSearch sought.now refusal)) result (end_of grower.old) (end_of grower.new) × (place.new ≡ place.old) }
 {
-    let Some(mut end) = grower.take(alloc) else {
-        return Refusal::NotSo.code();
-    };
-    let found = end.find(sought, from);
-    grower.put(end);
-    match found {
-        Ok(first) => {
-            *place = first;
-            0
-        }
-        Err(refusal) => refusal.code(),
-    }
+    let first = answer_of!(alloc, grower, end => end.find(sought, from));
+    *place = first;
+    0
 }
 
 /// Tells where the records stand that the grower knows, piece by piece from position `from` on, in front of `out`: as many
@@ -216,18 +162,9 @@ pub extern "C" fn cvec_phase_pieces(
     ensures told { result ≡ 0 → Becomes (AtAny (λ _ _ _. TellsPieces from out.old out.new count.new)) (end_of grower.old) (end_of grower.new) }
     ensures refused { result ≢ 0 → Refused (λ refusal. AtAny (λ _ _ _. IsNoGrower refusal)) result (end_of grower.old) (end_of grower.new) × (out.new ≡ out.old) × (count.new ≡ count.old) }
 {
-    let Some(mut end) = grower.take(alloc) else {
-        return Refusal::NotSo.code();
-    };
-    let told = end.pieces(from, out);
-    grower.put(end);
-    match told {
-        Ok(found) => {
-            *count = found;
-            0
-        }
-        Err(refusal) => refusal.code(),
-    }
+    let found = answer_of!(alloc, grower, end => end.pieces(from, out));
+    *count = found;
+    0
 }
 
 /// A block of so many blank records of the grower's vector, in a handle of its own: they stand at `records`, and the caller alone

@@ -42,15 +42,8 @@ pub extern "C" fn cvec_phase_feed(alloc: Global, file: &mut Handle, piece: &[u8]
     ensures fed { result ≡ 0 → Becomes (AtAny (λ _ _ _. Feeds piece.now)) (end_of file.old) (end_of file.new) }
     ensures refused { result ≢ 0 → Refused (λ refusal. AtAny (λ _ _ _. RefusesFeeding refusal)) result (end_of file.old) (end_of file.new) }
 {
-    let Some(mut end) = file.take(alloc) else {
-        return Refusal::NotSo.code();
-    };
-    let fed = end.feed(piece);
-    file.put(end);
-    match fed {
-        Ok(()) => 0,
-        Err(refusal) => refusal.code(),
-    }
+    answer_of!(alloc, file, end => end.feed(piece));
+    0
 }
 
 /// The format of a new file of this version, none for version 0. `None`: there is no such version.
@@ -86,19 +79,10 @@ pub extern "C" fn cvec_phase_begin(
     let Some(made) = format_of(version) else {
         return Refusal::NotSo.code();
     };
-    let Some(mut end) = file.take(alloc) else {
-        return Refusal::NotSo.code();
-    };
-    let begun = end.begin(alloc, made, growths, seats);
-    file.put(end);
-    match begun {
-        Ok(begun) => {
-            drop(phase.take(alloc));
-            phase.put(begun);
-            0
-        }
-        Err(refusal) => refusal.code(),
-    }
+    let begun = answer_of!(alloc, file, end => end.begin(alloc, made, growths, seats));
+    drop(phase.take(alloc));
+    phase.put(begun);
+    0
 }
 
 /// A seat for one more thread, into a handle of its own. What that handle had is given up.

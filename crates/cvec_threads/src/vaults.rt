@@ -17,15 +17,8 @@ pub extern "C" fn cvec_phase_gather(alloc: Global, committer: &mut Handle) -> u3
     ensures gathers { result ≡ 0 → Becomes (AtAny (λ _ _ _. GathersIn)) (end_of committer.old) (end_of committer.new) }
     ensures refused { result ≢ 0 → Refused (λ refusal. AtAny (λ _ _ _. RefusesGathering refusal)) result (end_of committer.old) (end_of committer.new) }
 {
-    let Some(mut end) = committer.take(alloc) else {
-        return Refusal::NotSo.code();
-    };
-    let gathered = end.gather(alloc);
-    committer.put(end);
-    match gathered {
-        Ok(()) => 0,
-        Err(refusal) => refusal.code(),
-    }
+    answer_of!(alloc, committer, end => end.gather(alloc));
+    0
 }
 
 /// Threads have the vector again: the handle of the vault has who commits, and the other the phase, with room for so many growths
@@ -41,19 +34,10 @@ pub extern "C" fn cvec_phase_share(
     ensures shared { result ≡ 0 → HasPhase growths seats (end_of vault.old) (end_of vault.new) (end_of phase.new) }
     ensures refused { result ≢ 0 → Refused (λ refusal. AtAny (λ _ _ _. RefusesSharing growths seats refusal)) result (end_of vault.old) (end_of vault.new) × (end_of phase.new ≡ end_of phase.old) }
 {
-    let Some(mut end) = vault.take(alloc) else {
-        return Refusal::NotSo.code();
-    };
-    let shared = end.share(alloc, growths, seats);
-    vault.put(end);
-    match shared {
-        Ok(shared) => {
-            drop(phase.take(alloc));
-            phase.put(shared);
-            0
-        }
-        Err(refusal) => refusal.code(),
-    }
+    let shared = answer_of!(alloc, vault, end => end.share(alloc, growths, seats));
+    drop(phase.take(alloc));
+    phase.put(shared);
+    0
 }
 
 /// How many records the vault has.
@@ -62,18 +46,9 @@ pub extern "C" fn cvec_vault_size(alloc: Global, vault: &mut Handle, size: &mut 
     ensures size { result ≡ 0 → Becomes (AtAny (λ _ _ _. Measures size.new)) (end_of vault.old) (end_of vault.new) }
     ensures refused { result ≢ 0 → Refused (λ refusal. AtAny (λ _ _ _. IsNoVault refusal)) result (end_of vault.old) (end_of vault.new) × (size.new ≡ size.old) }
 {
-    let Some(end) = vault.take(alloc) else {
-        return Refusal::NotSo.code();
-    };
-    let measured = end.measure();
-    vault.put(end);
-    match measured {
-        Ok(found) => {
-            *size = found;
-            0
-        }
-        Err(refusal) => refusal.code(),
-    }
+    let found = answer_of!(alloc, vault, end => end.measure());
+    *size = found;
+    0
 }
 
 /// Writes the records that these bytes are over those from position `start` on, and lists the calls of the file that commit it.
@@ -87,15 +62,8 @@ pub extern "C" fn cvec_vault_change(
     ensures changes { result ≡ 0 → Becomes (AtAny (λ _ _ _. Changes start records.now)) (end_of vault.old) (end_of vault.new) }
     ensures refused { result ≢ 0 → Refused (λ refusal. AtAny (λ _ _ _. RefusesChange start records.now refusal)) result (end_of vault.old) (end_of vault.new) }
 {
-    let Some(mut end) = vault.take(alloc) else {
-        return Refusal::NotSo.code();
-    };
-    let changed = end.change(alloc, start, records);
-    vault.put(end);
-    match changed {
-        Ok(()) => 0,
-        Err(refusal) => refusal.code(),
-    }
+    answer_of!(alloc, vault, end => end.change(alloc, start, records));
+    0
 }
 
 /// Makes the vault's length `size`: takes records away, or appends copies of the one that these bytes are; and lists the calls that
@@ -110,15 +78,8 @@ pub extern "C" fn cvec_vault_resize(
     ensures resizes { result ≡ 0 → Becomes (AtAny (λ _ _ _. Resizes size filler.now)) (end_of vault.old) (end_of vault.new) }
     ensures refused { result ≢ 0 → Refused (λ refusal. AtAny (λ _ _ _. RefusesResize size filler.now refusal)) result (end_of vault.old) (end_of vault.new) }
 {
-    let Some(mut end) = vault.take(alloc) else {
-        return Refusal::NotSo.code();
-    };
-    let resized = end.resize(size, filler);
-    vault.put(end);
-    match resized {
-        Ok(()) => 0,
-        Err(refusal) => refusal.code(),
-    }
+    answer_of!(alloc, vault, end => end.resize(size, filler));
+    0
 }
 
 /// Lists the calls that write each changed record to its home in the file, and then the fold's frame.
@@ -127,13 +88,6 @@ pub extern "C" fn cvec_vault_fold(alloc: Global, vault: &mut Handle) -> u32
     ensures folds { result ≡ 0 → Becomes IsFolded (end_of vault.old) (end_of vault.new) }
     ensures refused { result ≢ 0 → Refused (λ refusal. AtAny (λ _ _ _. RefusesFolding refusal)) result (end_of vault.old) (end_of vault.new) }
 {
-    let Some(mut end) = vault.take(alloc) else {
-        return Refusal::NotSo.code();
-    };
-    let folded = end.fold();
-    vault.put(end);
-    match folded {
-        Ok(_) => 0,
-        Err(refusal) => refusal.code(),
-    }
+    answer_of!(alloc, vault, end => end.fold());
+    0
 }
