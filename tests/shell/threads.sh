@@ -159,8 +159,12 @@ a_flag_that_is_none_gets_into_no_vector_in_c() (
     a_behaviour_of_a_vector_in_c flags
 )
 
-a_handle_in_c_has_one_width() (
+bytes_that_are_no_records_of_a_handle_are_refused_in_c() (
     a_behaviour_of_a_vector_in_c widths
+)
+
+a_flag_of_another_byte_is_none_by_the_librarys_call() (
+    a_behaviour_of_a_vector_in_c flags_by_bytes
 )
 
 # What was told to be durable stands, at whatever moment the process is killed.

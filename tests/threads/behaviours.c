@@ -1605,7 +1605,7 @@ static void blocks_have_one_width(void) {
     cvec_receipt receipt = {9, 9, 9, 9, 9};
     uint64_t size = 9;
     void *records = &receipt;
-    HOLDS(cvec_phase_file(0, 4, &file) == CVEC_DONE && cvec_phase_create(&file, 1, 8, 1, &phase) == CVEC_DONE);
+    HOLDS(cvec_phase_file(0, 4, &file) == CVEC_DONE && cvec_phase_begin(&file, 1, 8, 1, &phase) == CVEC_DONE);
     HOLDS(cvec_phase_seat(&phase, &grower) == CVEC_DONE);
     HOLDS(cvec_phase_publish(&grower, &block, &receipt) == CVEC_NOT_SO);
     HOLDS(cvec_phase_block(&phase, 1, &block, &records) == CVEC_NOT_SO && !block.full && records == &receipt);
@@ -1619,27 +1619,59 @@ static void blocks_have_one_width(void) {
     HOLDS(cvec_phase_close(&grower) == CVEC_DONE && cvec_phase_close(&phase) == CVEC_DONE && cvec_phase_close(&file) == CVEC_DONE);
 }
 
-/* A handle of the library has one width: a call of another changes nothing. */
+/* Bytes that are no records of a handle are refused, and change nothing; so are those of another end. */
 static void widths(const char *path) {
-    const uint32_t small = 5;
+    const uint64_t two[] = {5, 6};
     uint64_t out = 9, count = 9;
     cvec_receipt receipt = {9, 9, 9, 9, 9};
+    cvec_call call;
     make(path, 1);
-    HOLDS(cvec_phase_grow_u32(&seat->grower, &small, 1, &receipt) == CVEC_WIDTH && receipt.number == 9);
-    HOLDS(cvec_phase_read_pair(&seat->grower, 0, (cvec_pair[1]){{1, 2}}, 1, &count) == CVEC_WIDTH && count == 9);
-    HOLDS(cvec_phase_count_u32(&seat->grower, 5, &count) == CVEC_WIDTH && count == 9);
-    HOLDS(cvec_phase_find_pair(&seat->grower, (cvec_pair[1]){{1, 2}}, 0, &count) == CVEC_WIDTH && count == 9);
-    HOLDS(cvec_phase_count_u64(&vector->committer, 5, &count) == CVEC_NOT_SO && count == 9);
+    HOLDS(cvec_phase_grow(&seat->grower, two, 12, &receipt) == CVEC_NO_RECORD && receipt.number == 9);
+    HOLDS(cvec_phase_grow(&seat->grower, two, 7, &receipt) == CVEC_EMPTY && receipt.number == 9);
+    HOLDS(cvec_phase_grow(&vector->committer, two, 12, &receipt) == CVEC_NOT_SO && receipt.number == 9);
+    HOLDS(cvec_phase_count(&seat->grower, two, 4, &count) == CVEC_NO_RECORD && count == 9);
+    HOLDS(cvec_phase_count(&seat->grower, two, 16, &count) == CVEC_NO_RECORD && count == 9);
+    HOLDS(cvec_phase_find(&seat->grower, two, 9, 0, &count) == CVEC_NO_RECORD && count == 9);
+    HOLDS(cvec_phase_count(&vector->committer, two, 8, &count) == CVEC_NOT_SO && count == 9);
+    HOLDS(cvec_phase_read(&vector->committer, 0, &out, 8, &count) == CVEC_NOT_SO && count == 9 && out == 9);
+    /* So many records have more bytes than a number has: as many as one record by what is left of it. */
+    HOLDS(cvec_vector_grow_records(seat, two, SIZE_MAX / 8 + 2, &receipt) == CVEC_TOO_LARGE && receipt.number == 9);
     HOLDS(grow(5, &out) == CVEC_DONE && out == 0);
+    out = 9;
+    HOLDS(cvec_phase_read(&seat->grower, 0, &out, 7, &count) == CVEC_DONE && count == 0 && out == 9);
+    HOLDS(cvec_phase_read(&seat->grower, 1, &out, 8, &count) == CVEC_DONE && count == 0 && out == 9);
+    HOLDS(cvec_phase_read(&seat->grower, 0, &out, 8, &count) == CVEC_DONE && count == 1 && out == 5);
     blocks_have_one_width();
     HOLDS(cvec_phase_file(0, 5, &seat->grower) == CVEC_WIDTH);
     HOLDS(cvec_phase_feed(&seat->grower, (const uint8_t *)"x", 1) == CVEC_NOT_SO);
-    HOLDS(cvec_phase_open(&seat->grower, 5, 1, &vector->phase) == CVEC_NOT_SO);
+    HOLDS(cvec_phase_begin(&seat->grower, 0, 5, 1, &vector->phase) == CVEC_NOT_SO);
+    HOLDS(cvec_phase_call(&vector->committer, 0, &call) == CVEC_OUT_OF_RANGE && cvec_phase_call(&vector->phase, 0, &call) == CVEC_NOT_SO);
     HOLDS(cvec_vector_close_seat(seat) == CVEC_DONE);
     HOLDS(cvec_vector_clear(vector) == CVEC_DONE);
-    HOLDS(cvec_vault_change_flagged(&vector->committer, 0, (cvec_flagged[1]){{1, true}}, 1) == CVEC_WIDTH);
-    HOLDS(cvec_vault_resize_u32(&vector->committer, 3, 5) == CVEC_WIDTH);
+    HOLDS(cvec_vault_change(&vector->committer, 0, two, 9) == CVEC_NO_RECORD);
+    HOLDS(cvec_vault_resize(&vector->committer, 3, two, 4) == CVEC_NO_RECORD);
+    HOLDS(cvec_vault_size(&vector->committer, &count) == CVEC_DONE && count == 0);
     HOLDS(cvec_vector_close(vector) == CVEC_DONE);
+}
+
+/* The library takes a flag as the byte 0 or 1 and no other, and its records at any address. */
+static void flags_by_bytes(const char *path) {
+    const uint8_t bytes[] = {0xff, 5, 0, 0, 0, 0, 0, 0, 0, 1, 6, 0, 0, 0, 0, 0, 0, 0, 2};
+    cvec_flagged out[2] = {{9, false}, {9, false}};
+    uint8_t again[10] = {9, 9, 9, 9, 9, 9, 9, 9, 9, 9};
+    cvec_receipt receipt = {9, 9, 9, 9, 9};
+    uint64_t count = 9;
+    HOLDS(cvec_vector_create_as(&vector, path, CVEC_FLAGGED, 1, 1) == CVEC_DONE && cvec_vector_take_seat(vector, &seat) == CVEC_DONE);
+    HOLDS(cvec_phase_grow(&seat->grower, bytes + 1, 18, &receipt) == CVEC_NO_RECORD && receipt.number == 9);
+    HOLDS(cvec_phase_count(&seat->grower, bytes + 10, 9, &count) == CVEC_NO_RECORD && count == 9);
+    HOLDS(cvec_phase_grow(&seat->grower, bytes + 1, 9, &receipt) == CVEC_DONE && receipt.number == 0 && receipt.len == 1);
+    HOLDS(cvec_vector_read_records(seat, 0, out, 2, &count) == CVEC_DONE && count == 1 && out[0].key == 5 && out[0].flag);
+    HOLDS(out[1].key == 9 && !out[1].flag);
+    HOLDS(cvec_phase_read(&seat->grower, 0, again, sizeof again, &count) == CVEC_DONE && count == 1 && again[9] == 9);
+    HOLDS(memcmp(again, bytes + 1, 9) == 0);
+    HOLDS(cvec_phase_count(&seat->grower, bytes + 1, 9, &count) == CVEC_DONE && count == 1);
+    HOLDS(cvec_phase_find(&seat->grower, bytes + 1, 9, 0, &count) == CVEC_DONE && count == 0);
+    HOLDS(cvec_vector_close_seat(seat) == CVEC_DONE && cvec_vector_close(vector) == CVEC_DONE);
 }
 
 /* Goes on with a file that is there, by records 0 and 1 of its type. */
@@ -2674,6 +2706,7 @@ int main(int argc, char **argv) {
                       {"typed", typed},
                       {"flags", flags},
                       {"widths", widths},
+                      {"flags_by_bytes", flags_by_bytes},
                       {"pushes", pushes},
                       {"push_threads", push_threads},
                       {"push_closes", push_closes},

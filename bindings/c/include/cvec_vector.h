@@ -262,11 +262,11 @@ typedef struct cvec_call {
 uint32_t cvec_phase_file(uint64_t len, uint16_t width, cvec_handle *file);
 uint32_t cvec_phase_feed(cvec_handle *file, const uint8_t *piece, size_t len);
 
-/* Begins the vector of a file whose bytes are all read: its handle has who commits then, and phase the seats, 1 to 64. growths: for
- * so many the phase has room, 1 to 536,870,904 (else CVEC_TOO_LARGE); past 1,048,568 each seat reserves 4 bytes of addresses for each,
- * and where these are refused it has room for 1,048,568. Refused, the bytes are given up, and the handle is to be closed. */
-uint32_t cvec_phase_create(cvec_handle *file, uint8_t version, uint64_t growths, uint16_t seats, cvec_handle *phase);
-uint32_t cvec_phase_open(cvec_handle *file, uint64_t growths, uint16_t seats, cvec_handle *phase);
+/* Begins the vector of a file whose bytes are all read, or, of version 1 or 2, makes an empty one over what a stopped creation left
+ * there; version 0 makes none. Its handle has who commits then, and phase the seats, 1 to 64. growths: for so many the phase has room,
+ * 1 to 536,870,904 (else CVEC_TOO_LARGE); past 1,048,568 each seat reserves 4 bytes of addresses for each, and where these are refused
+ * it has room for 1,048,568. Refused, the bytes are given up, and the handle is to be closed. */
+uint32_t cvec_phase_begin(cvec_handle *file, uint8_t version, uint64_t growths, uint16_t seats, cvec_handle *phase);
 uint32_t cvec_phase_seat(cvec_handle *phase, cvec_handle *grower);
 uint32_t cvec_phase_close(cvec_handle *handle);
 
@@ -280,47 +280,37 @@ uint32_t cvec_phase_pieces(cvec_handle *grower, uint64_t from, cvec_piece *out, 
 
 /* A block of so many blank records, of the type of the grower's vector, in a handle of its own; what that one had is given up. They
  * stand at *records, to be written by the caller alone until they are published. publish grows by them: the block's handle has
- * nothing then, and the records stay where they are. Refused, as cvec_phase_grow_TYPE is (CVEC_AGAIN: call it again), both handles are
+ * nothing then, and the records stay where they are. Refused, as cvec_phase_grow is (CVEC_AGAIN: call it again), both handles are
  * as they were, but that the grower may know more. cvec_phase_close gives a block up. */
 uint32_t cvec_phase_block(cvec_handle *grower, uint64_t count, cvec_handle *block, void **records);
 uint32_t cvec_phase_publish(cvec_handle *grower, cvec_handle *block, cvec_receipt *receipt);
 
-/* What names records stands here once for each width; records of i64 are passed as those of u64, bit by bit. CVEC_WIDTH: the
- * handle's vector has records of another one. A flag has to be 0 or 1.
+/* Records come and go as they stand in a file, one behind the other, of any alignment: len is a number of bytes, and room too.
+ * CVEC_NO_RECORD: they aren't whole records of the handle's vector, or a flag is neither 0 nor 1. A handle knows the width of its
+ * records and not their type: who passes others of that width gets these.
  *
- * cvec_phase_grow_TYPE: CVEC_AGAIN: another growth came first; call it again. _count and _find look at the records that the grower
- * knows: how many equal that one; the first position from `from` on that has it, or how many records there are. */
-#define CVEC_PHASE_CALLS(TYPE, RECORD, ONE) \
-    uint32_t cvec_phase_grow_##TYPE(cvec_handle *grower, const RECORD *records, size_t count, cvec_receipt *receipt); \
-    uint32_t cvec_phase_read_##TYPE(cvec_handle *grower, uint64_t from, RECORD *out, size_t room, uint64_t *count); \
-    uint32_t cvec_phase_count_##TYPE(cvec_handle *grower, ONE record, uint64_t *count); \
-    uint32_t cvec_phase_find_##TYPE(cvec_handle *grower, ONE record, uint64_t from, uint64_t *place);
-CVEC_PHASE_CALLS(u32, uint32_t, uint32_t)
-CVEC_PHASE_CALLS(u64, uint64_t, uint64_t)
-CVEC_PHASE_CALLS(pair, cvec_pair, const cvec_pair *)
-CVEC_PHASE_CALLS(flagged, cvec_flagged, const cvec_flagged *)
+ * grow: CVEC_AGAIN: another growth came first; call it again. read: *count records of the piece that begins there. count and find
+ * look at the records that the grower knows: how many equal that one; the first position from `from` on that has it, or how many
+ * records there are. */
+uint32_t cvec_phase_grow(cvec_handle *grower, const void *records, size_t len, cvec_receipt *receipt);
+uint32_t cvec_phase_read(cvec_handle *grower, uint64_t from, void *out, size_t room, uint64_t *count);
+uint32_t cvec_phase_count(cvec_handle *grower, const void *record, size_t len, uint64_t *count);
+uint32_t cvec_phase_find(cvec_handle *grower, const void *record, size_t len, uint64_t from, uint64_t *place);
 
 /* Who commits has the vector alone, where each other handle of it is closed (else CVEC_BUSY): its handle has a vault then, for
- * which cvec_phase_calls, _call and _settle are too. share: threads have it again, with so much room and so many seats. */
+ * which cvec_phase_call and _settle are too. share: threads have it again, with so much room and so many seats. */
 uint32_t cvec_phase_gather(cvec_handle *committer);
 uint32_t cvec_phase_share(cvec_handle *vault, uint64_t growths, uint16_t seats, cvec_handle *phase);
 
 /* By the handle of a vault. What writes lists its calls: make them in order, and only if each has succeeded, settle. */
-#define CVEC_VAULT_CALLS(TYPE, RECORD, ONE) \
-    uint32_t cvec_vault_read_##TYPE(cvec_handle *vault, uint64_t from, RECORD *out, size_t room, uint64_t *count); \
-    uint32_t cvec_vault_change_##TYPE(cvec_handle *vault, uint64_t start, const RECORD *records, size_t count); \
-    uint32_t cvec_vault_resize_##TYPE(cvec_handle *vault, uint64_t size, ONE record);
-CVEC_VAULT_CALLS(u32, uint32_t, uint32_t)
-CVEC_VAULT_CALLS(u64, uint64_t, uint64_t)
-CVEC_VAULT_CALLS(pair, cvec_pair, const cvec_pair *)
-CVEC_VAULT_CALLS(flagged, cvec_flagged, const cvec_flagged *)
+uint32_t cvec_vault_change(cvec_handle *vault, uint64_t start, const void *records, size_t len);
+uint32_t cvec_vault_resize(cvec_handle *vault, uint64_t size, const void *record, size_t len);
 uint32_t cvec_vault_size(cvec_handle *vault, uint64_t *size);
-uint32_t cvec_vault_clear(cvec_handle *vault);
 uint32_t cvec_vault_fold(cvec_handle *vault);
 
-/* By the handle of who commits: plan, make each call in order, and only if each has succeeded, settle. */
+/* By the handle of who commits: plan, make each call in order, and only if each has succeeded, settle. The calls are numbered from 0
+ * on: CVEC_OUT_OF_RANGE behind the last. */
 uint32_t cvec_phase_plan(cvec_handle *committer, uint64_t *growths);
-uint32_t cvec_phase_calls(cvec_handle *committer, uint64_t *count);
 uint32_t cvec_phase_call(cvec_handle *committer, uint64_t number, cvec_call *call);
 uint32_t cvec_phase_settle(cvec_handle *committer, uint64_t *count);
 

@@ -1,6 +1,7 @@
 /* A segment file by the system's calls, in the order on which libcvec_c.a's promises rest. */
 #define _DEFAULT_SOURCE 1
 #include "system.h"
+#include "types.h"
 
 #include <fcntl.h>
 #include <stdlib.h>
@@ -18,59 +19,28 @@ enum { FIRST_ROOM = 4096, FIRST_PIECE = 65536 };
 
 /* ---- records as C has them. Of each type but flagged these are the bytes of the file. */
 
-enum { KEY_LEN = sizeof(uint64_t), FLAGGED_LEN = KEY_LEN + 1 };
-
-/* The bytes of so many records; of more than memory has, of the most that it may have, which are too many too. */
-static size_t bytes_of(cvec_type type, size_t count) {
-    size_t types;
-    const cvec_type_of *of = cvec_types(&types);
-    if ((size_t)type >= types) return 0;
-    const size_t most = PTRDIFF_MAX / of[type].width;
-    return (count < most ? count : most) * of[type].width;
-}
-
-/* The byte of a flag goes as it is, also where it is neither 0 nor 1, which the library refuses. */
-static void pack(const void *records, size_t count, uint8_t *out) {
-    const uint8_t *at = records;
-    for (; count > 0; count--, at += sizeof(cvec_flagged), out += FLAGGED_LEN) {
-        memcpy(out, at + offsetof(cvec_flagged, key), KEY_LEN);
-        out[KEY_LEN] = at[offsetof(cvec_flagged, flag)];
-    }
-}
-
-/* Where the bytes stand, from the last record on: it goes behind all of those before it. */
-static void unpack(void *records, size_t count) {
-    cvec_flagged *to = records;
-    while (count-- > 0) {
-        const uint8_t *at = (const uint8_t *)records + count * FLAGGED_LEN;
-        const bool flag = at[KEY_LEN] != 0;
-        memmove(&to[count].key, at, KEY_LEN);
-        to[count].flag = flag;
-    }
-}
-
 uint32_t cvec_read_records(cvec_type type, const uint8_t *image, size_t len, uint64_t from, void *out, size_t room, uint64_t *count,
                            cvec_stat *stat, cvec_fault *fault) {
-    uint32_t answer = cvec_image_read(type, image, len, from, out, bytes_of(type, room), count, stat, fault);
-    if (answer == CVEC_DONE && type == CVEC_FLAGGED) unpack(out, (size_t)*count);
+    uint32_t answer = cvec_image_read(type, image, len, from, out, cvec_bytes_of(type, room), count, stat, fault);
+    if (answer == CVEC_DONE && type == CVEC_FLAGGED) cvec_unpack(out, (size_t)*count);
     return answer;
 }
 
 uint32_t cvec_look_records(cvec_type type, const uint8_t *bytes, size_t len, uint64_t from, void *out, size_t room, uint64_t *count,
                            cvec_stat *stat, cvec_fault *fault) {
-    uint32_t answer = cvec_image_look(type, bytes, len, from, out, bytes_of(type, room), count, stat, fault);
-    if (answer == CVEC_DONE && type == CVEC_FLAGGED) unpack(out, (size_t)*count);
+    uint32_t answer = cvec_image_look(type, bytes, len, from, out, cvec_bytes_of(type, room), count, stat, fault);
+    if (answer == CVEC_DONE && type == CVEC_FLAGGED) cvec_unpack(out, (size_t)*count);
     return answer;
 }
 
 /* What is refused whatever the records are is so before they are packed: the library, told that there is no room, says it. */
 static uint32_t append_flagged(const cvec_stat *stat, const void *records, size_t count, uint8_t *out, size_t room, cvec_stat *next) {
-    const size_t len = bytes_of(CVEC_FLAGGED, count);
+    const size_t len = cvec_bytes_of(CVEC_FLAGGED, count);
     uint32_t answer = cvec_image_append(CVEC_FLAGGED, stat, records, len, out, 0, next);
     if (answer != CVEC_NO_ROOM || room < CVEC_APPEND_LEN(FLAGGED_LEN, count)) return answer;
     uint8_t *bytes = malloc(len);
     if (bytes == NULL) return CVEC_MEMORY;
-    pack(records, count, bytes);
+    cvec_pack(records, count, bytes);
     answer = cvec_image_append(CVEC_FLAGGED, stat, bytes, len, out, room, next);
     free(bytes);
     return answer;
@@ -79,7 +49,7 @@ static uint32_t append_flagged(const cvec_stat *stat, const void *records, size_
 uint32_t cvec_append_records(cvec_type type, const cvec_stat *stat, const void *records, size_t count, uint8_t *out, size_t room,
                              cvec_stat *next) {
     if (type == CVEC_FLAGGED) return append_flagged(stat, records, count, out, room, next);
-    return cvec_image_append(type, stat, records, bytes_of(type, count), out, room, next);
+    return cvec_image_append(type, stat, records, cvec_bytes_of(type, count), out, room, next);
 }
 
 /* ---- what is written, and read */

@@ -3,6 +3,7 @@
 #define _POSIX_C_SOURCE 200809L
 #include "cvec_vector.h"
 #include "system.h"
+#include "types.h"
 
 #include <errno.h>
 #include <fcntl.h>
@@ -186,58 +187,56 @@ static bool are_records(cvec_type type, const void *records, size_t count) {
     return true;
 }
 
+/* The library takes records as they stand in a file. Of each type but flagged they stand so in memory too; those are packed. More
+ * than fit a growth aren't, of which the library reads none. */
 static uint32_t phase_grow(cvec_type type, cvec_handle *grower, const void *records, size_t count, cvec_receipt *receipt) {
-    switch (type) {
-    case CVEC_U32: return cvec_phase_grow_u32(grower, records, count, receipt);
-    case CVEC_PAIR: return cvec_phase_grow_pair(grower, records, count, receipt);
-    case CVEC_FLAGGED: return cvec_phase_grow_flagged(grower, records, count, receipt);
-    default: return cvec_phase_grow_u64(grower, records, count, receipt);
-    }
+    const size_t len = cvec_bytes_of(type, count);
+    if (type != CVEC_FLAGGED || len > LARGEST_GROWTH) return cvec_phase_grow(grower, records, len, receipt);
+    uint8_t *bytes = malloc(len > 0 ? len : 1);
+    if (bytes == NULL) return CVEC_MEMORY;
+    cvec_pack(records, count, bytes);
+    const uint32_t answer = cvec_phase_grow(grower, bytes, len, receipt);
+    free(bytes);
+    return answer;
 }
 
 static uint32_t phase_read(cvec_type type, cvec_handle *grower, uint64_t from, void *out, size_t room, uint64_t *count) {
-    switch (type) {
-    case CVEC_U32: return cvec_phase_read_u32(grower, from, out, room, count);
-    case CVEC_PAIR: return cvec_phase_read_pair(grower, from, out, room, count);
-    case CVEC_FLAGGED: return cvec_phase_read_flagged(grower, from, out, room, count);
-    default: return cvec_phase_read_u64(grower, from, out, room, count);
-    }
+    const uint32_t answer = cvec_phase_read(grower, from, out, cvec_bytes_of(type, room), count);
+    if (answer == CVEC_DONE && type == CVEC_FLAGGED) cvec_unpack(out, (size_t)*count);
+    return answer;
 }
 
 static uint32_t vault_change(cvec_type type, cvec_handle *vault, uint64_t start, const void *records, size_t count) {
-    switch (type) {
-    case CVEC_U32: return cvec_vault_change_u32(vault, start, records, count);
-    case CVEC_PAIR: return cvec_vault_change_pair(vault, start, records, count);
-    case CVEC_FLAGGED: return cvec_vault_change_flagged(vault, start, records, count);
-    default: return cvec_vault_change_u64(vault, start, records, count);
-    }
+    const size_t len = cvec_bytes_of(type, count);
+    if (type != CVEC_FLAGGED) return cvec_vault_change(vault, start, records, len);
+    uint8_t *bytes = malloc(len > 0 ? len : 1);
+    if (bytes == NULL) return CVEC_MEMORY;
+    cvec_pack(records, count, bytes);
+    const uint32_t answer = cvec_vault_change(vault, start, bytes, len);
+    free(bytes);
+    return answer;
+}
+
+/* The bytes of one record: where it stands, or, packed, in `room`. */
+static const uint8_t *bytes_of_one(cvec_type type, const void *record, uint8_t room[FLAGGED_LEN]) {
+    if (type != CVEC_FLAGGED) return record;
+    cvec_pack(record, 1, room);
+    return room;
 }
 
 static uint32_t vault_resize(cvec_type type, cvec_handle *vault, uint64_t size, const void *record) {
-    switch (type) {
-    case CVEC_U32: return cvec_vault_resize_u32(vault, size, *(const uint32_t *)record);
-    case CVEC_PAIR: return cvec_vault_resize_pair(vault, size, record);
-    case CVEC_FLAGGED: return cvec_vault_resize_flagged(vault, size, record);
-    default: return cvec_vault_resize_u64(vault, size, *(const uint64_t *)record);
-    }
+    uint8_t room[FLAGGED_LEN];
+    return cvec_vault_resize(vault, size, bytes_of_one(type, record, room), width_of(type));
 }
 
 static uint32_t phase_count(cvec_type type, cvec_handle *grower, const void *record, uint64_t *count) {
-    switch (type) {
-    case CVEC_U32: return cvec_phase_count_u32(grower, *(const uint32_t *)record, count);
-    case CVEC_PAIR: return cvec_phase_count_pair(grower, record, count);
-    case CVEC_FLAGGED: return cvec_phase_count_flagged(grower, record, count);
-    default: return cvec_phase_count_u64(grower, *(const uint64_t *)record, count);
-    }
+    uint8_t room[FLAGGED_LEN];
+    return cvec_phase_count(grower, bytes_of_one(type, record, room), width_of(type), count);
 }
 
 static uint32_t phase_find(cvec_type type, cvec_handle *grower, const void *record, uint64_t from, uint64_t *place) {
-    switch (type) {
-    case CVEC_U32: return cvec_phase_find_u32(grower, *(const uint32_t *)record, from, place);
-    case CVEC_PAIR: return cvec_phase_find_pair(grower, record, from, place);
-    case CVEC_FLAGGED: return cvec_phase_find_flagged(grower, record, from, place);
-    default: return cvec_phase_find_u64(grower, *(const uint64_t *)record, from, place);
-    }
+    uint8_t room[FLAGGED_LEN];
+    return cvec_phase_find(grower, bytes_of_one(type, record, room), width_of(type), from, place);
 }
 
 /* Whether what names records of u64 is for this vector. */
@@ -283,10 +282,9 @@ static uint32_t make_call(cvec_vector *vector, uint64_t number) {
 
 /* Makes the listed calls in their order. */
 static uint32_t make_calls(cvec_vector *vector) {
-    uint64_t count = 0;
-    uint32_t answer = cvec_phase_calls(&vector->committer, &count);
-    for (uint64_t number = 0; answer == CVEC_DONE && number < count; number++) answer = make_call(vector, number);
-    return answer;
+    uint32_t answer = CVEC_DONE;
+    for (uint64_t number = 0; answer == CVEC_DONE; number++) answer = make_call(vector, number);
+    return answer == CVEC_OUT_OF_RANGE ? CVEC_DONE : answer; /* behind the last one */
 }
 
 /* For who has the committer: commits one group of what was grown. The library counts the growths of this phase. */
@@ -565,7 +563,8 @@ uint32_t cvec_vector_resize(cvec_vector *vector, uint64_t size, uint64_t record)
 
 uint32_t cvec_vector_clear(cvec_vector *vector) {
     uint32_t answer = enter_alone(vector);
-    return answer == CVEC_DONE ? settle_alone(vector, cvec_vault_clear(&vector->committer)) : answer;
+    static const uint8_t none[MOST_WIDTH]; /* of no record more a copy is made */
+    return answer == CVEC_DONE ? settle_alone(vector, cvec_vault_resize(&vector->committer, 0, none, width_of(vector->type))) : answer;
 }
 
 uint32_t cvec_vector_fold(cvec_vector *vector) {
@@ -646,8 +645,7 @@ static uint32_t begin(cvec_vector *vector, uint8_t version) {
     if (answer == CVEC_DONE) answer = cvec_phase_file(len, width, file);
     if (answer == CVEC_DONE) answer = feed(file, vector->fd, len);
     if (answer != CVEC_DONE) return answer;
-    if (version == 0) return cvec_phase_open(file, vector->growths, vector->most_seats, &vector->phase);
-    return cvec_phase_create(file, version, vector->growths, vector->most_seats, &vector->phase);
+    return cvec_phase_begin(file, version, vector->growths, vector->most_seats, &vector->phase);
 }
 
 /* Opens the file and begins its vector; a version of 0 opens one that is there. */

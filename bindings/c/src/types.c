@@ -1,5 +1,7 @@
 /* The tables of cvec.h: tested, not proved. */
-#include "cvec.h"
+#include "types.h"
+
+#include <string.h>
 
 const cvec_type_of *cvec_types(size_t *count) {
     static const cvec_type_of types[] = {
@@ -25,4 +27,33 @@ const char *cvec_cause_text(uint32_t cause) {
     static const char *const texts[] = {"none", "no gate", "short frame", "kind", "too large", "layout", "runs", "range",
                                         "unfolded", "fold count", "too long", "bad record"};
     return cause < sizeof texts / sizeof *texts ? texts[cause] : "unknown";
+}
+
+size_t cvec_bytes_of(cvec_type type, size_t count) {
+    size_t types;
+    const cvec_type_of *of = cvec_types(&types);
+    if ((size_t)type >= types) return 0;
+    const size_t most = PTRDIFF_MAX / of[type].width;
+    return (count < most ? count : most) * of[type].width;
+}
+
+enum { KEY_LEN = sizeof(uint64_t) };
+
+void cvec_pack(const void *records, size_t count, uint8_t *out) {
+    const uint8_t *at = records;
+    for (; count > 0; count--, at += sizeof(cvec_flagged), out += FLAGGED_LEN) {
+        memcpy(out, at + offsetof(cvec_flagged, key), KEY_LEN);
+        out[KEY_LEN] = at[offsetof(cvec_flagged, flag)];
+    }
+}
+
+/* From the last record on: it goes behind all of those before it. */
+void cvec_unpack(void *records, size_t count) {
+    cvec_flagged *to = records;
+    while (count-- > 0) {
+        const uint8_t *at = (const uint8_t *)records + count * FLAGGED_LEN;
+        const bool flag = at[KEY_LEN] != 0;
+        memmove(&to[count].key, at, KEY_LEN);
+        to[count].flag = flag;
+    }
 }

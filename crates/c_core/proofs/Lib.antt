@@ -1,2 +1,3 @@
 pub mod NoRecords
+pub mod NoRoom
 pub mod Worked

@@ -1,33 +1,49 @@
--- Worked examples of what the libraries for C share: numbers of statuses and of types, bytes that are records or none, and records
+-- Worked examples of what the libraries for C share: numbers of refusals and of types, bytes that are records or none, and records
 -- that are written, each with the nearest that it must not be.
-use Rattle.std.proofs.Common.{◌≡◌, ℕ, zero, suc, ◌<◌, true, List, [], ◌∷◌, Some, None, refl, arith}
+use Rattle.std.proofs.Common.{◌≡◌, ℕ, zero, suc, ◌<◌, true, List, [], ◌∷◌, ◌++◌, Option, Some, None, refl, ap, arith}
 use Rattle.std.specs.Int.{w16}
 use Rattle.record_core.specs.Bytes.{Encoding, unsigned, flagged}
 use Rattle.record_core.specs.Cells.{AreRecords}
+use Rattle.record_core.specs.declared.key_flag.Flagged.{Flagged}
 use Rattle.segment_core.specs.declared.fault.Cause.TheVariants as causes
-use Rattle.segment_core.specs.declared.fault.ScanFault.{ScanFault}
 use Rattle.segment_core.specs.declared.fault.ScanFault.TheVariants as faults
 use Rattle.c_core.specs.declared.kind.Kind.TheVariants as kinds
-use Rattle.c_core.specs.declared.status.Status.TheVariants as statuses
+use Rattle.c_core.specs.declared.refusal.Refusal.{Refusal}
+use Rattle.c_core.specs.declared.refusal.Refusal.TheVariants as refusals
 use Rattle.c_core.specs.Kind.{kind_of, AtKind, OfKind}
-use Rattle.c_core.specs.Records.{AreNone, AreWritten}
-use Rattle.c_core.specs.Status.{code_of, of_scan}
+use Rattle.c_core.specs.Records.{AreNone, AreWritten, IsRecord, IsNoRecord}
+use Rattle.c_core.specs.Refusal.{code_of, of_scan}
 use Rattle.c_core.proofs.NoRecords.{not_whole, one_is_bad}
 
--- ---- statuses
+-- ---- refusals
 
 -- done is told of nothing that was refused
-never_done : (fault : ScanFault) → code_of (of_scan fault) ≡ 0 → ⊥
-never_done faults.Unborn is = absurd (omega arith)
-never_done faults.NotSegment is = absurd (omega arith)
-never_done (faults.Version version) is = absurd (omega arith)
-never_done (faults.Width width) is = absurd (omega arith)
-never_done (faults.Damaged at cause) is = absurd (omega arith)
-never_done faults.Memory is = absurd (omega arith)
-
+never_done : (refusal : Refusal) → code_of refusal ≡ 0 → ⊥
+never_done refusals.Unborn is = absurd (omega arith)
+never_done refusals.NotSegment is = absurd (omega arith)
+never_done refusals.Version is = absurd (omega arith)
+never_done refusals.Width is = absurd (omega arith)
+never_done refusals.Damaged is = absurd (omega arith)
+never_done refusals.Memory is = absurd (omega arith)
+never_done refusals.Empty is = absurd (omega arith)
+never_done refusals.OutOfRange is = absurd (omega arith)
+never_done refusals.TooLarge is = absurd (omega arith)
+never_done refusals.FileFull is = absurd (omega arith)
+never_done refusals.NoRoom is = absurd (omega arith)
+never_done refusals.NoFrame is = absurd (omega arith)
+never_done refusals.NoRecord is = absurd (omega arith)
+never_done refusals.Exists is = absurd (omega arith)
+never_done refusals.Broken is = absurd (omega arith)
+never_done refusals.NotSo is = absurd (omega arith)
+never_done refusals.Again is = absurd (omega arith)
+never_done refusals.Full is = absurd (omega arith)
+never_done refusals.Busy is = absurd (omega arith)
+never_done refusals.Unfolded is = absurd (omega arith)
+never_done refusals.Unsettled is = absurd (omega arith)
 told_in_numbers : (code_of (of_scan faults.Unborn) ≡ 1) × (code_of (of_scan (faults.Width 4)) ≡ 4) × (code_of (of_scan (faults.Damaged 33 causes.Runs)) ≡ 5)
-    × (code_of statuses.NoRecord ≡ 13) × (code_of statuses.NotSo ≡ 64)
-told_in_numbers = (refl, refl, refl, refl, refl)
+    × (code_of refusals.NoRecord ≡ 13) × (code_of refusals.Exists ≡ 32) × (code_of refusals.Broken ≡ 34) × (code_of refusals.NotSo ≡ 64)
+    × (code_of refusals.Again ≡ 65) × (code_of refusals.Full ≡ 66) × (code_of refusals.Busy ≡ 67) × (code_of refusals.Unfolded ≡ 69) × (code_of refusals.Unsettled ≡ 70)
+told_in_numbers = (refl, refl, refl, refl, refl, refl, refl, refl, refl, refl, refl, refl)
 
 -- ---- types
 
@@ -104,6 +120,27 @@ a_flag_of_2 = one_is_bad flagged (5 ∷ 0 ∷ 0 ∷ 0 ∷ 0 ∷ 0 ∷ 0 ∷ 0 �
 
 a_byte_less : AreNone flagged (5 ∷ 0 ∷ 0 ∷ 0 ∷ 0 ∷ 0 ∷ 0 ∷ 0 ∷ [])
 a_byte_less = not_whole flagged (5 ∷ 0 ∷ 0 ∷ 0 ∷ 0 ∷ 0 ∷ 0 ∷ 0 ∷ []) 9 refl (λ whole. absurd (omega arith))
+
+-- ---- bytes that are one record
+
+one_of_it : IsRecord flagged five_and_set (record { key = 5; flag = true })
+one_of_it = record { whole = refl; read = refl }
+
+abbrev key_in : Option Flagged → ℕ
+key_in None = 0
+key_in (Some flagged) = flagged.key
+
+not_another : IsRecord flagged five_and_set (record { key = 6; flag = true }) → ⊥
+not_another is = absurd (let same = ap key_in is.read in omega (arith, same))
+
+not_none_of_it : IsNoRecord flagged five_and_set → ⊥
+not_none_of_it none = absurd (let same = none refl in cc)
+
+a_byte_less_is_none : IsNoRecord flagged (5 ∷ 0 ∷ 0 ∷ 0 ∷ 0 ∷ 0 ∷ 0 ∷ 0 ∷ [])
+a_byte_less_is_none same = absurd (omega (arith, same))
+
+two_are_not_one : (flag : Flagged) → IsRecord flagged (five_and_set ++ five_and_set) flag → ⊥
+two_are_not_one flag is = absurd (let same = is.whole in omega (arith, same))
 
 -- ---- records that are written
 

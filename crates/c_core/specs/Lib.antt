@@ -1,3 +1,3 @@
-pub mod Status
+pub mod Refusal
 pub mod Kind
 pub mod Records

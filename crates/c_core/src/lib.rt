@@ -1,4 +1,4 @@
-//! What the libraries for C share: what a call answers, the types of records by their numbers, and records that come and go
+//! What the libraries for C share: why a call is refused, the types of records by their numbers, and records that come and go
 //! as their bytes, one behind the other as in a file.
 //!
 //! C has no type parameters, so a call takes the number of a type. `of_kind!` calls the function of the records that it has,
@@ -7,8 +7,8 @@
 
 mod kind;
 mod records;
-mod status;
+mod refusal;
 
 pub use kind::Kind;
-pub use records::{records_of, write_from};
-pub use status::Status;
+pub use records::{record_of, records_of, write_from};
+pub use refusal::Refusal;

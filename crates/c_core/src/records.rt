@@ -1,11 +1,11 @@
 //! Records that come as their bytes, and go so.
 
-ghost use Rattle.std.specs.Prelude.{◌≡◌, ◌<◌, ◌*◌, ◌⊎◌, ℕ, None, MatchBool, IfOk, IfErr, length};
+ghost use Rattle.std.specs.Prelude.{◌≡◌, ◌<◌, ◌≤◌, ◌*◌, ◌⊎◌, ℕ, None, MatchBool, MatchOption, IfOk, IfErr, length};
 ghost use Rattle.std.specs.List.{flat_map};
 ghost use Rattle.record_core.specs.Cells.{AreRecords, cell};
-ghost use Rattle.c_core.specs.Records.{AreNone, AreWritten};
+ghost use Rattle.c_core.specs.Records.{AreNone, AreWritten, IsRecord, IsNoRecord};
 
-use crate::status::Status;
+use crate::refusal::Refusal;
 use record_core::{Record, width_of};
 use std::alloc::Global;
 
@@ -32,23 +32,33 @@ fn take_all<R: Record>(bytes: &[u8], out: &mut [R]) -> bool
 
 /// The records that these bytes are. `NoRecord`: they are none; else memory was refused.
 #[tactic(auto, using(crate::proofs::NoRecords::not_whole, crate::proofs::NoRecords::one_is_bad))]
-pub fn records_of<R: Record>(alloc: Global, bytes: &[u8]) -> Result<Vec<R>, Status>
+pub fn records_of<R: Record>(alloc: Global, bytes: &[u8]) -> Result<Vec<R>, Refusal>
     ensures are { IfOk result (λ records. AreRecords R.form bytes.now records.items) }
-    ensures none { IfErr result (λ status. (status ≡ Status.Memory) ⊎ ((status ≡ Status.NoRecord) × AreNone R.form bytes.now)) }
+    ensures none { IfErr result (λ refusal. (refusal ≡ Refusal.Memory) ⊎ ((refusal ≡ Refusal.NoRecord) × AreNone R.form bytes.now)) }
 {
     let width = width_of::<R>();
     let count = bytes.len() / width;
     if bytes.len() % width != 0 {
-        return Err(Status::NoRecord);
+        return Err(Refusal::NoRecord);
     }
     let Ok(mut records) = Vec::from_elem(alloc, R::blank(), count) else {
-        return Err(Status::Memory);
+        return Err(Refusal::Memory);
     };
     if take_all(bytes, &mut records) {
         Ok(records)
     } else {
-        Err(Status::NoRecord)
+        Err(Refusal::NoRecord)
     }
+}
+
+/// The one record that these bytes are. `None`: they are none, or of another width.
+pub fn record_of<R: Record>(bytes: &[u8]) -> Option<R>
+    ensures { MatchOption result (IsNoRecord R.form bytes.now) (IsRecord R.form bytes.now) }
+{
+    if bytes.len() != width_of::<R>() {
+        return None;
+    }
+    R::take(bytes)
 }
 
 // ---- out
@@ -67,7 +77,8 @@ fn put_all<R: Record>(records: &[R], out: &mut [u8])
 
 /// Writes the bytes of the records from position `from` on over the front of `out`, as far as both reach, and answers of how many.
 pub fn write_from<R: Record>(records: &[R], from: u64, out: &mut [u8]) -> u64
-    ensures { AreWritten R.form records.now from out.old out.new result }
+    ensures written { AreWritten R.form records.now from out.old out.new result }
+    ensures some { (result ≡ 0) → (length records.now ≤ from) ⊎ (length out.old < R.form.width) }
 {
     if from >= records.len() as u64 {
         return 0;

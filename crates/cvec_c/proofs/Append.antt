@@ -23,20 +23,20 @@ use Rattle.segment_core.proofs.Push.{text_push, tally_from_push, Begins_push, Ha
 use Rattle.segment_core.proofs.OneMore.{IsVectorOf_begins, IsVectorOf_group}
 use Rattle.segment_core.proofs.ReadAgain.{is_frame, may_follow}
 use Rattle.segment_core.proofs.Written.{length-group_frame}
-use Rattle.c_core.specs.declared.status.Status.{Status}
+use Rattle.c_core.specs.declared.refusal.Refusal.{Refusal}
 use Rattle.c_core.specs.Records.{AreNone}
-use Rattle.c_core.specs.Status.{code_of}
+use Rattle.c_core.specs.Refusal.{code_of}
 use Rattle.cvec_c.specs.declared.stat.CvecStat.{CvecStat}
 use Rattle.cvec_c.specs.Stat.{HasStat}
-use Rattle.cvec_c.specs.Append.{first_status, append_lines, IsSameTo, IsShutAt, limit_in, append_len, AnswersFor}
+use Rattle.cvec_c.specs.Append.{first_refusal, append_lines, IsSameTo, IsShutAt, limit_in, append_len, AnswersFor}
 
 -- ---- tests
 
-abbrev AreClear : List (Bool × Status) → Type 0
+abbrev AreClear : List (Bool × Refusal) → Type 0
 AreClear [] = Unit {0}
 AreClear (line ∷ lines) = (line.0 ≡ false) × AreClear lines
 
-clear_by_none : (lines : List (Bool × Status)) → first_status lines ≡ None → AreClear lines
+clear_by_none : (lines : List (Bool × Refusal)) → first_refusal lines ≡ None → AreClear lines
 clear_by_none [] is = tt
 clear_by_none ((true, status) ∷ lines) is = absurd cc
 clear_by_none ((false, status) ∷ lines) is = (refl, clear_by_none lines is)
@@ -54,7 +54,7 @@ positive n is = elim (cases_lt 0 n) [
   | inr none ↦ (let never = eqb-false n 0 is in absurd (never (omega arith)))
 ]
 
-pub allowed : (width : ℕ) (stat : CvecStat) (records room : ℕ) → first_status (append_lines width stat records room) ≡ None → IsAllowed width stat records
+pub allowed : (width : ℕ) (stat : CvecStat) (records room : ℕ) → first_refusal (append_lines width stat records room) ≡ None → IsAllowed width stat records
 allowed width stat records room is =
     let clear = clear_by_none (append_lines width stat records room) is in
     let behind = clear.1.1 in
@@ -230,15 +230,15 @@ module _ {R : Type 0} (form : Encoding R) (old : CvecStat) (image other : List �
 -- of bytes that are records the same is answered as of these
 pub answered : {R : Type 0} (form : Encoding R) (stat : CvecStat) (bytes : List ℕ) (room answer : ℕ) (records : List R)
     → 0 < form.width → AreRecords form bytes records
-    → first_status (append_lines form.width stat (length bytes / form.width) room) ≡ None
-    → MatchOption (first_status (append_lines form.width stat (length records) room)) ((answer ≡ 0) ⊎ (answer ≡ 6)) (λ status. answer ≡ code_of status)
+    → first_refusal (append_lines form.width stat (length bytes / form.width) room) ≡ None
+    → MatchOption (first_refusal (append_lines form.width stat (length records) room)) ((answer ≡ 0) ⊎ (answer ≡ 6)) (λ refusal. answer ≡ code_of refusal)
     → AnswersFor stat bytes room answer R form
 answered form stat bytes room answer records wide are none so =
     let count : length bytes / form.width ≡ length records = ap (λ n. n / form.width) are.filled ∙ mul-div_cancel (length records) wide in
-    let there = subst (λ n. MatchOption (first_status (append_lines form.width stat n room)) ((answer ≡ 0) ⊎ (answer ≡ 6)) (λ status. answer ≡ code_of status)) (sym count) so in
-    let either : (answer ≡ 0) ⊎ (answer ≡ 6) = subst (λ s. MatchOption s ((answer ≡ 0) ⊎ (answer ≡ 6)) (λ status. answer ≡ code_of status)) none there in
+    let there = subst (λ n. MatchOption (first_refusal (append_lines form.width stat n room)) ((answer ≡ 0) ⊎ (answer ≡ 6)) (λ refusal. answer ≡ code_of refusal)) (sym count) so in
+    let either : (answer ≡ 0) ⊎ (answer ≡ 6) = subst (λ s. MatchOption s ((answer ≡ 0) ⊎ (answer ≡ 6)) (λ refusal. answer ≡ code_of refusal)) none there in
     let any : (answer ≡ 0) ⊎ ((answer ≡ 6) ⊎ ((answer ≡ 13) × AreNone form bytes)) = (elim either [
       | inl done ↦ inl done
       | inr memory ↦ inr (inl memory)
     ]) in
-    subst (λ s. MatchOption s ((answer ≡ 0) ⊎ ((answer ≡ 6) ⊎ ((answer ≡ 13) × AreNone form bytes))) (λ status. answer ≡ code_of status)) (sym none) any
+    subst (λ s. MatchOption s ((answer ≡ 0) ⊎ ((answer ≡ 6) ⊎ ((answer ≡ 13) × AreNone form bytes))) (λ refusal. answer ≡ code_of refusal)) (sym none) any

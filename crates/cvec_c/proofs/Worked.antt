@@ -23,18 +23,18 @@ use Rattle.segment_core.specs.Reading.{BeginsWith}
 use Rattle.segment_core.proofs.Longest.{NoFrame_fault, is_longest}
 use Rattle.segment_core.proofs.Refusals.{longest_closed}
 use Rattle.segment_core.proofs.OneVector.{one_list, sound_header, same_vector}
-use Rattle.c_core.specs.declared.status.Status.{Status}
-use Rattle.c_core.specs.declared.status.Status.TheVariants as statuses
+use Rattle.c_core.specs.declared.refusal.Refusal.{Refusal}
+use Rattle.c_core.specs.declared.refusal.Refusal.TheVariants as refusals
 use Rattle.c_core.specs.Kind.{OfKind}
 use Rattle.c_core.specs.Records.{AreWritten}
-use Rattle.c_core.specs.Status.{code_of, of_scan}
+use Rattle.c_core.specs.Refusal.{code_of, of_scan}
 use Rattle.c_core.proofs.NoRecords.{not_whole}
 use Rattle.cvec_c.specs.declared.frame.CvecFrame.{CvecFrame}
 use Rattle.cvec_c.specs.declared.stat.CvecStat.{CvecStat}
 use Rattle.cvec_c.specs.declared.fault.CvecFault.{CvecFault}
 use Rattle.cvec_c.specs.Stat.{HasStat, ToldOf}
 use Rattle.cvec_c.specs.Fault.{fault_record}
-use Rattle.cvec_c.specs.Append.{first_status, append_lines, AppendsTo, AppendsBytes, AnswersFor}
+use Rattle.cvec_c.specs.Append.{first_refusal, append_lines, AppendsTo, AppendsBytes, AnswersFor}
 use Rattle.cvec_c.specs.Empty.{empty_lines, Creates}
 use Rattle.cvec_c.specs.Frame.{IsFrameTold, IsNoFrame}
 use Rattle.cvec_c.specs.Homes.{as_homes, HasHomes, TellsHomes, NeedsRoom}
@@ -354,25 +354,25 @@ not_done_without_room answer = absurd (omega arith)
 -- ---- refusals
 
 -- the first one that holds is told
-abbrev asked : ℕ → ℕ → ℕ → CvecStat → Option Status
-asked width records room stat = first_status (append_lines width stat records room)
+abbrev asked : ℕ → ℕ → ℕ → CvecStat → Option Refusal
+asked width records room stat = first_refusal (append_lines width stat records room)
 
 refusals_in_order :
     (asked 8 1 23 empty_stat ≡ None)
-    × (asked 8 1 22 empty_stat ≡ Some statuses.NoRoom)
-    × (asked 8 0 0 empty_stat ≡ Some statuses.Empty)
-    × (asked 4 0 0 empty_stat ≡ Some statuses.Width)
-    × (asked 4 0 0 (record empty_stat { version = 3 }) ≡ Some statuses.Version)
+    × (asked 8 1 22 empty_stat ≡ Some refusals.NoRoom)
+    × (asked 8 0 0 empty_stat ≡ Some refusals.Empty)
+    × (asked 4 0 0 empty_stat ≡ Some refusals.Width)
+    × (asked 4 0 0 (record empty_stat { version = 3 }) ≡ Some refusals.Version)
     × (asked 8 131071 2000000 empty_stat ≡ None)
-    × (asked 8 131072 2000000 empty_stat ≡ Some statuses.TooLarge)
+    × (asked 8 131072 2000000 empty_stat ≡ Some refusals.TooLarge)
     × (asked 8 131072 2000000 (record empty_stat { version = 2 }) ≡ None)
     × (asked 8 2 99 (record empty_stat { size = 4294967294 }) ≡ None)
-    × (asked 8 3 99 (record empty_stat { size = 4294967294 }) ≡ Some statuses.OutOfRange)
-    × (asked 8 1 0 (record empty_stat { gate = 281474976710634 }) ≡ Some statuses.FileFull)
+    × (asked 8 3 99 (record empty_stat { size = 4294967294 }) ≡ Some refusals.OutOfRange)
+    × (asked 8 1 0 (record empty_stat { gate = 281474976710634 }) ≡ Some refusals.FileFull)
     × (asked 8 1 99 (record empty_stat { gate = 281474976710633 }) ≡ None)
 refusals_in_order = (refl, refl, refl, refl, refl, refl, refl, refl, refl, refl, refl, refl)
 
-refusals_of_an_empty_file : (first_status (empty_lines 2 12) ≡ None) × (first_status (empty_lines 2 11) ≡ Some statuses.NoRoom) × (first_status (empty_lines 0 0) ≡ Some statuses.Version)
+refusals_of_an_empty_file : (first_refusal (empty_lines 2 12) ≡ None) × (first_refusal (empty_lines 2 11) ≡ Some refusals.NoRoom) × (first_refusal (empty_lines 0 0) ≡ Some refusals.Version)
 refusals_of_an_empty_file = (refl, refl, refl)
 
 told_in_numbers : (fault_record (damaged 33 causes.ShortFrame) ≡ record { at = 33; cause = 2; found = 0 }) × (fault_record (damaged 34 (causes.Kind 5)) ≡ record { at = 34; cause = 3; found = 5 })

@@ -5,19 +5,19 @@ use Rattle.record_core.specs.Cells.{AreRecords}
 use Rattle.record_core.specs.Limits.{record_limit, payload_limit}
 use Rattle.segment_core.specs.Fault.{is_version}
 use Rattle.segment_core.specs.Found.{StandsAt}
-use Rattle.c_core.specs.declared.status.Status.{Status}
-use Rattle.c_core.specs.declared.status.Status.TheVariants.{Done, Version, Width, Memory, Empty, OutOfRange, TooLarge, FileFull, NoRoom, NoRecord}
+use Rattle.c_core.specs.declared.refusal.Refusal.{Refusal}
+use Rattle.c_core.specs.declared.refusal.Refusal.TheVariants.{Version, Width, Memory, Empty, OutOfRange, TooLarge, FileFull, NoRoom, NoRecord}
 use Rattle.c_core.specs.Records.{AreNone}
-use Rattle.c_core.specs.Status.{code_of}
+use Rattle.c_core.specs.Refusal.{code_of}
 use Rattle.cvec_c.specs.declared.stat.CvecStat.{CvecStat}
 use Rattle.cvec_c.specs.Stat.{HasStat}
 
 -- ---- refusals
 
 -- what is answered at the first test that holds
-abbrev pub first_status : List (Bool × Status) → Option Status
-first_status [] = None
-first_status (line ∷ lines) = if line.0 then Some line.1 else first_status lines
+abbrev pub first_refusal : List (Bool × Refusal) → Option Refusal
+first_refusal [] = None
+first_refusal (line ∷ lines) = if line.0 then Some line.1 else first_refusal lines
 
 -- the bytes of a payload at most, in a file of this version
 abbrev pub limit_in : ℕ → ℕ
@@ -28,7 +28,7 @@ abbrev pub append_len : ℕ → ℕ → ℕ
 append_len width records = 15 + records * width
 
 -- so many records of this width behind a file, and so many bytes that may be written over
-abbrev pub append_lines : ℕ → CvecStat → ℕ → ℕ → List (Bool × Status)
+abbrev pub append_lines : ℕ → CvecStat → ℕ → ℕ → List (Bool × Refusal)
 append_lines width stat records room =
     (not (is_version stat.version), Version)
     ∷ (not (stat.width == width), Width)
@@ -67,9 +67,9 @@ pub record AppendsTo {R : Type 0} (form : Encoding R) (old : CvecStat) (new : Li
 -- no records of this form.
 abbrev pub AnswersFor : CvecStat → List ℕ → ℕ → ℕ → (R : Type 0) → Encoding R → Type 0
 AnswersFor stat bytes room answer R form =
-    MatchOption (first_status (append_lines form.width stat (length bytes / form.width) room))
-    ((answer ≡ code_of Done) ⊎ ((answer ≡ code_of Memory) ⊎ ((answer ≡ code_of NoRecord) × AreNone form bytes)))
-    (λ status. answer ≡ code_of status)
+    MatchOption (first_refusal (append_lines form.width stat (length bytes / form.width) room))
+    ((answer ≡ 0) ⊎ ((answer ≡ code_of Memory) ⊎ ((answer ≡ code_of NoRecord) × AreNone form bytes)))
+    (λ refusal. answer ≡ code_of refusal)
 
 -- the bytes are records of this form, and what is written at the gate appends them
 abbrev pub AppendsBytes : CvecStat → List ℕ → List ℕ → CvecStat → (R : Type 0) → Encoding R → Type 0

@@ -4,13 +4,13 @@ use Rattle.record_core.specs.Bytes.{Encoding}
 use Rattle.segment_core.specs.declared.fault.ScanFault.TheVariants as faults
 use Rattle.segment_core.specs.Fault.{is_version, header_fault}
 use Rattle.segment_core.specs.Found.{StandsAt}
-use Rattle.c_core.specs.declared.status.Status.{Status}
-use Rattle.c_core.specs.declared.status.Status.TheVariants.{Version, NoRoom}
+use Rattle.c_core.specs.declared.refusal.Refusal.{Refusal}
+use Rattle.c_core.specs.declared.refusal.Refusal.TheVariants.{Version, NoRoom}
 use Rattle.cvec_c.specs.declared.stat.CvecStat.{CvecStat}
 use Rattle.cvec_c.specs.Stat.{HasStat}
 
 -- a version that isn't known, and fewer bytes than an empty file has
-abbrev pub empty_lines : ℕ → ℕ → List (Bool × Status)
+abbrev pub empty_lines : ℕ → ℕ → List (Bool × Refusal)
 empty_lines version room = (not (is_version version), Version) ∷ (nat_lt room 12, NoRoom) ∷ []
 
 -- These bytes at place 0 are an empty file of records of this form. Whatever a crash leaves while they are written behind their first byte, and

@@ -6,10 +6,10 @@ use Rattle.beside_core.specs.declared.seen.Seen.{Seen}
 use Rattle.beside_core.specs.declared.fault.LookFault.{LookFault}
 use Rattle.beside_core.specs.declared.fault.LookFault.TheVariants as look
 use Rattle.beside_core.specs.Seen.{IsSeen, IsUnseen, AnswersInTurn}
-use Rattle.c_core.specs.declared.status.Status.{Status}
-use Rattle.c_core.specs.declared.status.Status.TheVariants.{Memory, FileFull, NoRecord}
+use Rattle.c_core.specs.declared.refusal.Refusal.{Refusal}
+use Rattle.c_core.specs.declared.refusal.Refusal.TheVariants.{Memory, FileFull, NoRecord}
 use Rattle.c_core.specs.Records.{AreWritten}
-use Rattle.c_core.specs.Status.{code_of, of_scan}
+use Rattle.c_core.specs.Refusal.{code_of, of_scan}
 use Rattle.cvec_c.specs.declared.stat.CvecStat.{CvecStat}
 use Rattle.cvec_c.specs.declared.fault.CvecFault.{CvecFault}
 use Rattle.cvec_c.specs.Fault.{fault_record}
@@ -47,7 +47,7 @@ IsNoCall (look.NoRecord position) = Unit {0}
 IsNoCall look.TooFar = Unit {0}
 IsNoCall look.Memory = Unit {0}
 
-abbrev pub of_look : LookFault → Status
+abbrev pub of_look : LookFault → Refusal
 of_look (look.Disk fault) = Memory
 of_look (look.Scan fault) = of_scan fault
 of_look (look.NoRecord position) = NoRecord

@@ -9,7 +9,7 @@ use Rattle.segment_core.specs.Tally.{tally_of}
 use Rattle.segment_core.specs.Fault.{IsRefused}
 use Rattle.segment_core.specs.Vector.{HasVector}
 use Rattle.segment_core.specs.declared.vector.Scanned.{Scanned}
-use Rattle.c_core.specs.Status.{code_of, of_scan}
+use Rattle.c_core.specs.Refusal.{code_of, of_scan}
 use Rattle.cvec_c.specs.declared.stat.CvecStat.{CvecStat}
 use Rattle.cvec_c.specs.declared.fault.CvecFault.{CvecFault}
 use Rattle.cvec_c.specs.Fault.{fault_record}

@@ -2,15 +2,15 @@
 
 ghost use Rattle.std.specs.Prelude.{◌≡◌, ◌≢◌, ◌<◌, ◌+◌, ◌*◌, ◌^◌, ◌++◌, ◌∷◌, [], None, Some, ◌⊎◌, length, take, drop, IfOk, OnOk, MatchOption};
 ghost use Rattle.c_core.specs.Kind.{kind_of, AtKind, OfKind};
-ghost use Rattle.c_core.specs.Status.{code_of};
+ghost use Rattle.c_core.specs.Refusal.{code_of};
 ghost use Rattle.record_core.specs.Cells.{AreReadAgain};
 ghost use Rattle.segment_core.specs.declared.format.Format.{Format};
 ghost use Rattle.segment_core.specs.Frame.{frame_text};
 ghost use Rattle.segment_core.specs.Written.{group_frame};
-ghost use Rattle.cvec_c.specs.Append.{first_status, append_lines, append_len, AppendsTo, AppendsBytes, AnswersFor};
+ghost use Rattle.cvec_c.specs.Append.{first_refusal, append_lines, append_len, AppendsTo, AppendsBytes, AnswersFor};
 
 use crate::stat::CvecStat;
-use c_core::{Kind, Status, of_kind, records_of};
+use c_core::{Kind, Refusal, of_kind, records_of};
 use record_core::{GROWTH_HEAD_LEN, RECORD_LIMIT, Record, width_of};
 use segment_core::{CLOSED_GATE, FRAME_HEAD_LEN, Format, GATE_LIMIT, append_group};
 use std::alloc::{AllocError, Global};
@@ -19,31 +19,31 @@ use std::alloc::{AllocError, Global};
 const HEAD_LEN: u64 = (FRAME_HEAD_LEN + GROWTH_HEAD_LEN) as u64;
 
 /// Why so many records can't be appended, whatever memory there is.
-fn refusal<R: Record>(stat: &CvecStat, records: u64, room: u64) -> Option<Status>
-    ensures { result ≡ first_status (append_lines R.form.width stat.now records room) }
+fn refusal<R: Record>(stat: &CvecStat, records: u64, room: u64) -> Option<Refusal>
+    ensures { result ≡ first_refusal (append_lines R.form.width stat.now records room) }
 {
     let Some(format) = Format::from_version(stat.version) else {
-        return Some(Status::Version);
+        return Some(Refusal::Version);
     };
     let width = width_of::<R>() as u64;
     if u64::from(stat.width) != width {
-        return Some(Status::Width);
+        return Some(Refusal::Width);
     }
     if records == 0 {
-        return Some(Status::Empty);
+        return Some(Refusal::Empty);
     }
     if stat.size > RECORD_LIMIT || records > RECORD_LIMIT - stat.size {
-        return Some(Status::OutOfRange);
+        return Some(Refusal::OutOfRange);
     }
     let bytes = records * width;
     if GROWTH_HEAD_LEN as u64 + bytes > format.payload_limit() as u64 {
-        return Some(Status::TooLarge);
+        return Some(Refusal::TooLarge);
     }
     if stat.gate >= GATE_LIMIT || stat.gate + HEAD_LEN + bytes >= GATE_LIMIT {
-        return Some(Status::FileFull);
+        return Some(Refusal::FileFull);
     }
     if HEAD_LEN + bytes + 1 > room {
-        return Some(Status::NoRoom);
+        return Some(Refusal::NoRoom);
     }
     None
 }
@@ -75,19 +75,19 @@ fn append<R: Record>(
     out: &mut [u8],
     next: &mut CvecStat,
 ) -> u32
-    ensures answer { MatchOption (first_status (append_lines R.form.width stat.now (length records.now) (length out.old)))
+    ensures answer { MatchOption (first_refusal (append_lines R.form.width stat.now (length records.now) (length out.old)))
         ((result ≡ 0) ⊎ (result ≡ 6))
-        (λ status. result ≡ code_of status) }
+        (λ refusal. result ≡ code_of refusal) }
     ensures done { result ≡ 0 → AppendsTo R.form stat.now records.now (take (append_len R.form.width (length records.now)) out.new) next.new }
     ensures rest { drop (append_len R.form.width (length records.now)) out.new ≡ drop (append_len R.form.width (length records.now)) out.old }
     ensures refused { result ≢ 0 → (out.new ≡ out.old) × (next.new ≡ next.old) }
 {
     let count = records.len() as u64;
-    if let Some(status) = refusal::<R>(stat, count, out.len() as u64) {
-        return status.code();
+    if let Some(refusal) = refusal::<R>(stat, count, out.len() as u64) {
+        return refusal.code();
     }
     let Ok(bytes) = frame_of(alloc, records) else {
-        return Status::Memory.code();
+        return Refusal::Memory.code();
     };
     let len = bytes.len();
     out[..len].copy_from_slice(&bytes);
@@ -97,7 +97,7 @@ fn append<R: Record>(
         gate: stat.gate + (len as u64 - 1),
         ..*stat
     };
-    Status::Done.code()
+    0
 }
 
 /// Appends the records that these bytes are, as `append` says. Bytes that are no records are refused so where every test is passed,
@@ -115,12 +115,12 @@ fn append_bytes<R: Record>(
     ensures refused { result ≢ 0 → (out.new ≡ out.old) × (next.new ≡ next.old) }
 {
     let count = bytes.len() / width_of::<R>();
-    if let Some(status) = refusal::<R>(stat, count as u64, out.len() as u64) {
-        return status.code();
+    if let Some(refusal) = refusal::<R>(stat, count as u64, out.len() as u64) {
+        return refusal.code();
     }
     match records_of::<R>(alloc, bytes) {
         Ok(records) => append(alloc, stat, &records, out, next),
-        Err(status) => status.code(),
+        Err(refusal) => refusal.code(),
     }
 }
 
@@ -151,13 +151,13 @@ pub extern "C" fn cvec_image_append(
     out: &mut [u8],
     next: &mut CvecStat,
 ) -> u32
-    ensures answer { MatchOption (kind_of kind) (result ≡ code_of Status.NotSo) (AtKind (AnswersFor stat.now records.now (length out.old) result)) }
+    ensures answer { MatchOption (kind_of kind) (result ≡ code_of Refusal.NotSo) (AtKind (AnswersFor stat.now records.now (length out.old) result)) }
     ensures done { result ≡ 0 → OfKind (AppendsBytes stat.now records.now out.new next.new) kind }
     ensures rest { drop (15 + length records.now) out.new ≡ drop (15 + length records.now) out.old }
     ensures refused { result ≢ 0 → (out.new ≡ out.old) × (next.new ≡ next.old) }
 {
     match Kind::of_number(kind) {
         Some(kind) => append_kind(alloc, kind, stat, records, out, next),
-        None => Status::NotSo.code(),
+        None => Refusal::NotSo.code(),
     }
 }

@@ -5,7 +5,7 @@ ghost use Rattle.cvec_c.specs.Fault.{cause_code, fault_record};
 ghost use Rattle.cvec_c.specs.Look.{IsNoCall, of_look, look_record};
 
 use beside_core::LookFault;
-use c_core::Status;
+use c_core::Refusal;
 use segment_core::{Cause, ScanFault};
 
 /// Where and why an image has no vector.
@@ -21,16 +21,16 @@ pub struct CvecFault {
 }
 
 /// What is answered of bytes which show no vector for this. No file was called.
-pub(crate) fn status_of_look(fault: LookFault) -> Status
+pub(crate) fn refusal_of_look(fault: LookFault) -> Refusal
     requires { IsNoCall fault }
     ensures { result ≡ of_look fault }
 {
     match fault {
         LookFault::Disk(_) => unreachable!(),
-        LookFault::Scan(fault) => Status::of_scan(fault),
-        LookFault::NoRecord(_) => Status::NoRecord,
-        LookFault::TooFar => Status::FileFull,
-        LookFault::Memory => Status::Memory,
+        LookFault::Scan(fault) => Refusal::of_scan(fault),
+        LookFault::NoRecord(_) => Refusal::NoRecord,
+        LookFault::TooFar => Refusal::FileFull,
+        LookFault::Memory => Refusal::Memory,
     }
 }
 

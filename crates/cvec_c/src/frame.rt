@@ -5,7 +5,7 @@ ghost use Rattle.segment_core.specs.Kind.{kind_byte};
 ghost use Rattle.segment_core.specs.Reading.{lengths_of};
 ghost use Rattle.cvec_c.specs.Frame.{IsFrameTold, IsNoFrame};
 
-use c_core::Status;
+use c_core::Refusal;
 use segment_core::{FRAME_HEAD_LEN, FrameKind, FrameReader};
 
 /// What a frame has, and where.
@@ -57,7 +57,7 @@ pub extern "C" fn cvec_image_frame(
     ensures none { result ≢ 0 → (result ≡ 12) × (fields.new ≡ fields.old) × IsNoFrame image.now at version width }
 {
     let Some(frame) = FrameReader::new(image, at, version, width) else {
-        return Status::NoFrame.code();
+        return Refusal::NoFrame.code();
     };
     let next = at + FRAME_HEAD_LEN as u64 + u64::from(frame.payload_len());
     *fields = CvecFrame {
@@ -68,5 +68,5 @@ pub extern "C" fn cvec_image_frame(
         records: frame.records(),
         kind: kind_code(frame.kind()),
     };
-    Status::Done.code()
+    0
 }

@@ -3,13 +3,13 @@
 ghost use Rattle.std.specs.Prelude.{◌≡◌, ◌≢◌, ◌≤◌, ◌<◌, List, length, take, MatchOption, MatchResult};
 ghost use Rattle.segment_core.specs.Fault.{IsRefused};
 ghost use Rattle.c_core.specs.Kind.{kind_of, AtKind, OfKind};
-ghost use Rattle.c_core.specs.Status.{code_of};
+ghost use Rattle.c_core.specs.Refusal.{code_of};
 ghost use Rattle.cvec_c.specs.Homes.{HasHomes, as_homes, TellsHomes, NeedsRoom};
 ghost use Rattle.cvec_c.specs.Stat.{ToldOf};
 
 use crate::fault::CvecFault;
 use crate::stat::CvecStat;
-use c_core::{Kind, Status, of_kind};
+use c_core::{Kind, Refusal, of_kind};
 use record_core::Record;
 use segment_core::{Home, ScanFault, Scanner};
 use std::alloc::Global;
@@ -73,15 +73,15 @@ fn homes<R: Record>(
         Ok((found, homes)) => {
             *count = homes.len() as u64;
             if homes.len() > out.len() {
-                return Status::NoRoom.code();
+                return Refusal::NoRoom.code();
             }
             copy_homes(&homes, out);
             *stat = found;
-            Status::Done.code()
+            0
         }
         Err(refusal) => {
             *fault = CvecFault::of(refusal);
-            Status::of_scan(refusal).code()
+            Refusal::of_scan(refusal).code()
         }
     }
 }
@@ -118,10 +118,10 @@ pub extern "C" fn cvec_image_homes(
     ensures done { result ≡ 0 → OfKind (TellsHomes image.now out.new count.new stat.new) kind × (fault.new ≡ fault.old) }
     ensures no_room { result ≡ 11 → (length out.old < count.new) × OfKind (NeedsRoom image.now count.new) kind }
     ensures unchanged { result ≡ 11 → (out.new ≡ out.old) × (stat.new ≡ stat.old) × (fault.new ≡ fault.old) }
-    ensures refused { result ≢ 0 → result ≢ 11 → MatchOption (kind_of kind) ((result ≡ code_of Status.NotSo) × (fault.new ≡ fault.old)) (AtKind (ToldOf image.now result fault.new)) × (out.new ≡ out.old) × (count.new ≡ count.old) × (stat.new ≡ stat.old) }
+    ensures refused { result ≢ 0 → result ≢ 11 → MatchOption (kind_of kind) ((result ≡ code_of Refusal.NotSo) × (fault.new ≡ fault.old)) (AtKind (ToldOf image.now result fault.new)) × (out.new ≡ out.old) × (count.new ≡ count.old) × (stat.new ≡ stat.old) }
 {
     match Kind::of_number(kind) {
         Some(kind) => homes_kind(alloc, kind, image, out, count, stat, fault),
-        None => Status::NotSo.code(),
+        None => Refusal::NotSo.code(),
     }
 }

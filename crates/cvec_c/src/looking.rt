@@ -2,13 +2,13 @@
 
 ghost use Rattle.std.specs.Prelude.{◌≡◌, ◌≢◌, MatchOption};
 ghost use Rattle.c_core.specs.Kind.{kind_of, AtKind, OfKind};
-ghost use Rattle.c_core.specs.Status.{code_of};
+ghost use Rattle.c_core.specs.Refusal.{code_of};
 ghost use Rattle.cvec_c.specs.Look.{ShowsBytes, LookToldOf};
 
-use crate::fault::{CvecFault, status_of_look};
+use crate::fault::{CvecFault, refusal_of_look};
 use crate::stat::CvecStat;
 use beside_core::records_seen;
-use c_core::{Kind, Status, of_kind, write_from};
+use c_core::{Kind, Refusal, of_kind, write_from};
 use record_core::Record;
 use std::alloc::Global;
 
@@ -32,11 +32,11 @@ fn look_bytes<R: Record>(
         Ok(seen) => {
             *count = write_from(seen.records.as_slice(), from, out);
             *stat = CvecStat::of_seen(&seen);
-            Status::Done.code()
+            0
         }
         Err(refusal) => {
             *fault = CvecFault::of_look(refusal);
-            status_of_look(refusal).code()
+            refusal_of_look(refusal).code()
         }
     }
 }
@@ -74,10 +74,10 @@ pub extern "C" fn cvec_image_look(
     fault: &mut CvecFault,
 ) -> u32
     ensures done { result ≡ 0 → OfKind (ShowsBytes bytes.now from out.old out.new count.new stat.new) kind × (fault.new ≡ fault.old) }
-    ensures refused { result ≢ 0 → MatchOption (kind_of kind) ((result ≡ code_of Status.NotSo) × (fault.new ≡ fault.old)) (AtKind (LookToldOf bytes.now result fault.new)) × (out.new ≡ out.old) × (count.new ≡ count.old) × (stat.new ≡ stat.old) }
+    ensures refused { result ≢ 0 → MatchOption (kind_of kind) ((result ≡ code_of Refusal.NotSo) × (fault.new ≡ fault.old)) (AtKind (LookToldOf bytes.now result fault.new)) × (out.new ≡ out.old) × (count.new ≡ count.old) × (stat.new ≡ stat.old) }
 {
     match Kind::of_number(kind) {
         Some(kind) => look_kind(alloc, kind, bytes, from, out, count, stat, fault),
-        None => Status::NotSo.code(),
+        None => Refusal::NotSo.code(),
     }
 }

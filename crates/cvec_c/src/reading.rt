@@ -2,13 +2,13 @@
 
 ghost use Rattle.std.specs.Prelude.{◌≡◌, ◌≢◌, MatchOption};
 ghost use Rattle.c_core.specs.Kind.{kind_of, AtKind, OfKind};
-ghost use Rattle.c_core.specs.Status.{code_of};
+ghost use Rattle.c_core.specs.Refusal.{code_of};
 ghost use Rattle.cvec_c.specs.Reading.{ReadsBytes};
 ghost use Rattle.cvec_c.specs.Stat.{ToldOf};
 
 use crate::fault::CvecFault;
 use crate::stat::CvecStat;
-use c_core::{Kind, Status, of_kind, write_from};
+use c_core::{Kind, Refusal, of_kind, write_from};
 use record_core::Record;
 use segment_core::scan;
 use std::alloc::Global;
@@ -32,11 +32,11 @@ fn read_bytes<R: Record>(
         Ok(scanned) => {
             *count = write_from(scanned.records.as_slice(), from, out);
             *stat = CvecStat::of(&scanned);
-            Status::Done.code()
+            0
         }
         Err(refusal) => {
             *fault = CvecFault::of(refusal);
-            Status::of_scan(refusal).code()
+            Refusal::of_scan(refusal).code()
         }
     }
 }
@@ -75,10 +75,10 @@ pub extern "C" fn cvec_image_read(
     fault: &mut CvecFault,
 ) -> u32
     ensures done { result ≡ 0 → OfKind (ReadsBytes image.now from out.old out.new count.new stat.new) kind × (fault.new ≡ fault.old) }
-    ensures refused { result ≢ 0 → MatchOption (kind_of kind) ((result ≡ code_of Status.NotSo) × (fault.new ≡ fault.old)) (AtKind (ToldOf image.now result fault.new)) × (out.new ≡ out.old) × (count.new ≡ count.old) × (stat.new ≡ stat.old) }
+    ensures refused { result ≢ 0 → MatchOption (kind_of kind) ((result ≡ code_of Refusal.NotSo) × (fault.new ≡ fault.old)) (AtKind (ToldOf image.now result fault.new)) × (out.new ≡ out.old) × (count.new ≡ count.old) × (stat.new ≡ stat.old) }
 {
     match Kind::of_number(kind) {
         Some(kind) => read_kind(alloc, kind, image, from, out, count, stat, fault),
-        None => Status::NotSo.code(),
+        None => Refusal::NotSo.code(),
     }
 }

@@ -2,13 +2,13 @@
 use Rattle.std.proofs.Common.{◌≡◌, ℕ, Option, None, Some, inr, refl, sym, subst}
 use Rattle.std.specs.declared.cmp.PartialEq as PartialEq
 use Rattle.record_core.specs.declared.record.Record as Record
-use Rattle.handle_core.specs.declared.refusal.Refusal.{Refusal}
-use Rattle.handle_core.specs.declared.refusal.Refusal.TheVariants.{Memory, NotSo}
-use Rattle.handle_core.specs.Refusal.{code_of}
-use Rattle.handle_core.specs.declared.session.Role.{Role}
-use Rattle.handle_core.specs.declared.session.Role.TheVariants as roles
-use Rattle.handle_core.specs.declared.session.End.{End}
-use Rattle.handle_core.specs.declared.session.End.TheVariants as ends
+use Rattle.c_core.specs.declared.refusal.Refusal.{Refusal}
+use Rattle.c_core.specs.declared.refusal.Refusal.TheVariants.{Memory, NotSo}
+use Rattle.c_core.specs.Refusal.{code_of}
+use Rattle.handle_core.specs.declared.end.Role.{Role}
+use Rattle.handle_core.specs.declared.end.Role.TheVariants as roles
+use Rattle.handle_core.specs.declared.end.End.{End}
+use Rattle.handle_core.specs.declared.end.End.TheVariants as ends
 use Rattle.handle_core.specs.Ends.{Becomes, AllAt, AtAny}
 use Rattle.handle_core.specs.Roles.{Seats, RefusesSeat}
 use Rattle.handle_core.specs.Handles.{Refused}

@@ -1,13 +1,14 @@
 -- What handles have of a vector that begins.
 use Rattle.std.specs.Prelude.{◌≡◌, ◌≢◌, ◌⊎◌, ℕ, [], Option, None, Some}
+use Rattle.segment_core.specs.Shape.{version_of}
 use Rattle.segment_core.specs.declared.format.Format.{Format}
-use Rattle.handle_core.specs.declared.refusal.Refusal.TheVariants.{NotSo}
-use Rattle.handle_core.specs.Refusal.{code_of}
+use Rattle.c_core.specs.declared.refusal.Refusal.TheVariants.{NotSo}
+use Rattle.c_core.specs.Refusal.{code_of}
 use Rattle.handle_core.specs.Begins.{HasRead, Begins, RefusesBeginning}
 use Rattle.handle_core.specs.Roles.{Seats}
 use Rattle.handle_core.specs.Handles.{Refused}
 use Rattle.handle_core.specs.Ends.{OfAny, AtAny, AllAt, width_of}
-use Rattle.handle_core.specs.declared.session.End.{End}
+use Rattle.handle_core.specs.declared.end.End.{End}
 
 -- the handle has a file whose records have so many bytes, and of which nothing is read
 abbrev pub HasFile : ℕ → Option End → Type 0
@@ -19,13 +20,16 @@ abbrev pub HasBegun : Option Format → ℕ → ℕ → Option End → Option En
 HasBegun made growths seats (Some old) (Some new) (Some phase) = AllAt (λ _ _ _. Begins made growths seats) phase old new
 HasBegun made growths seats old new phase = ⊥
 
--- why it isn't so: the file is refused, and what is left of it
-abbrev pub IsNotBegun : ℕ → Option End → Option End → Type 0
-IsNotBegun = Refused (λ refusal. AtAny (λ _ _ _. RefusesBeginning refusal))
+-- a new file of that version is made, or, for 0, none
+abbrev pub IsMadeAs : ℕ → Option Format → Type 0
+IsMadeAs version None = version ≡ 0
+IsMadeAs version (Some format) = version ≡ version_of format
 
--- or there is no such version, and the handle is as it was
-abbrev pub IsNotCreated : ℕ → ℕ → Option End → Option End → Type 0
-IsNotCreated version code old new = IsNotBegun code old new ⊎ ((version ≢ 1) × (version ≢ 2) × (code ≡ code_of NotSo) × (new ≡ old))
+-- why it isn't so: the file is refused, and what is left of it; or there is no such version, and the handle is as it was
+abbrev pub IsNotBegun : ℕ → ℕ → Option End → Option End → Type 0
+IsNotBegun version code old new =
+    Refused (λ refusal. AtAny (λ _ _ _. RefusesBeginning refusal)) code old new
+    ⊎ ((version ≢ 0) × (version ≢ 1) × (version ≢ 2) × (code ≡ code_of NotSo) × (new ≡ old))
 
 -- the handle has what it had, or nothing
 abbrev pub IsLeft : Option End → Option End → Type 0

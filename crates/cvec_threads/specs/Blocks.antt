@@ -2,12 +2,12 @@
 use Rattle.std.specs.Prelude.{◌≡◌, ◌⊎◌, ℕ, Option, None, Some}
 use denote.RawPtr.{Ptr}
 use Rattle.book_core.specs.declared.seat.Receipt.{Receipt}
-use Rattle.handle_core.specs.declared.refusal.Refusal.{Refusal}
-use Rattle.handle_core.specs.declared.refusal.Refusal.TheVariants.{Memory, NotSo}
-use Rattle.handle_core.specs.Refusal.{code_of}
+use Rattle.c_core.specs.declared.refusal.Refusal.{Refusal}
+use Rattle.c_core.specs.declared.refusal.Refusal.TheVariants.{Memory, NotSo}
+use Rattle.c_core.specs.Refusal.{code_of}
 use Rattle.handle_core.specs.Roles.{IsBlockOf, RefusesBlock, Publishes, RefusesPublishing}
 use Rattle.handle_core.specs.Ends.{OfAny, AtAny, AllAt, RefusedWith}
-use Rattle.handle_core.specs.declared.session.End.{End}
+use Rattle.handle_core.specs.declared.end.End.{End}
 
 -- the one handle has a grower, and the other a block of so many blank records, which stand there
 abbrev pub HasBlock : ℕ → Ptr → Option End → Option End → Type 0

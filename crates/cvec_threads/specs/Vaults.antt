@@ -2,7 +2,7 @@
 use Rattle.std.specs.Prelude.{ℕ, Bool, Option, Some}
 use Rattle.handle_core.specs.Vaults.{FoldsAll, SharesOut}
 use Rattle.handle_core.specs.Ends.{AllAt, AtAny}
-use Rattle.handle_core.specs.declared.session.End.{End}
+use Rattle.handle_core.specs.declared.end.End.{End}
 
 -- the one handle had a vault and has who commits, and the other has the phase, with so much room and so many seats
 abbrev pub HasPhase : ℕ → ℕ → Option End → Option End → Option End → Type 0

@@ -4,10 +4,11 @@ ghost use Rattle.std.specs.Prelude.{◌≡◌, ◌≢◌};
 ghost use Rattle.handle_core.specs.Roles.{Plans, Settles, RefusesPlan, RefusesSettle};
 ghost use Rattle.handle_core.specs.Handles.{end_of, Refused};
 ghost use Rattle.handle_core.specs.Ends.{Becomes, AtAny};
-ghost use Rattle.cvec_threads.specs.Calls.{CountsCalls, TellsCall};
+ghost use Rattle.cvec_threads.specs.Calls.{TellsCall, RefusesCall};
 
-use crate::file_call::{CvecCall, call_at, count_of};
-use handle_core::{Handle, Refusal};
+use crate::file_call::{CvecCall, call_at};
+use c_core::Refusal;
+use handle_core::Handle;
 use std::alloc::Global;
 
 /// Lists the calls of the file that commit what was grown. `growths`: how many growths they commit.
@@ -16,41 +17,13 @@ pub extern "C" fn cvec_phase_plan(alloc: Global, committer: &mut Handle, growths
     ensures plans { result ≡ 0 → Becomes (AtAny (λ _ _ _. Plans growths.new)) (end_of committer.old) (end_of committer.new) }
     ensures refused { result ≢ 0 → Refused (λ refusal. AtAny (λ _ _ _. RefusesPlan refusal)) result (end_of committer.old) (end_of committer.new) × (growths.new ≡ growths.old) }
 {
-    let Some(mut session) = committer.take(alloc) else {
-        return Refusal::NotSo.code();
-    };
-    let planned = session.plan();
-    committer.put(session);
-    match planned {
-        Ok(count) => {
-            *growths = count;
-            0
-        }
-        Err(refusal) => refusal.code(),
-    }
+    let count = answer_of!(alloc, committer, end => end.plan());
+    *growths = count;
+    0
 }
 
-/// How many calls are listed.
-#[unsafe(no_mangle)]
-pub extern "C" fn cvec_phase_calls(alloc: Global, committer: &mut Handle, count: &mut u64) -> u32
-    ensures listed { result ≡ 0 → Becomes (CountsCalls count.new) (end_of committer.old) (end_of committer.new) }
-    ensures refused { result ≢ 0 → (end_of committer.new ≡ end_of committer.old) × (count.new ≡ count.old) }
-{
-    let Some(session) = committer.take(alloc) else {
-        return Refusal::NotSo.code();
-    };
-    let counted = count_of(&session);
-    committer.put(session);
-    match counted {
-        Ok(found) => {
-            *count = found;
-            0
-        }
-        Err(refusal) => refusal.code(),
-    }
-}
-
-/// The call of that number. The bytes that it writes stay where they are until a call plans, changes or closes.
+/// The call of that number, in the order in which they are to be made: `OutOfRange` where so many are listed. The bytes that it writes
+/// stay where they are until a call plans, changes or closes.
 #[unsafe(no_mangle)]
 pub extern "C" fn cvec_phase_call(
     alloc: Global,
@@ -59,20 +32,11 @@ pub extern "C" fn cvec_phase_call(
     call: &mut CvecCall,
 ) -> u32
     ensures told { result ≡ 0 → Becomes (TellsCall number call.new) (end_of committer.old) (end_of committer.new) }
-    ensures refused { result ≢ 0 → (end_of committer.new ≡ end_of committer.old) × (call.new ≡ call.old) }
+    ensures refused { result ≢ 0 → Refused (RefusesCall number) result (end_of committer.old) (end_of committer.new) × (call.new ≡ call.old) }
 {
-    let Some(session) = committer.take(alloc) else {
-        return Refusal::NotSo.code();
-    };
-    let found = call_at(&session, number);
-    committer.put(session);
-    match found {
-        Ok(found) => {
-            *call = found;
-            0
-        }
-        Err(refusal) => refusal.code(),
-    }
+    let found = answer_of!(alloc, committer, end => call_at(&end, number));
+    *call = found;
+    0
 }
 
 /// The host has made the calls, and each has succeeded: the growers are told what is durable. `count`: how many growths are.
@@ -81,16 +45,7 @@ pub extern "C" fn cvec_phase_settle(alloc: Global, committer: &mut Handle, count
     ensures settled { result ≡ 0 → Becomes (AtAny (λ _ _ _. Settles count.new)) (end_of committer.old) (end_of committer.new) }
     ensures refused { result ≢ 0 → Refused (λ refusal. AtAny (λ _ _ _. RefusesSettle refusal)) result (end_of committer.old) (end_of committer.new) × (count.new ≡ count.old) }
 {
-    let Some(mut session) = committer.take(alloc) else {
-        return Refusal::NotSo.code();
-    };
-    let settled = session.settle();
-    committer.put(session);
-    match settled {
-        Ok(found) => {
-            *count = found;
-            0
-        }
-        Err(refusal) => refusal.code(),
-    }
+    let found = answer_of!(alloc, committer, end => end.settle());
+    *count = found;
+    0
 }

@@ -1,9 +1,10 @@
 //! The calls of the file that C is to make.
 
-ghost use Rattle.std.specs.Prelude.{IfOk};
-ghost use Rattle.cvec_threads.specs.Calls.{IsToldOf, CountsCalls, TellsCall};
+ghost use Rattle.std.specs.Prelude.{IfOk, IfErr};
+ghost use Rattle.cvec_threads.specs.Calls.{IsToldOf, TellsCall, RefusesCall};
 
-use handle_core::{Refusal, Session};
+use c_core::Refusal;
+use handle_core::End;
 use relay_core::Call;
 use std::ptr;
 
@@ -42,20 +43,16 @@ impl CvecCall {
     }
 }
 
-/// How many calls are listed.
-pub(crate) fn count_of(session: &Session) -> Result<u64, Refusal>
-    ensures { IfOk result (λ count. CountsCalls count session.now.end session.now.end) }
+/// The call of that number. `OutOfRange` where so many are listed.
+pub(crate) fn call_at(end: &End, number: u64) -> Result<CvecCall, Refusal>
+    ensures told { IfOk result (λ call. TellsCall number call end.now end.now) }
+    ensures refused { IfErr result (λ refusal. RefusesCall number refusal end.now end.now) }
 {
-    let calls = session.calls()?;
-    Ok(calls.len() as u64)
-}
-
-/// The call of that number.
-pub(crate) fn call_at(session: &Session, number: u64) -> Result<CvecCall, Refusal>
-    ensures { IfOk result (λ call. TellsCall number call session.now.end session.now.end) }
-{
-    match session.calls()?.get(number as usize) {
-        Some(call) => Ok(CvecCall::of(call)),
-        None => Err(Refusal::NotSo),
+    match end.calls() {
+        Ok(calls) => match calls.get(number as usize) {
+            Some(call) => Ok(CvecCall::of(call)),
+            None => Err(Refusal::OutOfRange),
+        },
+        Err(refusal) => Err(refusal),
     }
 }

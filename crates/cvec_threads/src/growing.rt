@@ -1,7 +1,7 @@
 //! What a thread calls by its own handle.
 
 ghost use Rattle.std.specs.Prelude.{◌≡◌, ◌≢◌, None};
-ghost use Rattle.handle_core.specs.Roles.{Sizes, Tells, TellsPieces, RefusesLook, IsNoGrower};
+ghost use Rattle.handle_core.specs.Roles.{Grows, Reads, Counts, Finds, Sizes, Tells, TellsPieces, RefusesGrowth, RefusesLook, RefusesSearch, IsNoGrower};
 ghost use Rattle.handle_core.specs.Handles.{end_of, Refused};
 ghost use Rattle.handle_core.specs.Ends.{Becomes, AtAny};
 ghost use Rattle.cvec_threads.specs.Answers.{receipt_of, state_of};
@@ -9,7 +9,8 @@ ghost use Rattle.cvec_threads.specs.Begins.{IsLeft};
 ghost use Rattle.cvec_threads.specs.Blocks.{HasBlock, IsNoBlock, HasGrownBy, IsNotGrownBy};
 
 use book_core::{MarkState, Receipt};
-use handle_core::{Handle, Refusal};
+use c_core::Refusal;
+use handle_core::Handle;
 use phase_core::Piece;
 use std::alloc::Global;
 
@@ -65,19 +66,10 @@ pub extern "C" fn cvec_phase_settled(
     ensures told { result ≡ 0 → Becomes (AtAny (λ _ _ _. Tells count.new (state_of state.new))) (end_of grower.old) (end_of grower.new) }
     ensures refused { result ≢ 0 → Refused (λ refusal. AtAny (λ _ _ _. IsNoGrower refusal)) result (end_of grower.old) (end_of grower.new) × (count.new ≡ count.old) × (state.new ≡ state.old) }
 {
-    let Some(mut session) = grower.take(alloc) else {
-        return Refusal::NotSo.code();
-    };
-    let settled = session.settled();
-    grower.put(session);
-    match settled {
-        Ok((settled, told)) => {
-            *count = settled;
-            *state = state_code(told);
-            0
-        }
-        Err(refusal) => refusal.code(),
-    }
+    let (settled, told) = answer_of!(alloc, grower, end => end.settled());
+    *count = settled;
+    *state = state_code(told);
+    0
 }
 
 /// Learns what others grew, and how many records there are.
@@ -86,18 +78,75 @@ pub extern "C" fn cvec_phase_size(alloc: Global, grower: &mut Handle, size: &mut
     ensures size { result ≡ 0 → Becomes (AtAny (λ _ _ _. Sizes size.new)) (end_of grower.old) (end_of grower.new) }
     ensures refused { result ≢ 0 → Refused (λ refusal. AtAny (λ _ _ _. RefusesLook refusal)) result (end_of grower.old) (end_of grower.new) × (size.new ≡ size.old) }
 {
-    let Some(mut session) = grower.take(alloc) else {
-        return Refusal::NotSo.code();
-    };
-    let sized = session.size();
-    grower.put(session);
-    match sized {
-        Ok(found) => {
-            *size = found;
-            0
-        }
-        Err(refusal) => refusal.code(),
-    }
+    let found = answer_of!(alloc, grower, end => end.size());
+    *size = found;
+    0
+}
+
+/// Grows by the records that these bytes are, as one block behind all that was grown before.
+#[unsafe(no_mangle)]
+pub extern "C" fn cvec_phase_grow(
+    alloc: Global,
+    grower: &mut Handle,
+    records: &[u8],
+    receipt: &mut CvecReceipt,
+) -> u32
+    ensures grown { result ≡ 0 → Becomes (AtAny (λ _ _ _. Grows records.now (receipt_of receipt.new))) (end_of grower.old) (end_of grower.new) }
+    ensures refused { result ≢ 0 → Refused (λ refusal. AtAny (λ _ _ _. RefusesGrowth records.now refusal)) result (end_of grower.old) (end_of grower.new) × (receipt.new ≡ receipt.old) }
+{
+    let grown = answer_of!(alloc, grower, end => end.grow(alloc, records));
+    *receipt = CvecReceipt::of(grown);
+    0
+}
+
+/// Copies the bytes of records from position `from` on to the front of `out`, of as many as stand in one piece there.
+#[unsafe(no_mangle)]
+pub extern "C" fn cvec_phase_read(
+    alloc: Global,
+    grower: &mut Handle,
+    from: u64,
+    out: &mut [u8],
+    count: &mut u64,
+) -> u32
+    ensures read { result ≡ 0 → Becomes (AtAny (λ _ _ _. Reads from out.old out.new count.new)) (end_of grower.old) (end_of grower.new) }
+    ensures refused { result ≢ 0 → Refused (λ refusal. AtAny (λ _ _ _. IsNoGrower refusal)) result (end_of grower.old) (end_of grower.new) × (out.new ≡ out.old) × (count.new ≡ count.old) }
+{
+    let copied = answer_of!(alloc, grower, end => end.read(from, out));
+    *count = copied;
+    0
+}
+
+/// How many of the records that the grower knows equal the one that these bytes are.
+#[unsafe(no_mangle)]
+pub extern "C" fn cvec_phase_count(
+    alloc: Global,
+    grower: &mut Handle,
+    sought: &[u8],
+    count: &mut u64,
+) -> u32
+    ensures count { result ≡ 0 → Becomes (AtAny (λ _ _ _. Counts sought.now count.new)) (end_of grower.old) (end_of grower.new) }
+    ensures refused { result ≢ 0 → Refused (λ refusal. AtAny (λ _ _ _. RefusesSearch sought.now refusal)) result (end_of grower.old) (end_of grower.new) × (count.new ≡ count.old) }
+{
+    let equal = answer_of!(alloc, grower, end => end.count(sought));
+    *count = equal;
+    0
+}
+
+/// The first position from `from` on whose record equals the one that these bytes are, or how many records the grower knows.
+#[unsafe(no_mangle)]
+pub extern "C" fn cvec_phase_find(
+    alloc: Global,
+    grower: &mut Handle,
+    sought: &[u8],
+    from: u64,
+    place: &mut u64,
+) -> u32
+    ensures found { result ≡ 0 → Becomes (AtAny (λ _ _ _. Finds sought.now from place.new)) (end_of grower.old) (end_of grower.new) }
+    ensures refused { result ≢ 0 → Refused (λ refusal. AtAny (λ _ _ _. RefusesSearch sought.now refusal)) result (end_of grower.old) (end_of grower.new) × (place.new ≡ place.old) }
+{
+    let first = answer_of!(alloc, grower, end => end.find(sought, from));
+    *place = first;
+    0
 }
 
 /// Tells where the records stand that the grower knows, piece by piece from position `from` on, in front of `out`: as many
@@ -113,18 +162,9 @@ pub extern "C" fn cvec_phase_pieces(
     ensures told { result ≡ 0 → Becomes (AtAny (λ _ _ _. TellsPieces from out.old out.new count.new)) (end_of grower.old) (end_of grower.new) }
     ensures refused { result ≢ 0 → Refused (λ refusal. AtAny (λ _ _ _. IsNoGrower refusal)) result (end_of grower.old) (end_of grower.new) × (out.new ≡ out.old) × (count.new ≡ count.old) }
 {
-    let Some(mut session) = grower.take(alloc) else {
-        return Refusal::NotSo.code();
-    };
-    let told = session.pieces(from, out);
-    grower.put(session);
-    match told {
-        Ok(found) => {
-            *count = found;
-            0
-        }
-        Err(refusal) => refusal.code(),
-    }
+    let found = answer_of!(alloc, grower, end => end.pieces(from, out));
+    *count = found;
+    0
 }
 
 /// A block of so many blank records of the grower's vector, in a handle of its own: they stand at `records`, and the caller alone
@@ -141,11 +181,11 @@ pub extern "C" fn cvec_phase_block(
     ensures block { result ≡ 0 → HasBlock count records.new (end_of grower.old) (end_of block.new) }
     ensures refused { result ≢ 0 → IsNoBlock count result (end_of grower.old) × IsLeft (end_of block.old) (end_of block.new) × (records.new ≡ records.old) }
 {
-    let Some(session) = grower.take(alloc) else {
+    let Some(end) = grower.take(alloc) else {
         return Refusal::NotSo.code();
     };
-    let lent = session.block(alloc, count);
-    grower.put(session);
+    let lent = end.block(alloc, count);
+    grower.put(end);
     match lent {
         Ok((end, place)) => {
             if block.fill(alloc, end) {
@@ -170,15 +210,15 @@ pub extern "C" fn cvec_phase_publish(
     ensures grown { result ≡ 0 → HasGrownBy (receipt_of receipt.new) (end_of block.old) (end_of grower.old) (end_of grower.new) × (end_of block.new ≡ None) }
     ensures refused { result ≢ 0 → IsNotGrownBy result (end_of block.old) (end_of grower.old) (end_of grower.new) × (end_of block.new ≡ end_of block.old) × (receipt.new ≡ receipt.old) }
 {
-    let Some(mut session) = grower.take(alloc) else {
+    let Some(mut end) = grower.take(alloc) else {
         return Refusal::NotSo.code();
     };
     let Some(mut lent) = block.take(alloc) else {
-        grower.put(session);
+        grower.put(end);
         return Refusal::NotSo.code();
     };
-    let grown = session.publish(&mut lent);
-    grower.put(session);
+    let grown = end.publish(&mut lent);
+    grower.put(end);
     match grown {
         Ok(grown) => {
             *receipt = CvecReceipt::of(grown);

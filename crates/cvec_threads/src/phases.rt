@@ -1,18 +1,18 @@
 //! How a vector begins, and how its handles are given up.
 
-ghost use Rattle.std.specs.Prelude.{◌≡◌, ◌≢◌, None, Some};
-ghost use Rattle.segment_core.specs.Shape.{version_of};
+ghost use Rattle.std.specs.Prelude.{◌≡◌, ◌≢◌, Option, None, MatchOption};
 ghost use Rattle.segment_core.specs.declared.format.Format.{Format};
 ghost use Rattle.book_core.specs.Beginning.{MayBeginWide};
 ghost use Rattle.handle_core.specs.Begins.{Feeds, RefusesFeeding, RefusesBeginning};
 ghost use Rattle.handle_core.specs.Roles.{RefusesSeat};
 ghost use Rattle.handle_core.specs.Handles.{end_of, Refused};
 ghost use Rattle.handle_core.specs.Ends.{AtAny, Becomes, IsWidth};
-ghost use Rattle.handle_core.specs.Refusal.{code_of};
-ghost use Rattle.handle_core.specs.declared.refusal.Refusal.TheVariants.{Width};
-ghost use Rattle.cvec_threads.specs.Begins.{HasBegun, HasFile, HasSeat, IsLeft, IsNotBegun, IsNotCreated};
+ghost use Rattle.c_core.specs.Refusal.{code_of};
+ghost use Rattle.c_core.specs.declared.refusal.Refusal.TheVariants.{Width};
+ghost use Rattle.cvec_threads.specs.Begins.{HasBegun, HasFile, HasSeat, IsLeft, IsMadeAs, IsNotBegun};
 
-use handle_core::{End, Handle, Refusal};
+use c_core::Refusal;
+use handle_core::{End, Handle};
 use segment_core::Format;
 use std::alloc::Global;
 
@@ -42,54 +42,29 @@ pub extern "C" fn cvec_phase_feed(alloc: Global, file: &mut Handle, piece: &[u8]
     ensures fed { result ≡ 0 → Becomes (AtAny (λ _ _ _. Feeds piece.now)) (end_of file.old) (end_of file.new) }
     ensures refused { result ≢ 0 → Refused (λ refusal. AtAny (λ _ _ _. RefusesFeeding refusal)) result (end_of file.old) (end_of file.new) }
 {
-    let Some(mut session) = file.take(alloc) else {
-        return Refusal::NotSo.code();
-    };
-    let fed = session.feed(piece);
-    file.put(session);
-    match fed {
-        Ok(()) => 0,
-        Err(refusal) => refusal.code(),
-    }
+    answer_of!(alloc, file, end => end.feed(piece));
+    0
 }
 
-/// Begins the vector of a file, or, of a format, an empty one in its place: the file's handle has who commits, and the other the
-/// phase.
-fn begin(
-    alloc: Global,
-    file: &mut Handle,
-    made: Option<Format>,
-    growths: u64,
-    seats: u16,
-    phase: &mut Handle,
-) -> u32
-    ensures begins { result ≡ 0 → HasBegun made growths seats (end_of file.old) (end_of file.new) (end_of phase.new) }
-    ensures may { result ≡ 0 → MayBeginWide growths seats }
-    ensures refused { result ≢ 0 → IsNotBegun result (end_of file.old) (end_of file.new) × (end_of phase.new ≡ end_of phase.old) }
+/// The format of a new file of this version, none for version 0. `None`: there is no such version.
+fn format_of(version: u8) -> Option<Option<Format>>
+    ensures { MatchOption result ((version ≢ 0) × (version ≢ 1) × (version ≢ 2)) (IsMadeAs version) }
 {
-    let Some(mut session) = file.take(alloc) else {
-        return Refusal::NotSo.code();
-    };
-    let begun = session.begin(alloc, made, growths, seats);
-    file.put(session);
-    match begun {
-        Ok(end) => {
-            drop(phase.take(alloc));
-            phase.put(end);
-            0
-        }
-        Err(refusal) => refusal.code(),
+    match version {
+        0 => Some(None),
+        1 => Some(Some(Format::One)),
+        2 => Some(Some(Format::Two)),
+        _ => None,
     }
 }
 
-/// Begins a vector over a new file of version 1, or of version 2, with room for so many growths in a phase, from 1 to 536,870,904,
-/// and so many seats: from 1 to 64. Where the system refuses the addresses for so much room, the phase has room for 1,048,568
-/// growths. The file's bytes are all read:
-/// none, or what a creation left that was stopped. Its handle has who commits then, who lists the calls of the file's making first,
-/// and the other the phase; what that one had is given up. Refused, the bytes are given up, but where there was no memory for the
-/// phase's end, or the version is another one.
+/// Begins the vector of a file whose bytes are all read, or, of version 1 or 2, an empty one over what a stopped creation left there:
+/// with room for so many growths in a phase, from 1 to 536,870,904, and so many seats: from 1 to 64. Where the system refuses the
+/// addresses for so much room, the phase has room for 1,048,568 growths. The file's handle has who commits then, who lists the calls of
+/// a new file's making first, and the other the phase; what that one had is given up. Refused, the bytes are given up, but where there
+/// was no memory for the phase's end, or there is no such version.
 #[unsafe(no_mangle)]
-pub extern "C" fn cvec_phase_create(
+pub extern "C" fn cvec_phase_begin(
     alloc: Global,
     file: &mut Handle,
     version: u8,
@@ -97,34 +72,17 @@ pub extern "C" fn cvec_phase_create(
     seats: u16,
     phase: &mut Handle,
 ) -> u32
-    ensures begins { result ≡ 0 → (format : Format) × (version_of format ≡ version) × HasBegun (Some format) growths seats (end_of file.old) (end_of file.new) (end_of phase.new) }
+    ensures begins { result ≡ 0 → (made : Option Format) × IsMadeAs version made × HasBegun made growths seats (end_of file.old) (end_of file.new) (end_of phase.new) }
     ensures may { result ≡ 0 → MayBeginWide growths seats }
-    ensures refused { result ≢ 0 → IsNotCreated version result (end_of file.old) (end_of file.new) × (end_of phase.new ≡ end_of phase.old) }
+    ensures refused { result ≢ 0 → IsNotBegun version result (end_of file.old) (end_of file.new) × (end_of phase.new ≡ end_of phase.old) }
 {
-    let format = match version {
-        1 => Format::One,
-        2 => Format::Two,
-        _ => return Refusal::NotSo.code(),
+    let Some(made) = format_of(version) else {
+        return Refusal::NotSo.code();
     };
-    begin(alloc, file, Some(format), growths, seats, phase)
-}
-
-/// Begins the vector of a file whose bytes are all read, with so much room and so many seats, as over a new file. The file's handle has who commits then,
-/// and the other the phase; what that one had is given up. Refused, the bytes are given up, but where there was no memory for the
-/// phase's end.
-#[unsafe(no_mangle)]
-pub extern "C" fn cvec_phase_open(
-    alloc: Global,
-    file: &mut Handle,
-    growths: u64,
-    seats: u16,
-    phase: &mut Handle,
-) -> u32
-    ensures begins { result ≡ 0 → HasBegun None growths seats (end_of file.old) (end_of file.new) (end_of phase.new) }
-    ensures may { result ≡ 0 → MayBeginWide growths seats }
-    ensures refused { result ≢ 0 → IsNotBegun result (end_of file.old) (end_of file.new) × (end_of phase.new ≡ end_of phase.old) }
-{
-    begin(alloc, file, None, growths, seats, phase)
+    let begun = answer_of!(alloc, file, end => end.begin(alloc, made, growths, seats));
+    drop(phase.take(alloc));
+    phase.put(begun);
+    0
 }
 
 /// A seat for one more thread, into a handle of its own. What that handle had is given up.
@@ -133,11 +91,11 @@ pub extern "C" fn cvec_phase_seat(alloc: Global, phase: &mut Handle, grower: &mu
     ensures seated { result ≡ 0 → HasSeat (end_of phase.old) (end_of phase.new) (end_of grower.new) }
     ensures refused { result ≢ 0 → Refused (λ refusal. AtAny (λ _ _ _. RefusesSeat refusal)) result (end_of phase.old) (end_of phase.new) × IsLeft (end_of grower.old) (end_of grower.new) }
 {
-    let Some(mut session) = phase.take(alloc) else {
+    let Some(mut end) = phase.take(alloc) else {
         return Refusal::NotSo.code();
     };
-    let seated = session.seat();
-    phase.put(session);
+    let seated = end.seat();
+    phase.put(end);
     match seated {
         Ok(seat) => {
             if grower.fill(alloc, seat) {

@@ -6,16 +6,16 @@ use Rattle.std_alloc.proofs.BoxSteps.Form.{Bx}
 use Rattle.std_heap.specs.contracts.Global as Heap
 use Rattle.std_heap.specs.contracts.GlobalAllocator.TheImpl.{ghosts, dict}
 use Rattle.std_heap.proofs.Global.TheLaws as heap
-use Rattle.handle_core.specs.contracts.session.Session as Session
-use Rattle.handle_core.proofs.session.Session.TheLaws as home
+use Rattle.handle_core.specs.contracts.end.End as End
+use Rattle.handle_core.proofs.end.End.TheLaws as home
 use Rattle.handle_core.specs.contracts.parts.Parts as Parts
 use Rattle.handle_core.specs.contracts.kept.Kept as Kept
 
 abbrev pub E : Bx
-E = record { row = Session.the_row; laws = home.the_row_laws; al = record { row = Heap.the_row; laws = heap.the_row_laws; g = ghosts; d = dict; drops = impl [] tnil dnil } }
+E = record { row = End.the_row; laws = home.the_row_laws; al = record { row = Heap.the_row; laws = heap.the_row_laws; g = ghosts; d = dict; drops = impl [] tnil dnil } }
 
 abbrev pub FromParts : Slot 0
-FromParts = plain (λ _. Parts.the_row Session.the_row Heap.the_row ghosts)
+FromParts = plain (λ _. Parts.the_row End.the_row Heap.the_row ghosts)
 
 abbrev pub FromKept : Slot 0
 FromKept = plain (λ _. Kept.the_row)

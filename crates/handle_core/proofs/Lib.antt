@@ -1,4 +1,5 @@
 mod AsBox
-mod RoleLemmas
 mod Worked
 mod WorkedBlocks
+mod WorkedBytes
+mod GrowthLemmas

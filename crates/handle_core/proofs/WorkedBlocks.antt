@@ -1,4 +1,4 @@
--- Worked examples: a block that C writes in place, and what a grower is asked.
+-- Worked examples: a block that C writes in place.
 use Rattle.std.proofs.Common.{◌≡◌, ℕ, refl, inl, inr}
 use Rattle.std.specs.declared.cmp.PartialEq as PartialEq
 use Rattle.std.specs.contracts.prelude.U32PartialEq.TheImpl as u32_eq
@@ -8,13 +8,13 @@ use Rattle.record_core.specs.contracts.number.U32Record.TheImpl as u32_record
 use Rattle.record_core.specs.contracts.number.U64Record.TheImpl as u64_record
 use Rattle.book_core.specs.declared.seat.Receipt.{Receipt}
 use denote.RawPtr.{Ptr}
-use Rattle.handle_core.specs.declared.refusal.Refusal.{Refusal}
-use Rattle.handle_core.specs.declared.refusal.Refusal.TheVariants.{Width, Empty, NotSo}
-use Rattle.handle_core.specs.declared.session.Role.{Role}
-use Rattle.handle_core.specs.declared.session.Role.TheVariants as roles
-use Rattle.handle_core.specs.declared.session.End.TheVariants as ends
+use Rattle.c_core.specs.declared.refusal.Refusal.{Refusal}
+use Rattle.c_core.specs.declared.refusal.Refusal.TheVariants.{Width, Empty, NotSo}
+use Rattle.handle_core.specs.declared.end.Role.{Role}
+use Rattle.handle_core.specs.declared.end.Role.TheVariants as roles
+use Rattle.handle_core.specs.declared.end.End.TheVariants as ends
 use Rattle.handle_core.specs.Ends.{RefusedWith}
-use Rattle.handle_core.specs.Roles.{Counts, Finds, IsBlockOf, IsNoGrower, Publishes, RefusesBlock, RefusesPublishing}
+use Rattle.handle_core.specs.Roles.{IsBlockOf, Publishes, RefusesBlock, RefusesPublishing}
 
 abbrev U32Role : Type 0
 U32Role = Role ℕ u32_record.ghosts u32_eq.ghosts
@@ -55,13 +55,3 @@ module _ (R : Type 0) (record_of : Record.Ghosts R) (eq_of : PartialEq.Ghosts R)
 
   publishing_refused : RefusesPublishing NotSo nothing nothing nothing
   publishing_refused = (refl, refl)
-
-  -- a search of no end has no answer, and is refused
-  no_count : (x : R) (count : ℕ) → Counts x count nothing nothing → ⊥
-  no_count x count counted = counted
-
-  no_place : (x : R) (from place : ℕ) → Finds x from place nothing nothing → ⊥
-  no_place x from place found = found
-
-  no_grower : IsNoGrower NotSo nothing nothing
-  no_grower = (refl, refl)

@@ -10,10 +10,10 @@ use Rattle.pen_core.specs.Births.{IsExisting}
 use Rattle.pen_core.specs.Opening.{IsOpened}
 use Rattle.book_core.specs.Lists.{opening_of}
 use Rattle.phase_core.specs.Room.{IsRoomFor}
-use Rattle.handle_core.specs.declared.refusal.Refusal.{Refusal}
-use Rattle.handle_core.specs.declared.refusal.Refusal.TheVariants.{Memory, NotSo}
-use Rattle.handle_core.specs.declared.session.Role.{Role}
-use Rattle.handle_core.specs.declared.session.Role.TheVariants as roles
+use Rattle.c_core.specs.declared.refusal.Refusal.{Refusal}
+use Rattle.c_core.specs.declared.refusal.Refusal.TheVariants.{Memory, NotSo}
+use Rattle.handle_core.specs.declared.end.Role.{Role}
+use Rattle.handle_core.specs.declared.end.Role.TheVariants as roles
 
 module _ {R : Type 0} {record_of : Record.Ghosts R} {eq_of : PartialEq.Ghosts R} where
   -- of its file these bytes are read

@@ -1,19 +1,14 @@
 -- What a handle has, and what a call makes of it.
 use Rattle.std.specs.Prelude.{◌≡◌, ℕ, Option, None, Some, if◌then◌else◌}
-use Rattle.handle_core.specs.declared.refusal.Refusal.{Refusal}
-use Rattle.handle_core.specs.declared.refusal.Refusal.TheVariants.{NotSo}
-use Rattle.handle_core.specs.Refusal.{code_of}
-use Rattle.handle_core.specs.declared.session.Session.{Session}
-use Rattle.handle_core.specs.declared.session.End.{End}
+use Rattle.c_core.specs.declared.refusal.Refusal.{Refusal}
+use Rattle.c_core.specs.declared.refusal.Refusal.TheVariants.{NotSo}
+use Rattle.c_core.specs.Refusal.{code_of}
+use Rattle.handle_core.specs.declared.end.End.{End}
 use Rattle.handle_core.specs.declared.handle.Handle.{Handle}
-
-abbrev pub end_in : Option Session → Option End
-end_in None = None
-end_in (Some session) = Some session.end
 
 -- the end that the handle has, if any
 abbrev pub end_of : Handle → Option End
-end_of handle = if handle.full then (end_in handle.kept.session) else None
+end_of handle = if handle.full then handle.kept.end else None
 
 -- Why the call is refused, by its number, and what stands: it had nothing and has nothing; or it had an end, and has one,
 -- and these are so related.

@@ -7,12 +7,12 @@ use Rattle.std.specs.Coded.{coded_option}
 use Rattle.std.specs.Box.Ownership.{box_owns}
 use Rattle.std_heap.specs.declared.Global.{Global}
 use Rattle.std_heap.specs.contracts.GlobalAllocator.TheImpl.{ghosts}
-use Rattle.handle_core.specs.contracts.session.Session.{the_row}
+use Rattle.handle_core.specs.contracts.end.End.{the_row}
 
--- with a session the right to it and to its block, and nothing without one
+-- with an end the right to it and to its block, and nothing without one
 abbrev pub kept_owns : Global → Ptr → Option the_row.Denot → Fml
 kept_owns alloc p None = ftrue
-kept_owns alloc p (Some session) = box_owns (ghosts.dealloc_token alloc) the_row p session
+kept_owns alloc p (Some end) = box_owns (ghosts.dealloc_token alloc) the_row p end
 
-abbrev pub session_coded : Coded (Option the_row.Denot)
-session_coded = coded_option the_row.coded
+abbrev pub end_coded : Coded (Option the_row.Denot)
+end_coded = coded_option the_row.coded

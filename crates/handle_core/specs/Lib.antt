@@ -1,5 +1,5 @@
 pub mod Keeping
-pub mod Refusal
+pub mod Refusals
 pub mod Roles
 pub mod Begins
 pub mod Vaults

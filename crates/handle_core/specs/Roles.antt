@@ -1,9 +1,10 @@
 -- What a call makes of an end of a phase.
-use Rattle.std.specs.Prelude.{◌≡◌, ◌⊎◌, ℕ, ◌+◌, ◌<◌, ◌≤◌, List, [], ◌∷◌, ◌++◌, length, replicate, None}
+use Rattle.std.specs.Prelude.{◌≡◌, ◌⊎◌, ℕ, ◌+◌, ◌/◌, ◌<◌, ◌≤◌, List, [], ◌∷◌, ◌++◌, length, replicate, None}
 use Rattle.std.specs.List.{count_by}
 use Rattle.std.specs.Arc.{arc_value}
 use denote.RawPtr.{Ptr}
 use Rattle.std.specs.declared.cmp.PartialEq as PartialEq
+use Rattle.record_core.specs.Cells.{AreRecords}
 use Rattle.record_core.specs.declared.record.Record as Record
 use Rattle.flush_core.specs.Flusher.{ToldIsLeft}
 use Rattle.disk_core.specs.Moments.{clock}
@@ -21,35 +22,50 @@ use Rattle.relay_core.specs.Listed.{LeadTo}
 use Rattle.phase_core.specs.Grower.{list_of, Copies, IsFoundFrom, equals}
 use Rattle.phase_core.specs.Grower as growers
 use Rattle.phase_core.specs.Telling.{StandAt, TellsFrom}
+use Rattle.phase_core.specs.declared.grower.Grower.{Grower}
 use Rattle.phase_core.specs.declared.piece.Piece.{Piece}
 use Rattle.phase_core.specs.Committing.{GoesOn, IsUnplanned}
 use Rattle.phase_core.specs.Committer.{calls_of}
 use Rattle.phase_core.specs.HostVault as vaults
 use Rattle.phase_core.specs.declared.phase.Phase.{Phase}
 use Rattle.flush_core.specs.declared.fault.FlushFault.{FlushFault}
-use Rattle.handle_core.specs.declared.refusal.Refusal.{Refusal}
-use Rattle.handle_core.specs.declared.refusal.Refusal.TheVariants.{Memory, Broken, NotSo}
-use Rattle.handle_core.specs.Refusal.{of_block, of_growth, of_flush}
-use Rattle.handle_core.specs.declared.session.Role.{Role}
-use Rattle.handle_core.specs.declared.session.Role.TheVariants as roles
+use Rattle.c_core.specs.declared.refusal.Refusal.{Refusal}
+use Rattle.c_core.specs.declared.refusal.Refusal.TheVariants.{Memory, Broken, NoRecord, NotSo}
+use Rattle.c_core.specs.Records.{AreNone, IsRecord, IsNoRecord}
+use Rattle.handle_core.specs.Refusals.{of_block, of_growth, of_flush}
+use Rattle.handle_core.specs.declared.end.Role.{Role}
+use Rattle.handle_core.specs.declared.end.Role.TheVariants as roles
 
 module _ {R : Type 0} {record_of : Record.Ghosts R} {eq_of : PartialEq.Ghosts R} where
   -- ---- a grower
 
   -- it made one growth of these records, behind all that it knows of its phase; the receipt has the growth's place
-  abbrev pub Grows : List R → Receipt → Role R record_of eq_of → Role R record_of eq_of → Type 0
-  Grows records receipt (roles.Grower old) (roles.Grower new) =
+  abbrev pub MakesGrowth : List R → Receipt → Grower R record_of eq_of → Grower R record_of eq_of → Type 0
+  MakesGrowth records receipt old new =
       (growers.phase_of new ≡ growers.phase_of old) × Grown (growers.phase_of old) old.seat new.seat records receipt
-  Grows records receipt old new = ⊥
 
-  -- Why a growth of these records is refused: there was no room or memory for it, or another came first, and the grower has
-  -- learned what others grew; or it is no grower, and is as it was.
-  abbrev pub RefusesGrowth : List R → Refusal → Role R record_of eq_of → Role R record_of eq_of → Type 0
-  RefusesGrowth records refusal (roles.Grower old) (roles.Grower new) =
+  -- so of the records that these bytes are
+  abbrev pub GrowsBy : List ℕ → Receipt → Grower R record_of eq_of → Grower R record_of eq_of → Type 0
+  GrowsBy bytes receipt old new = (records : List R) × AreRecords record_of.form bytes records × MakesGrowth records receipt old new
+
+  abbrev pub Grows : List ℕ → Receipt → Role R record_of eq_of → Role R record_of eq_of → Type 0
+  Grows bytes receipt (roles.Grower old) (roles.Grower new) = GrowsBy bytes receipt old new
+  Grows bytes receipt old new = ⊥
+
+  -- Why a growth of so many bytes is refused: they are no records; or there was no room or memory for as many, or another growth
+  -- came first, and the grower has learned what others grew.
+  abbrev pub RefusesBytes : List ℕ → Refusal → Grower R record_of eq_of → Grower R record_of eq_of → Type 0
+  RefusesBytes bytes refusal old new =
       (growers.phase_of new ≡ growers.phase_of old) × SeatLearns old.seat new.seat
-      × ((fault : GrowFault) × (refusal ≡ of_growth fault) × IsCopiesRefusal record_of.form.width (growers.phase_of old) new.seat (length records) fault)
-  RefusesGrowth records refusal (roles.Grower old) new = ⊥
-  RefusesGrowth records refusal old new = (refusal ≡ NotSo) × (new ≡ old)
+      × (((refusal ≡ NoRecord) × AreNone record_of.form bytes)
+      ⊎ ((fault : GrowFault) × (refusal ≡ of_growth fault)
+      × IsCopiesRefusal record_of.form.width (growers.phase_of old) new.seat (length bytes / record_of.form.width) fault))
+
+  -- or it is no grower, and is as it was
+  abbrev pub RefusesGrowth : List ℕ → Refusal → Role R record_of eq_of → Role R record_of eq_of → Type 0
+  RefusesGrowth bytes refusal (roles.Grower old) (roles.Grower new) = RefusesBytes bytes refusal old new
+  RefusesGrowth bytes refusal (roles.Grower old) new = ⊥
+  RefusesGrowth bytes refusal old new = (refusal ≡ NotSo) × (new ≡ old)
 
   -- it is a block of so many blank records, which stand there, for a grower
   abbrev pub IsBlockOf : ℕ → Ptr → Role R record_of eq_of → Role R record_of eq_of → Type 0
@@ -63,7 +79,7 @@ module _ {R : Type 0} {record_of : Record.Ghosts R} {eq_of : PartialEq.Ghosts R}
 
   -- the grower made one growth of the records that the block had
   abbrev pub Publishes : Receipt → Role R record_of eq_of → Role R record_of eq_of → Role R record_of eq_of → Type 0
-  Publishes receipt (roles.Block block) old new = Grows block receipt old new
+  Publishes receipt (roles.Block block) (roles.Grower old) (roles.Grower new) = MakesGrowth block receipt old new
   Publishes receipt block old new = ⊥
 
   -- Why it didn't: there was no room for the growth, or another came first, and the grower has learned what others grew; or the ends
@@ -100,10 +116,12 @@ module _ {R : Type 0} {record_of : Record.Ghosts R} {eq_of : PartialEq.Ghosts R}
       (growers.phase_of new ≡ growers.phase_of old) × SeatIsTold old.seat new.seat count state
   Tells count state old new = ⊥
 
-  -- so many records of its list from that position on stand in front of the output: at least one where there is one, and room
-  abbrev pub Reads : ℕ → List R → List R → ℕ → Role R record_of eq_of → Role R record_of eq_of → Type 0
+  -- the bytes of so many records of its list from that position on stand in front of the output: of at least one where there is
+  -- one, and room
+  abbrev pub Reads : ℕ → List ℕ → List ℕ → ℕ → Role R record_of eq_of → Role R record_of eq_of → Type 0
   Reads from before after count (roles.Grower old) (roles.Grower new) =
-      (new ≡ old) × Copies (list_of old) from before after count × ((count ≡ 0) → (length (list_of old) ≤ from) ⊎ (length before ≡ 0))
+      (new ≡ old) × Copies record_of.form (list_of old) from before after count
+      × ((count ≡ 0) → (length (list_of old) ≤ from) ⊎ (length before < record_of.form.width))
   Reads from before after count old new = ⊥
 
   -- of the records of its list from that position on so many pieces are told in front of the output
@@ -111,15 +129,22 @@ module _ {R : Type 0} {record_of : Record.Ghosts R} {eq_of : PartialEq.Ghosts R}
   TellsPieces from before after count (roles.Grower old) (roles.Grower new) = (new ≡ old) × TellsFrom (list_of old) from before after count
   TellsPieces from before after count old new = ⊥
 
-  -- so many of the records that it knows equal that one
-  abbrev pub Counts : R → ℕ → Role R record_of eq_of → Role R record_of eq_of → Type 0
-  Counts x count (roles.Grower old) new = (new ≡ roles.Grower old) × (count ≡ count_by (equals eq_of.eq x) (list_of old))
-  Counts x count old new = ⊥
+  -- the bytes are a record, and so many of those that it knows equal it
+  abbrev pub Counts : List ℕ → ℕ → Role R record_of eq_of → Role R record_of eq_of → Type 0
+  Counts bytes count (roles.Grower old) new =
+      (new ≡ roles.Grower old) × ((x : R) × IsRecord record_of.form bytes x × (count ≡ count_by (equals eq_of.eq x) (list_of old)))
+  Counts bytes count old new = ⊥
 
-  -- that is the first position from there on whose record equals that one, or how many records it knows
-  abbrev pub Finds : R → ℕ → ℕ → Role R record_of eq_of → Role R record_of eq_of → Type 0
-  Finds x from place (roles.Grower old) new = (new ≡ roles.Grower old) × IsFoundFrom (list_of old) x from place
-  Finds x from place old new = ⊥
+  -- the bytes are a record, and that is the first position from there on whose record equals it, or how many records it knows
+  abbrev pub Finds : List ℕ → ℕ → ℕ → Role R record_of eq_of → Role R record_of eq_of → Type 0
+  Finds bytes from place (roles.Grower old) new =
+      (new ≡ roles.Grower old) × ((x : R) × IsRecord record_of.form bytes x × IsFoundFrom (list_of old) x from place)
+  Finds bytes from place old new = ⊥
+
+  -- the bytes are no record; or it is no grower; it is as it was
+  abbrev pub RefusesSearch : List ℕ → Refusal → Role R record_of eq_of → Role R record_of eq_of → Type 0
+  RefusesSearch bytes refusal (roles.Grower old) new = (refusal ≡ NoRecord) × IsNoRecord record_of.form bytes × (new ≡ roles.Grower old)
+  RefusesSearch bytes refusal old new = (refusal ≡ NotSo) × (new ≡ old)
 
   -- ---- who commits
 
@@ -158,6 +183,12 @@ module _ {R : Type 0} {record_of : Record.Ghosts R} {eq_of : PartialEq.Ghosts R}
       (calls ≡ vaults.calls_of vault)
       × (KeepsSoFar vault.vault.pen.disk.inner → LeadTo (states_of vault.vault.pen.disk.inner) vault.made calls)
   Lists calls role = ⊥
+
+  -- a call was lost; or it is no end that lists calls
+  abbrev pub RefusesCalls : Refusal → Role R record_of eq_of → Type 0
+  RefusesCalls refusal (roles.Committer committer) = refusal ≡ Broken
+  RefusesCalls refusal (roles.Vault vault) = refusal ≡ Broken
+  RefusesCalls refusal role = refusal ≡ NotSo
 
   -- The host has made all calls, and the growers are told what is in the file by them: so many growths, and nothing else is
   -- done. What they were told stands: whatever a crash has left since then opens to so many growths at least. Of a vault, which has told nobody, no growth.

@@ -1,6 +1,7 @@
 -- What a call makes of a vault, and how an end becomes one.
-use Rattle.std.specs.Prelude.{◌≡◌, ◌⊎◌, ℕ, Bool, List, length, drop, Ok, Err}
+use Rattle.std.specs.Prelude.{◌≡◌, ◌⊎◌, ℕ, Bool, List, length, Ok, Err}
 use Rattle.std.specs.declared.cmp.PartialEq as PartialEq
+use Rattle.record_core.specs.Cells.{AreRecords}
 use Rattle.record_core.specs.declared.record.Record as Record
 use Rattle.disk_core.specs.FileDisk.{states_of, KeepsSoFar}
 use Rattle.pen_core.specs.declared.fault.PenFault.{PenFault}
@@ -11,14 +12,14 @@ use Rattle.phase_core.specs.declared.ending.GatherFault.{GatherFault}
 use Rattle.phase_core.specs.Gathering.{Gathers, RefusesGather}
 use Rattle.phase_core.specs.Sharing.{Lends}
 use Rattle.phase_core.specs.Folding.{Folds, RefusesFold}
-use Rattle.phase_core.specs.Grower.{Copies}
 use Rattle.phase_core.specs.HostVault.{list_of}
-use Rattle.phase_core.specs.HostCommands.{IsChange, IsResize, IsClear}
-use Rattle.handle_core.specs.declared.refusal.Refusal.{Refusal}
-use Rattle.handle_core.specs.declared.refusal.Refusal.TheVariants.{Memory, NotSo}
-use Rattle.handle_core.specs.Refusal.{of_gather, of_pen, of_vault}
-use Rattle.handle_core.specs.declared.session.Role.{Role}
-use Rattle.handle_core.specs.declared.session.Role.TheVariants as roles
+use Rattle.phase_core.specs.HostCommands.{IsChange, IsResize}
+use Rattle.c_core.specs.declared.refusal.Refusal.{Refusal}
+use Rattle.c_core.specs.declared.refusal.Refusal.TheVariants.{Memory, NoRecord, NotSo}
+use Rattle.c_core.specs.Records.{AreNone, IsRecord, IsNoRecord}
+use Rattle.handle_core.specs.Refusals.{of_gather, of_pen, of_vault}
+use Rattle.handle_core.specs.declared.end.Role.{Role}
+use Rattle.handle_core.specs.declared.end.Role.TheVariants as roles
 
 module _ {R : Type 0} {record_of : Record.Ghosts R} {eq_of : PartialEq.Ghosts R} where
   -- ---- a phase that ends, and one that begins
@@ -60,44 +61,37 @@ module _ {R : Type 0} {record_of : Record.Ghosts R} {eq_of : PartialEq.Ghosts R}
   Measures size (roles.Vault old) new = (new ≡ roles.Vault old) × (size ≡ length (list_of old))
   Measures size old new = ⊥
 
-  -- so many records of its list from that position on stand in front of the output: as far as both reach
-  abbrev pub ReadsAll : ℕ → List R → List R → ℕ → Role R record_of eq_of → Role R record_of eq_of → Type 0
-  ReadsAll from before after count (roles.Vault old) new =
-      (new ≡ roles.Vault old) × Copies (list_of old) from before after count × ((count ≡ length before) ⊎ (count ≡ length (drop from (list_of old))))
-  ReadsAll from before after count old new = ⊥
-
   -- ---- commands
 
-  -- the records are written over those from that position on
-  abbrev pub Changes : ℕ → List R → Role R record_of eq_of → Role R record_of eq_of → Type 0
-  Changes start records (roles.Vault old) (roles.Vault new) = IsChange record_of.form old new (Ok tt) start records
-  Changes start records old new = ⊥
+  -- the bytes are records, which are written over those from that position on
+  abbrev pub Changes : ℕ → List ℕ → Role R record_of eq_of → Role R record_of eq_of → Type 0
+  Changes start bytes (roles.Vault old) (roles.Vault new) =
+      (records : List R) × AreRecords record_of.form bytes records × IsChange record_of.form old new (Ok tt) start records
+  Changes start bytes old new = ⊥
 
-  -- why not, and what stands then; or it is another end, and is as it was
-  abbrev pub RefusesChange : ℕ → List R → Refusal → Role R record_of eq_of → Role R record_of eq_of → Type 0
-  RefusesChange start records refusal (roles.Vault old) (roles.Vault new) = (fault : VaultFault) × (refusal ≡ of_vault fault) × IsChange record_of.form old new (Err fault) start records
-  RefusesChange start records refusal (roles.Vault old) new = ⊥
-  RefusesChange start records refusal old new = (refusal ≡ NotSo) × (new ≡ old)
+  -- Why not, and what stands then: there was no memory for the records, or the bytes are none, and it is as it was; or so of these
+  -- records. Or it is another end, and is as it was.
+  abbrev pub RefusesChange : ℕ → List ℕ → Refusal → Role R record_of eq_of → Role R record_of eq_of → Type 0
+  RefusesChange start bytes refusal (roles.Vault old) (roles.Vault new) =
+      ((new ≡ old) × ((refusal ≡ Memory) ⊎ ((refusal ≡ NoRecord) × AreNone record_of.form bytes)))
+      ⊎ ((records : List R) × AreRecords record_of.form bytes records
+      × ((fault : VaultFault) × (refusal ≡ of_vault fault) × IsChange record_of.form old new (Err fault) start records))
+  RefusesChange start bytes refusal (roles.Vault old) new = ⊥
+  RefusesChange start bytes refusal old new = (refusal ≡ NotSo) × (new ≡ old)
 
-  -- it has so many records, those that are more copies of that one
-  abbrev pub Resizes : ℕ → R → Role R record_of eq_of → Role R record_of eq_of → Type 0
-  Resizes size x (roles.Vault old) (roles.Vault new) = IsResize record_of.form old new (Ok tt) size x
-  Resizes size x old new = ⊥
+  -- the bytes are a record, and it has so many records: those that are more are copies of that one
+  abbrev pub Resizes : ℕ → List ℕ → Role R record_of eq_of → Role R record_of eq_of → Type 0
+  Resizes size bytes (roles.Vault old) (roles.Vault new) =
+      (x : R) × IsRecord record_of.form bytes x × IsResize record_of.form old new (Ok tt) size x
+  Resizes size bytes old new = ⊥
 
-  abbrev pub RefusesResize : ℕ → R → Refusal → Role R record_of eq_of → Role R record_of eq_of → Type 0
-  RefusesResize size x refusal (roles.Vault old) (roles.Vault new) = (fault : VaultFault) × (refusal ≡ of_vault fault) × IsResize record_of.form old new (Err fault) size x
-  RefusesResize size x refusal (roles.Vault old) new = ⊥
-  RefusesResize size x refusal old new = (refusal ≡ NotSo) × (new ≡ old)
-
-  -- it has no record
-  abbrev pub Clears : Role R record_of eq_of → Role R record_of eq_of → Type 0
-  Clears (roles.Vault old) (roles.Vault new) = IsClear record_of.form old new (Ok tt)
-  Clears old new = ⊥
-
-  abbrev pub RefusesClear : Refusal → Role R record_of eq_of → Role R record_of eq_of → Type 0
-  RefusesClear refusal (roles.Vault old) (roles.Vault new) = (fault : VaultFault) × (refusal ≡ of_vault fault) × IsClear record_of.form old new (Err fault)
-  RefusesClear refusal (roles.Vault old) new = ⊥
-  RefusesClear refusal old new = (refusal ≡ NotSo) × (new ≡ old)
+  abbrev pub RefusesResize : ℕ → List ℕ → Refusal → Role R record_of eq_of → Role R record_of eq_of → Type 0
+  RefusesResize size bytes refusal (roles.Vault old) (roles.Vault new) =
+      ((new ≡ old) × (refusal ≡ NoRecord) × IsNoRecord record_of.form bytes)
+      ⊎ ((x : R) × IsRecord record_of.form bytes x
+      × ((fault : VaultFault) × (refusal ≡ of_vault fault) × IsResize record_of.form old new (Err fault) size x))
+  RefusesResize size bytes refusal (roles.Vault old) new = ⊥
+  RefusesResize size bytes refusal old new = (refusal ≡ NotSo) × (new ≡ old)
 
   -- all changes are folded, if there were some
   abbrev pub FoldsAll : Bool → Role R record_of eq_of → Role R record_of eq_of → Type 0

@@ -1,26 +1,13 @@
 //! The calls of who commits.
 
 ghost use Rattle.std.specs.Prelude.{◌≡◌, IfOk, IfErr};
-ghost use Rattle.handle_core.specs.Refusal.{of_flush};
-ghost use Rattle.handle_core.specs.Roles.{Plans, Lists, Settles, RefusesPlan, RefusesSettle};
+ghost use Rattle.handle_core.specs.Roles.{Plans, Lists, Settles, RefusesPlan, RefusesCalls, RefusesSettle};
 
-use crate::refusal::Refusal;
-use crate::session::Role;
-use flush_core::FlushFault;
-use pen_core::PenFault;
+use crate::end::Role;
+use crate::faults::of_flush;
+use c_core::Refusal;
 use record_core::Record;
 use relay_core::Call;
-
-/// Why no group is committed.
-fn of_flush(fault: FlushFault) -> Refusal
-    ensures { result ≡ of_flush fault }
-{
-    match fault {
-        FlushFault::Pen(PenFault::FileFull) => Refusal::FileFull,
-        FlushFault::Pen(PenFault::Memory) => Refusal::Memory,
-        _ => Refusal::Broken,
-    }
-}
 
 impl<R: Record> Role<R> {
     /// Lists the calls that commit what was grown, and answers how many growths they commit.
@@ -39,7 +26,8 @@ impl<R: Record> Role<R> {
 
     /// The calls that the host is to make, in order.
     pub(crate) fn calls(&self) -> Result<&[Call], Refusal>
-        ensures { IfOk result (λ calls. Lists calls.now self.now) }
+        ensures listed { IfOk result (λ calls. Lists calls.now self.now) }
+        ensures refused { IfErr result (λ refusal. RefusesCalls refusal self.now) }
     {
         match self {
             Role::Committer(committer) => match committer.calls() {

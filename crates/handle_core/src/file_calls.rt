@@ -5,8 +5,9 @@ ghost use Rattle.book_core.specs.Beginning.{MayBeginWide};
 ghost use Rattle.handle_core.specs.Begins.{HasRead, Feeds, RefusesFeeding, Begins, RefusesBeginning};
 ghost use Rattle.handle_core.specs.Ends.{IsWidth, OfAny, width_of};
 
-use crate::refusal::Refusal;
-use crate::session::{End, Role};
+use crate::end::{End, Role};
+use crate::faults::of_begin;
+use c_core::Refusal;
 use phase_core::Phase;
 use record_core::Record;
 use segment_core::Format;
@@ -45,8 +46,8 @@ impl<R: Record> Role<R> {
     }
 
     /// Begins the vector of a file whose bytes are all read, or, of a format, an empty one over what a stopped creation left there,
-    /// with room for so many growths and so many seats: the phase's end is answered, and it is who commits. `Memory` too where its caller has no room for that
-    /// end. Otherwise the bytes are given up where it is refused.
+    /// with room for so many growths and so many seats: the phase's end is answered, and it is who commits. `Memory` too where its
+    /// caller has no room for that end. Otherwise the bytes are given up where it is refused.
     pub(crate) fn begin(
         &mut self,
         alloc: Global,
@@ -109,11 +110,11 @@ fn ends_over<R: Record>(
     match made {
         Some(format) => match Phase::create(alloc, read, format, growths, seats) {
             Ok((phase, committer)) => Ok((Role::Phase(phase), Role::Committer(committer))),
-            Err(fault) => Err(Refusal::of_begin(fault)),
+            Err(fault) => Err(of_begin(fault)),
         },
         None => match Phase::open(alloc, read, growths, seats) {
             Ok((phase, committer)) => Ok((Role::Phase(phase), Role::Committer(committer))),
-            Err(fault) => Err(Refusal::of_begin(fault)),
+            Err(fault) => Err(of_begin(fault)),
         },
     }
 }

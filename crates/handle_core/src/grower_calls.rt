@@ -1,27 +1,26 @@
 //! The calls of a grower.
 
 ghost use Rattle.std.specs.Prelude.{◌≡◌, IfOk, IfErr};
-ghost use Rattle.handle_core.specs.Roles.{Grows, Publishes, Sizes, Tells, TellsPieces, Reads, Counts, Finds, IsBlockOf, RefusesGrowth, RefusesBlock, RefusesPublishing, RefusesLook, IsNoGrower};
+ghost use Rattle.handle_core.specs.Roles.{Grows, GrowsBy, Publishes, Sizes, Tells, TellsPieces, Reads, Counts, Finds, IsBlockOf, RefusesGrowth, RefusesBytes, RefusesBlock, RefusesPublishing, RefusesLook, RefusesSearch, IsNoGrower};
 
-use crate::refusal::Refusal;
-use crate::session::Role;
+use crate::end::Role;
+use crate::faults::{of_block, of_growth};
+use block_core::Fresh;
 use book_core::{MarkState, Receipt};
-use phase_core::{Piece, lend_block};
-use record_core::Record;
+use c_core::{Refusal, record_of, records_of};
+use phase_core::{Grower, Piece, lend_block};
+use record_core::{Record, width_of};
 use std::alloc::Global;
 use std::mem;
 
 impl<R: Record> Role<R> {
-    /// Grows by copies of the records. `Again` where another growth came first.
-    pub(crate) fn grow(&mut self, alloc: Global, records: &[R]) -> Result<Receipt, Refusal>
-        ensures grown { IfOk result (λ receipt. Grows records.now receipt self.old self.new) }
-        ensures refused { IfErr result (λ refusal. RefusesGrowth records.now refusal self.old self.new) }
+    /// Grows by the records that these bytes are. `Again` where another growth came first; `NoRecord`.
+    pub(crate) fn grow(&mut self, alloc: Global, bytes: &[u8]) -> Result<Receipt, Refusal>
+        ensures grown { IfOk result (λ receipt. Grows bytes.now receipt self.old self.new) }
+        ensures refused { IfErr result (λ refusal. RefusesGrowth bytes.now refusal self.old self.new) }
     {
         match self {
-            Role::Grower(grower) => match grower.try_grow(alloc, records) {
-                Ok(receipt) => Ok(receipt),
-                Err(fault) => Err(Refusal::of_growth(fault)),
-            },
+            Role::Grower(grower) => grow_bytes(alloc, grower, bytes),
             _ => Err(Refusal::NotSo),
         }
     }
@@ -34,7 +33,7 @@ impl<R: Record> Role<R> {
         match self {
             Role::Grower(_) => match lend_block(alloc, count) {
                 Ok((block, place)) => Ok((Role::Block(block), place)),
-                Err(fault) => Err(Refusal::of_block(fault)),
+                Err(fault) => Err(of_block(fault)),
             },
             _ => Err(Refusal::NotSo),
         }
@@ -51,7 +50,7 @@ impl<R: Record> Role<R> {
                     Ok(receipt) => Ok(receipt),
                     Err((records, fault)) => {
                         block.put(Role::Block(records));
-                        Err(Refusal::of_growth(fault))
+                        Err(of_growth(fault))
                     }
                 },
                 other => {
@@ -88,13 +87,14 @@ impl<R: Record> Role<R> {
         }
     }
 
-    /// Copies records from position `from` on to the front of `out`, and answers how many: as many as stand in one piece.
-    pub(crate) fn read(&mut self, from: u64, out: &mut [R]) -> Result<u64, Refusal>
+    /// Copies the bytes of records from position `from` on to the front of `out`, and answers of how many: as many as stand in one
+    /// piece.
+    pub(crate) fn read(&mut self, from: u64, out: &mut [u8]) -> Result<u64, Refusal>
         ensures read { IfOk result (λ count. Reads from out.old out.new count self.old self.new) }
         ensures refused { IfErr result (λ refusal. IsNoGrower refusal self.old self.new × (out.new ≡ out.old)) }
     {
         match self {
-            Role::Grower(grower) => Ok(grower.read(from, out) as u64),
+            Role::Grower(grower) => Ok(grower.read(from, out)),
             _ => Err(Refusal::NotSo),
         }
     }
@@ -111,25 +111,55 @@ impl<R: Record> Role<R> {
         }
     }
 
-    /// How many of the records that a grower knows equal this one.
-    pub(crate) fn count(&mut self, sought: R) -> Result<u64, Refusal>
-        ensures count { IfOk result (λ count. Counts sought count self.old self.new) }
-        ensures refused { IfErr result (λ refusal. IsNoGrower refusal self.old self.new) }
+    /// How many of the records that a grower knows equal the one that these bytes are. `NoRecord`.
+    pub(crate) fn count(&mut self, sought: &[u8]) -> Result<u64, Refusal>
+        ensures count { IfOk result (λ count. Counts sought.now count self.old self.new) }
+        ensures refused { IfErr result (λ refusal. RefusesSearch sought.now refusal self.old self.new) }
     {
         match self {
-            Role::Grower(grower) => Ok(grower.count(sought)),
+            Role::Grower(grower) => match record_of(sought) {
+                Some(record) => Ok(grower.count(record)),
+                None => Err(Refusal::NoRecord),
+            },
             _ => Err(Refusal::NotSo),
         }
     }
 
-    /// The first position from `from` on whose record equals this one, or how many records a grower knows.
-    pub(crate) fn find(&mut self, sought: R, from: u64) -> Result<u64, Refusal>
-        ensures found { IfOk result (λ place. Finds sought from place self.old self.new) }
-        ensures refused { IfErr result (λ refusal. IsNoGrower refusal self.old self.new) }
+    /// The first position from `from` on whose record equals the one that these bytes are, or how many records a grower knows.
+    /// `NoRecord`.
+    pub(crate) fn find(&mut self, sought: &[u8], from: u64) -> Result<u64, Refusal>
+        ensures found { IfOk result (λ place. Finds sought.now from place self.old self.new) }
+        ensures refused { IfErr result (λ refusal. RefusesSearch sought.now refusal self.old self.new) }
     {
         match self {
-            Role::Grower(grower) => Ok(grower.find(sought, from)),
+            Role::Grower(grower) => match record_of(sought) {
+                Some(record) => Ok(grower.find(record, from)),
+                None => Err(Refusal::NoRecord),
+            },
             _ => Err(Refusal::NotSo),
         }
+    }
+}
+
+/// Grows by the records that these bytes are, in one block. `Empty` and `TooLarge` are told before a byte is read.
+fn grow_bytes<R: Record>(
+    alloc: Global,
+    grower: &mut Grower<R>,
+    bytes: &[u8],
+) -> Result<Receipt, Refusal>
+    ensures grown { IfOk result (λ receipt. GrowsBy bytes.now receipt grower.old grower.new) }
+    ensures refused { IfErr result (λ refusal. RefusesBytes bytes.now refusal grower.old grower.new) }
+{
+    let count = bytes.len() / width_of::<R>();
+    if let Err(fault) = Fresh::<R>::check_len(count as u64) {
+        return Err(of_block(fault));
+    }
+    let records = records_of::<R>(alloc, bytes)?;
+    match Fresh::from_vec(alloc, records) {
+        Ok(block) => match grower.publish(block) {
+            Ok(receipt) => Ok(receipt),
+            Err((_, fault)) => Err(of_growth(fault)),
+        },
+        Err(_) => Err(Refusal::Memory),
     }
 }

@@ -1,9 +1,9 @@
 //! What C has of a vector.
 
-ghost use Rattle.std.specs.Prelude.{◌≡◌, true, false, None, Some, IsSome, IfSome, MatchBool, MatchOption};
+ghost use Rattle.std.specs.Prelude.{◌≡◌, true, false, None, Some, IsSome, MatchBool, MatchOption};
 
 use crate::kept::Kept;
-use crate::session::{End, Session};
+use crate::end::End;
 use std::alloc::Global;
 use std::mem;
 
@@ -13,18 +13,18 @@ use std::mem;
 pub struct Handle {
     kept: Kept,
     full: bool,
-    ghost told: { full ≡ true → IsSome kept.session },
+    ghost told: { full ≡ true → IsSome kept.end },
 }
 
 impl Handle {
     ghost use Rattle.handle_core.specs.Handles.{end_of};
 
-    /// Takes the session out of the handle, which then has nothing. `None` where it had nothing.
-    pub fn take(&mut self, alloc: Global) -> Option<Box<Session>>
+    /// Takes the end out of the handle, which then has nothing. `None` where it had nothing.
+    pub fn take(&mut self, alloc: Global) -> Option<Box<End>>
         ensures nothing { end_of self.new ≡ None }
         ensures end { MatchOption result
             (end_of self.old ≡ None)
-            (λ session. end_of self.old ≡ Some session.value.end) }
+            (λ end. end_of self.old ≡ Some end.value) }
     {
         let nothing = Handle {
             kept: Kept::nothing(alloc),
@@ -37,12 +37,12 @@ impl Handle {
         Some(kept.into_box())
     }
 
-    /// Puts a session into the handle, which has nothing.
-    pub fn put(&mut self, session: Box<Session>)
-        ensures { end_of self.new ≡ Some session.value.end }
+    /// Puts an end into the handle, which has nothing.
+    pub fn put(&mut self, end: Box<End>)
+        ensures { end_of self.new ≡ Some end.value }
     {
         *self = Handle {
-            kept: Kept::of(session),
+            kept: Kept::of(end),
             full: true,
         };
     }
@@ -59,19 +59,12 @@ impl Handle {
         ensures { MatchBool result (end_of self.new ≡ Some end) (end_of self.new ≡ None) }
     {
         self.give_up(alloc);
-        match boxed(alloc, end) {
-            Some(session) => {
-                self.put(session);
+        match Box::new(alloc, end) {
+            Ok(end) => {
+                self.put(end);
                 true
             }
-            None => false,
+            Err(_) => false,
         }
     }
-}
-
-/// A session of an end. `None` where memory for it was refused.
-fn boxed(alloc: Global, end: End) -> Option<Box<Session>>
-    ensures { IfSome result (λ session. session.value.end ≡ end) }
-{
-    Box::new(alloc, Session { end }).ok()
 }

@@ -2,20 +2,16 @@
 #![tactic(auto)]
 
 mod committer_calls;
-mod end_record;
+mod end;
 mod ends;
+mod faults;
 mod file_calls;
 mod grower_calls;
 mod handle;
 mod kept;
 mod parts;
 mod phase_calls;
-mod record_calls;
-mod refusal;
-mod session;
 mod vault_calls;
 
-pub use end_record::EndRecord;
+pub use end::{End, Role};
 pub use handle::Handle;
-pub use refusal::Refusal;
-pub use session::{End, Role, Session};

@@ -1,11 +1,12 @@
 //! The calls of a vault, and those by which an end becomes one.
 
 ghost use Rattle.std.specs.Prelude.{◌≡◌, true, IfOk, IfErr, OnOk, MatchOption};
-ghost use Rattle.handle_core.specs.Refusal.{of_pen};
-ghost use Rattle.handle_core.specs.Vaults.{GathersIn, RefusesGathering, SharesOut, RefusesSharing, Measures, ReadsAll, IsNoVault, Changes, RefusesChange, Resizes, RefusesResize, Clears, RefusesClear, FoldsAll, RefusesFolding};
+ghost use Rattle.handle_core.specs.Refusals.{of_pen};
+ghost use Rattle.handle_core.specs.Vaults.{GathersIn, RefusesGathering, SharesOut, RefusesSharing, Measures, IsNoVault, Changes, RefusesChange, Resizes, RefusesResize, FoldsAll, RefusesFolding};
 
-use crate::refusal::Refusal;
-use crate::session::Role;
+use crate::end::Role;
+use crate::faults::{of_gather, of_pen, of_vault};
+use c_core::{Refusal, record_of, records_of};
 use pen_core::PenFault;
 use phase_core::{Committer, HostDisk, HostVault};
 use record_core::Record;
@@ -45,7 +46,7 @@ impl<R: Record> Role<R> {
             }
             Err((committer, fault)) => {
                 self.put(Role::Committer(committer));
-                Err(Refusal::of_gather(fault))
+                Err(of_gather(fault))
             }
         }
     }
@@ -108,7 +109,7 @@ impl<R: Record> Role<R> {
         match left {
             Some(vault) => {
                 self.put(Role::Vault(vault));
-                Refusal::of_pen(fault)
+                of_pen(fault)
             }
             None => Refusal::Memory,
         }
@@ -125,54 +126,40 @@ impl<R: Record> Role<R> {
         }
     }
 
-    /// Copies a vault's records from position `from` on to the front of `out`, and answers how many: as far as both reach.
-    pub(crate) fn read_all(&self, from: u64, out: &mut [R]) -> Result<u64, Refusal>
-        ensures read { IfOk result (λ count. ReadsAll from out.old out.new count self.now self.now) }
-        ensures refused { IfErr result (λ refusal. IsNoVault refusal self.now self.now × (out.new ≡ out.old)) }
+    /// Writes the records that these bytes are over those of a vault from position `start` on. `NoRecord`.
+    pub(crate) fn change(
+        &mut self,
+        alloc: Global,
+        start: u64,
+        bytes: &[u8],
+    ) -> Result<(), Refusal>
+        ensures changes { OnOk result (Changes start bytes.now self.old self.new) }
+        ensures refused { IfErr result (λ refusal. RefusesChange start bytes.now refusal self.old self.new) }
     {
         match self {
-            Role::Vault(vault) => Ok(vault.read(from, out) as u64),
+            Role::Vault(vault) => {
+                let records = records_of::<R>(alloc, bytes)?;
+                match vault.change(start, &records) {
+                    Ok(()) => Ok(()),
+                    Err(fault) => Err(of_vault(fault)),
+                }
+            }
             _ => Err(Refusal::NotSo),
         }
     }
 
-    /// Writes records over those of a vault from position `start` on.
-    pub(crate) fn change(&mut self, start: u64, records: &[R]) -> Result<(), Refusal>
-        ensures changes { OnOk result (Changes start records.now self.old self.new) }
-        ensures refused { IfErr result (λ refusal. RefusesChange start records.now refusal self.old self.new) }
+    /// Makes the length of a vault `size`: takes records away, or appends copies of the one that these bytes are. `NoRecord`.
+    pub(crate) fn resize(&mut self, size: u64, filler: &[u8]) -> Result<(), Refusal>
+        ensures resizes { OnOk result (Resizes size filler.now self.old self.new) }
+        ensures refused { IfErr result (λ refusal. RefusesResize size filler.now refusal self.old self.new) }
     {
         match self {
-            Role::Vault(vault) => match vault.change(start, records) {
-                Ok(()) => Ok(()),
-                Err(fault) => Err(Refusal::of_vault(fault)),
-            },
-            _ => Err(Refusal::NotSo),
-        }
-    }
-
-    /// Makes the length of a vault `size`: takes records away, or appends copies of this one.
-    pub(crate) fn resize(&mut self, size: u64, filler: R) -> Result<(), Refusal>
-        ensures resizes { OnOk result (Resizes size filler self.old self.new) }
-        ensures refused { IfErr result (λ refusal. RefusesResize size filler refusal self.old self.new) }
-    {
-        match self {
-            Role::Vault(vault) => match vault.resize(size, filler) {
-                Ok(()) => Ok(()),
-                Err(fault) => Err(Refusal::of_vault(fault)),
-            },
-            _ => Err(Refusal::NotSo),
-        }
-    }
-
-    /// Takes all records of a vault away.
-    pub(crate) fn clear(&mut self) -> Result<(), Refusal>
-        ensures clears { OnOk result (Clears self.old self.new) }
-        ensures refused { IfErr result (λ refusal. RefusesClear refusal self.old self.new) }
-    {
-        match self {
-            Role::Vault(vault) => match vault.clear() {
-                Ok(()) => Ok(()),
-                Err(fault) => Err(Refusal::of_vault(fault)),
+            Role::Vault(vault) => match record_of(filler) {
+                Some(record) => match vault.resize(size, record) {
+                    Ok(()) => Ok(()),
+                    Err(fault) => Err(of_vault(fault)),
+                },
+                None => Err(Refusal::NoRecord),
             },
             _ => Err(Refusal::NotSo),
         }
@@ -186,7 +173,7 @@ impl<R: Record> Role<R> {
         match self {
             Role::Vault(vault) => match vault.fold() {
                 Ok(folded) => Ok(folded),
-                Err(fault) => Err(Refusal::of_vault(fault)),
+                Err(fault) => Err(of_vault(fault)),
             },
             _ => Err(Refusal::NotSo),
         }

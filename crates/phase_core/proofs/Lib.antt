@@ -4,6 +4,7 @@ mod WrittenLemmas
 mod PieceLemmas
 mod TellLemmas
 mod RoomLemmas
+mod ReadLemmas
 mod GrowerSame
 mod PutNext
 mod Worked

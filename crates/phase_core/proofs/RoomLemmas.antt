@@ -1,5 +1,5 @@
 -- A phase by the room that it has, and by the room that is asked for.
-use Rattle.std.proofs.Common.{◌≡◌, ◌≤◌, ◌<◌, ◌⊎◌, ℕ, refl, inl, inr, arith}
+use Rattle.std.proofs.Common.{ℕ, refl, inl, inr, arith}
 use Rattle.pen_core.specs.declared.fault.PenFault.{PenFault}
 use Rattle.directory_core.specs.Limits.{place_limit, growth_limit}
 use Rattle.book_core.specs.Lists.{Phase}

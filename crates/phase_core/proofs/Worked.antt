@@ -1,11 +1,16 @@
 -- Worked examples: what a read leaves, what a change writes, and where a record is found.
 use Rattle.std.proofs.Common.{◌≡◌, ◌⊎◌, ℕ, zero, suc, ◌+◌, ◌<◌, ◌≤◌, List, [], ◌∷◌, refl, inl, inr, ap, arith, slice_get, Option, None, Some}
+use Rattle.std.specs.Int.{w16}
+use Rattle.record_core.specs.Bytes.{Encoding, unsigned}
 use Rattle.phase_core.specs.Grower.{Copies}
 use Rattle.phase_core.specs.Grower.{IsFoundFrom}
 use Rattle.phase_core.specs.HostVault.{AreWritten}
 
--- two records from position 1 on stand in front, and behind them what stood there
-two : Copies {R = ℕ} (5 ∷ 7 ∷ 11 ∷ []) 1 (1 ∷ 2 ∷ 3 ∷ []) (7 ∷ 11 ∷ 3 ∷ []) 2
+-- the bytes of two records from position 1 on stand in front, and behind them what stood there
+abbrev numbers : Encoding ℕ
+numbers = unsigned w16
+
+two : Copies numbers (5 ∷ 7 ∷ 11 ∷ []) 1 (1 ∷ 2 ∷ 3 ∷ 4 ∷ 9 ∷ []) (7 ∷ 0 ∷ 11 ∷ 0 ∷ 9 ∷ []) 2
 two = record { inside = (omega arith, omega arith); is = refl }
 
 first_of : List ℕ → ℕ
@@ -13,13 +18,16 @@ first_of [] = 0
 first_of (x ∷ xs) = x
 
 -- the first two are others
-first_two : Copies {R = ℕ} (5 ∷ 7 ∷ 11 ∷ []) 1 (1 ∷ 2 ∷ 3 ∷ []) (5 ∷ 7 ∷ 3 ∷ []) 2 → ⊥
+first_two : Copies numbers (5 ∷ 7 ∷ 11 ∷ []) 1 (1 ∷ 2 ∷ 3 ∷ 4 ∷ []) (5 ∷ 0 ∷ 7 ∷ 0 ∷ []) 2 → ⊥
 unfolding first_of
 first_two copies = let same : 5 ≡ 7 = ap first_of copies.is in cc
 
--- three don't stand there
-three : Copies {R = ℕ} (5 ∷ 7 ∷ 11 ∷ []) 1 (1 ∷ 2 ∷ 3 ∷ []) (7 ∷ 11 ∷ 3 ∷ []) 3 → ⊥
+-- three don't stand there, and of two no more than two bytes each are written
+three : Copies numbers (5 ∷ 7 ∷ 11 ∷ []) 1 (1 ∷ 2 ∷ 3 ∷ 4 ∷ 5 ∷ 6 ∷ []) (7 ∷ 0 ∷ 11 ∷ 0 ∷ 5 ∷ 6 ∷ []) 3 → ⊥
 three copies = let within = copies.inside.1 in absurd (omega arith)
+
+no_more_than_fit : Copies numbers (5 ∷ 7 ∷ 11 ∷ []) 1 (1 ∷ 2 ∷ 3 ∷ []) (7 ∷ 0 ∷ 11 ∷ []) 2 → ⊥
+no_more_than_fit copies = let within = copies.inside.0 in absurd (omega arith)
 
 value_of : Option ℕ → ℕ
 value_of None = 0

@@ -1,11 +1,11 @@
 -- Worked examples: what a host is told of where records stand, and how much room a phase has.
-use Rattle.std.proofs.Common.{◌≡◌, ◌⊎◌, ℕ, ◌+◌, ◌<◌, ◌≤◌, List, [], ◌∷◌, length, drop, refl, ap, inl, inr, arith}
+use Rattle.std.proofs.Common.{ℕ, List, [], ◌∷◌, length, drop, refl, ap, inl, inr, arith}
 use Rattle.std.proofs.lemmas.List.{length-take, length-drop}
 use Rattle.std.specs.Borrow.{Bor}
 use Rattle.std.specs.Ptr.{as_ptr}
 use Rattle.directory_core.specs.Limits.{growth_limit, place_limit}
 use Rattle.phase_core.specs.declared.piece.Piece.{Piece}
-use Rattle.phase_core.specs.Telling.{TellsAt, TellsFrom, told_len}
+use Rattle.phase_core.specs.Telling.{TellsAt, TellsFrom}
 use Rattle.phase_core.specs.Room.{IsRoomFor}
 
 -- these records, lent from there

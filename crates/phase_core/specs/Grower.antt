@@ -1,7 +1,9 @@
 -- A thread's own end of a phase.
-use Rattle.std.specs.Prelude.{◌≡◌, ℕ, ◌<◌, ◌≤◌, Bool, List, ◌++◌, length, take, drop, slice_get, Some}
+use Rattle.std.specs.Prelude.{◌≡◌, ℕ, ◌*◌, ◌<◌, ◌≤◌, Bool, List, ◌++◌, length, take, drop, slice_get, Some}
+use Rattle.std.specs.List.{flat_map}
 use Rattle.std.specs.Arc.{arc_value}
 use Rattle.std.specs.declared.cmp.PartialEq as PartialEq
+use Rattle.record_core.specs.Bytes.{Encoding}
 use Rattle.record_core.specs.declared.record.Record as Record
 use Rattle.book_core.specs.Lists.{Phase, seat_list}
 use Rattle.phase_core.specs.declared.grower.Grower.{Grower}
@@ -15,10 +17,10 @@ module _ {R : Type 0} {record_of : Record.Ghosts R} {eq_of : PartialEq.Ghosts R}
   abbrev pub list_of : Grower R record_of eq_of → List R
   list_of grower = seat_list (phase_of grower) grower.seat
 
--- so many records from that position on stand in front of the output, and after them what stood there
-pub record Copies {R : Type 0} (list : List R) (from : ℕ) (old new : List R) (count : ℕ) : Type 0 where
-  pub inside : (count ≤ length old) × (count ≤ length (drop from list))
-  pub is : new ≡ take count (drop from list) ++ drop count old
+-- the bytes of so many records from that position on stand in front of the output, and after them what stood there
+pub record Copies {R : Type 0} (form : Encoding R) (list : List R) (from : ℕ) (old new : List ℕ) (count : ℕ) : Type 0 where
+  pub inside : (count * form.width ≤ length old) × (count ≤ length (drop from list))
+  pub is : new ≡ flat_map form.bytes_of (take count (drop from list)) ++ drop (count * form.width) old
 
 -- the records that equal x
 abbrev pub equals : {R : Type 0} → (R → R → Bool) → R → R → Bool

@@ -1,16 +1,17 @@
 //! A thread's own end of a phase.
 
-ghost use Rattle.std.specs.Prelude.{◌≡◌, ◌≤◌, ◌⊎◌, length, take, drop, OnOk, IfErr, MatchResult};
+ghost use Rattle.std.specs.Prelude.{◌≡◌, ◌<◌, ◌≤◌, ◌⊎◌, length, IfErr, MatchResult};
 ghost use Rattle.std.specs.List.{count_by};
 ghost use Rattle.std.specs.Arc.{arc_value};
 ghost use Rattle.book_core.specs.Lists.{IsSeatOf, seat_list};
-ghost use Rattle.book_core.specs.Growing.{Grown, GrowsBy, IsBookRefusal, IsCopiesRefusal, IsLookFault, SeatIsTold, SeatLearns};
+ghost use Rattle.book_core.specs.Growing.{Grown, IsBookRefusal, IsLookFault, SeatIsTold, SeatLearns};
 ghost use Rattle.phase_core.specs.Telling.{TellsFrom};
 
 use crate::piece::Piece;
 use crate::searching::{count_equal, find_equal};
 use block_core::Fresh;
 use book_core::{GrowFault, Live, MarkState, Receipt, Seat};
+use c_core::write_from;
 use record_core::Record;
 use std::alloc::Global;
 use std::sync::Arc;
@@ -57,21 +58,8 @@ impl<R: Record> Grower<R> {
         Grower { live, seat }
     }
 
-    /// Grows by copies of the records, as one block behind all that was grown before. `Strayed` where another growth came
-    /// first: the seat knows that one then, and the call may be made again.
-    pub fn try_grow(&mut self, alloc: Global, records: &[R]) -> Result<Receipt, GrowFault>
-        ensures phase { phase_of self.new ≡ phase_of self.old }
-        ensures grown { GrowsBy (phase_of self.old) self.old.seat self.new.seat records.now result }
-        ensures refused { IfErr result (IsCopiesRefusal R.form.width (phase_of self.old) self.new.seat (length records.now)) }
-    {
-        let fresh = Fresh::from_slice(alloc, records)?;
-        match self.live.try_grow(&mut self.seat, fresh) {
-            Ok(receipt) => Ok(receipt),
-            Err((_, fault)) => Err(fault),
-        }
-    }
-
-    /// Grows by the block, whose records stay where they are. Refused as `try_grow` is, with the block handed back.
+    /// Grows by the block, behind all that was grown before: its records stay where they are. `Strayed` where another growth came
+    /// first: the seat knows that one then, and the call may be made again. Refused, the block is handed back.
     pub fn publish(&mut self, block: Fresh<R>) -> Result<Receipt, (Fresh<R>, GrowFault)>
         ensures phase { phase_of self.new ≡ phase_of self.old }
         ensures grown { MatchResult result
@@ -102,19 +90,16 @@ impl<R: Record> Grower<R> {
         Ok(self.live.size(&self.seat))
     }
 
-    /// Copies records from position `from` on to the front of `out`, and answers how many: as many as stand in one piece
-    /// there, at least one where it knows one there and `out` has room.
-    pub fn read(&mut self, from: u64, out: &mut [R]) -> usize
+    /// Copies the bytes of records from position `from` on to the front of `out`, and answers of how many: as many as stand in one
+    /// piece there, at least one where it knows one there and `out` has room.
+    #[tactic(auto, using(crate::proofs::ReadLemmas::copies))]
+    pub fn read(&mut self, from: u64, out: &mut [u8]) -> u64
         ensures same { self.new ≡ self.old }
-        ensures copies { Copies (list_of self.old) from out.old out.new result }
-        ensures some { (result ≡ 0) → (length (list_of self.old) ≤ from) ⊎ (length out.old ≡ 0) }
+        ensures copies { Copies R.form (list_of self.old) from out.old out.new result }
+        ensures some { (result ≡ 0) → (length (list_of self.old) ≤ from) ⊎ (length out.old < R.form.width) }
     {
         match self.live.piece(&mut self.seat, from) {
-            Some(piece) => {
-                let count = piece.len().min(out.len());
-                out[..count].copy_from_slice(&piece[..count]);
-                count
-            }
+            Some(piece) => write_from(piece, 0, out),
             None => 0,
         }
     }

@@ -1,14 +1,12 @@
 //! A vault over a file whose calls a host makes.
 
-ghost use Rattle.std.specs.Prelude.{◌≡◌, ◌⊎◌, length, drop, IfOk, IfErr, IfSome, IsNone};
+ghost use Rattle.std.specs.Prelude.{◌≡◌, length, IfOk, IfErr, IfSome, IsNone};
 ghost use Rattle.disk_core.specs.Moments.{clock};
 ghost use Rattle.relay_core.specs.Listed.{LeadTo};
-ghost use Rattle.phase_core.specs.Grower.{Copies};
 ghost use Rattle.phase_core.specs.Folding.{Folds, RefusesFold};
 
 use crate::folding::fold_whole;
 use crate::listing::list_from;
-use crate::searching::read_from;
 use crate::writing::Written;
 use disk_core::Disk;
 use record_core::Record;
@@ -32,14 +30,6 @@ impl<R: Record, D: Disk> HostVault<R, D> {
         ensures { result ≡ length (list_of self.now) }
     {
         self.vault.len()
-    }
-
-    /// Copies records from position `from` on to the front of `out`, and answers how many: as far as both reach.
-    pub fn read(&self, from: u64, out: &mut [R]) -> usize
-        ensures copies { Copies (list_of self.now) from out.old out.new result }
-        ensures all { (result ≡ length out.old) ⊎ (result ≡ length (drop from (list_of self.now))) }
-    {
-        read_from(&self.vault, from, out)
     }
 
     /// Writes the records over those from position `start` on, by one frame. With none nothing is written. Refused as

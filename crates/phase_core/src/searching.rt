@@ -1,44 +1,12 @@
-//! Reads of a vault, and searches of what a seat knows.
+//! Searches of what a seat knows.
 
 ghost use Rattle.std.specs.Prelude.{◌≡◌, ◌⊎◌, ◌<◌, ◌≤◌, ◌^◌, length, drop, slice_get, Some};
 ghost use Rattle.std.specs.List.{count_by};
-ghost use Rattle.vault_core.specs.Vault.{list_of};
 ghost use Rattle.book_core.specs.Lists.{IsSeatOf, seat_list};
-ghost use Rattle.phase_core.specs.Grower.{Copies, IsFoundFrom, equals};
+ghost use Rattle.phase_core.specs.Grower.{IsFoundFrom, equals};
 
 use book_core::{Live, Seat};
-use disk_core::Disk;
 use record_core::Record;
-use relay_core::RelayDisk;
-use vault_core::Vault;
-
-/// The record at a position that it has.
-fn at<R: Record, D: Disk>(vault: &Vault<R, RelayDisk<D>>, i: u64) -> R
-    requires { i < length (list_of vault.now) }
-    ensures { slice_get (list_of vault.now) i ≡ Some result }
-{
-    match vault.get(i) {
-        Some(record) => *record,
-        None => unreachable!(),
-    }
-}
-
-/// Copies records from position `from` on to the front of `out`, and answers how many: as far as both reach.
-pub(crate) fn read_from<R: Record, D: Disk>(
-    vault: &Vault<R, RelayDisk<D>>,
-    from: u64,
-    out: &mut [R],
-) -> usize
-    ensures copies { Copies (list_of vault.now) from out.old out.new result }
-    ensures all { (result ≡ length out.old) ⊎ (result ≡ length (drop from (list_of vault.now))) }
-{
-    let left = vault.len().saturating_sub(from);
-    let count = left.min(out.len() as u64);
-    for k in 0..count {
-        out[k as usize] = at(vault, from + k);
-    }
-    count as usize
-}
 
 /// How many of these records equal this one.
 fn count_in<R: Record>(records: &[R], sought: R) -> u64

@@ -42,16 +42,16 @@ module _ {M : Type 1} {𝓤 : Ura M} (𝓛 : Logic 𝓤) (at_mem : Memory → SP
   open 𝓛 use {H}
 
   -- the call with this value in the place of its own
-  abbrev at_session : (walk_of 𝓛 F.ended stayed (F.clauses 𝓛 at_mem run)).Ghost → Option (E.row).Denot → (walk_of 𝓛 F.ended stayed (F.clauses 𝓛 at_mem run)).Ghost
-  at_session z s = ((tt, tt, tt, (record { at = z.0.3.0.at; alloc = z.0.3.0.alloc; session = s }, tt), (z.0.4.0, tt)), tt)
+  abbrev at_end : (walk_of 𝓛 F.ended stayed (F.clauses 𝓛 at_mem run)).Ghost → Option (E.row).Denot → (walk_of 𝓛 F.ended stayed (F.clauses 𝓛 at_mem run)).Ghost
+  at_end z s = ((tt, tt, tt, (record { at = z.0.3.0.at; alloc = z.0.3.0.alloc; end = s }, tt), (z.0.4.0, tt)), tt)
 
-  walk : (y : (walk_of 𝓛 F.ended stayed (F.clauses 𝓛 at_mem run)).Ghost) (s : Option (E.row).Denot) → let z = at_session y s in
+  walk : (y : (walk_of 𝓛 F.ended stayed (F.clauses 𝓛 at_mem run)).Ghost) (s : Option (E.row).Denot) → let z = at_end y s in
       ent 𝓤 ((walk_of 𝓛 F.ended stayed (F.clauses 𝓛 at_mem run)).pre z) (WpFn 𝓤 H 𝓣.C 𝓣.Λ code.function (z.0.4.0 ++ []) ((walk_of 𝓛 F.ended stayed (F.clauses 𝓛 at_mem run)).post z))
   walk y None =
-      let z = at_session y None in let none : Option (E.row).Denot = None in
+      let z = at_end y None in let none : Option (E.row).Denot = None in
       qed 𝓛 ((‵ ftrue ⊛ ‵ (fsep ((Kept.the_row).own_val z.0.3.0 z.0.4.0) ftrue)) ∷ raw (fact 𝓤 (IsSome none)) ∷ []) ∵ move ! (1 ∷ []) $ heard ! (IsSome none) (λ is. absurd (true≢false (sym is)))
   walk y (Some x) =
-      let z = at_session y (Some x) in
+      let z = at_end y (Some x) in
       let Post = (walk_of 𝓛 F.ended stayed (F.clauses 𝓛 at_mem run)).post z in
       let v : D E = record { ptr = z.0.3.0.at; alloc = z.0.3.0.alloc; value = x } in
       let To = type_at (F.signature).result tt in
@@ -73,4 +73,4 @@ into_parts_spec 𝓤 𝓛 𝓜 𝓡 wired =
     let 𝓣 : Tables 𝓤 𝓛.H = tables_of 𝓤 𝓛.H 𝓜 (tables 𝓤 𝓛.H 𝓜 𝓡 𝓡.env) in
     entered 𝓤 𝓛.H (triple_of 𝓛 F.signature (F.spec 𝓛 𝓜.mem 𝓡.returns)) 𝓣.C 𝓣.Λ #self code.function (code.unfolded 𝓤 𝓛.H 𝓜 𝓡 wired)
     (walk_Meets 𝓛 F.ended stayed (Goes-dropped 𝓛 0 From yes (λ κs x f. refl), tt) (F.clauses 𝓛 𝓜.mem 𝓡.returns) (WpFn 𝓤 𝓛.H 𝓣.C 𝓣.Λ code.function) (WpFn-mono 𝓤 𝓛.H 𝓛.laws 𝓣 code.function)
-    (λ z. walk 𝓛 𝓜.mem 𝓡.returns 𝓣 z z.0.3.0.session))
+    (λ z. walk 𝓛 𝓜.mem 𝓡.returns 𝓣 z z.0.3.0.end))

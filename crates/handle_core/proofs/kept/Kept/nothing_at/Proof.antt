@@ -64,7 +64,7 @@ module _ {M : Type 1} {𝓤 : Ura M} (𝓛 : Logic 𝓤) (at_mem : Memory → SP
       let Post = (walk_of 𝓛 F.ended stayed (F.clauses 𝓛 at_mem run)).post z in
       let p = z.0.3.0 in let a = z.0.3.1.0 in let us = z.0.4.0 in let vs = z.0.4.1.0 in
       let To = type_at (F.signature).result tt in
-      let made : To.Denot = record { at = p; alloc = a; session = None } in
+      let made : To.Denot = record { at = p; alloc = a; end = None } in
       qed 𝓛 ((‵ ftrue ⊛ ‵ (owns (RawPtr ∷ Alloc ∷ []) (p, (a, tt)) (us, (vs, tt)))) ∷ raw (emp 𝓤) ∷ []) ∵ split ! $ drop ! $ fsplit ! $
       feq_l ! (λ eu. fsplit ! $ handle_tells E.al ! a vs (λ hv ev fa.
       let w = word p hv in
