@@ -65,11 +65,12 @@ ends_by_a_kill() {
 compiles_without_a_warning() {
     has_c && has "$1" 'the vector for C++' || exit $is_skipped
     compiler=$1
-    for name in behaviours lent views in_place; do
+    for name in behaviours lent views in_place idioms; do
         compile_cpp -O2 -Wshadow -Wnon-virtual-dtor -fsyntax-only "$cpp_tests/$name.cc"
     done
-    for name in lent in_place; do
+    for name in lent in_place idioms; do
         compile_cpp -std=c++20 -Wshadow -Wnon-virtual-dtor -fsyntax-only "$cpp_tests/$name.cc"
+        compile_cpp -DCVEC_CHECKED -Wshadow -Wnon-virtual-dtor -fsyntax-only "$cpp_tests/$name.cc"
     done
     for name in threads sizes index; do
         compile_cpp -O2 -fsyntax-only "$cpp_tests/$name.cc"
@@ -138,11 +139,12 @@ a_type_without_rows_is_refused_with_its_reason() (
     compile_cpp -fsyntax-only "$work/other.cc"
 )
 
-# These lines, of a program with a vector of structs, are compiled.
+# These lines, of a program with a vector of structs, are compiled. Further words go to the compiler.
 compiles_with() {
     printf '#include "cvec/concurrent_vector.hpp"\nstruct sample {\n    double value;\n};\n' >"$work/other.cc"
     printf 'void use(cvec::concurrent_vector<sample> &v) {\n    %s\n}\n' "$1" >>"$work/other.cc"
-    compile_cpp -fsyntax-only "$work/other.cc" >"$out" 2>"$err"
+    shift
+    compile_cpp -fsyntax-only "$@" "$work/other.cc" >"$out" 2>"$err"
 }
 
 # Rows are lent.
@@ -150,11 +152,26 @@ nothing_is_assigned_to_a_row() (
     has_cpp || exit $is_skipped
     compiles_with 'sample copy = v[0]; copy = *v.begin(); v.change(0, copy);'
     compiles_with 'const sample &row = v[0]; auto &same = v.at(0); const sample *place = &row; static_cast<void>(place == &same);'
+    compiles_with 'auto &row = v[0]; static_assert(std::is_same_v<decltype(row), const sample &>); static_cast<void>(row);'
     for line in 'v[0] = sample{};' '*v.begin() = sample{};' 'std::fill(v.begin(), v.end(), sample{});'; do
         status=0
         compiles_with "$line" || status=$?
         [ "$status" -ne 0 ]
         tells const
+    done
+)
+
+# Compilers show no warning of an installed header, and g++ only warns of a field that is narrowed.
+no_field_of_a_row_is_narrowed() (
+    has_cpp || exit $is_skipped
+    for standard in 17 20; do
+        for appends in 'v' 'cvec::appender<sample>(v)'; do
+            compiles_with "float one = 1; $appends.emplace_back(one);" -w "-std=c++$standard"
+            status=0
+            compiles_with "long one = 1; $appends.emplace_back(one);" -w "-std=c++$standard" || status=$?
+            [ "$status" -ne 0 ]
+            tells 'cvec: these are no fields of T, or one of them would be narrowed'
+        done
     done
 )
 
@@ -234,6 +251,28 @@ growths_have_receipts_in_cpp() (
     did '4\n5\n6\n7\n8\n'
 )
 
+programs_use_a_vector_as_one_in_memory_in_cpp() (
+    behaves_by idioms own_addresses fields texts compared inserted
+    link_cpp -std=c++20 -o "$work/idioms" "$cpp_tests/idioms.cc"
+    each_behaves "$work/idioms" fields compared inserted
+)
+
+a_path_with_a_zero_byte_is_refused_in_cpp() (
+    behaves_by idioms zero_bytes
+)
+
+an_appender_may_outlive_its_vector_in_cpp() (
+    behaves_by idioms an_appender_is_left a_view_keeps_others
+)
+
+# Built so that this is looked at, a use behind the end of a vector aborts the program.
+a_use_behind_the_end_of_a_vector_is_told_in_cpp() (
+    has_cpp || exit $is_skipped
+    make_cpp
+    link_cpp -DCVEC_CHECKED -o "$work/idioms" "$cpp_tests/idioms.cc"
+    each_behaves "$work/idioms" each_is_told own_addresses inserted an_appender_is_left a_view_keeps_others
+)
+
 a_wait_has_a_deadline_in_cpp() (
     behaves deadlines deadlines_for_a_seat
 )
@@ -251,7 +290,7 @@ a_vector_is_closed_in_cpp() (
 )
 
 a_refusal_has_its_reason_in_cpp() (
-    behaves refusals versions forking forking_meanwhile forking_beside_a_flusher forking_in_a_turn forking_with_one_number breaking
+    behaves refusals versions forking closing_in_a_fork forking_meanwhile forking_beside_a_flusher forking_in_a_turn forking_with_one_number breaking
     : >"$work/t.cv"
     flock "$work/t.cv" "$built/behaviours" locked "$work/t.cv"
 )
@@ -413,8 +452,9 @@ memory_is_used_rightly_in_cpp() (
 
 memory_that_is_lent_is_used_rightly_in_cpp() (
     has_cpp_under address,undefined
-    no_complaint_by lent each_type many_growths a_part_is_kept a_member_is_kept spans early_references lent_anew \
-        room_for_eight forked
+    no_complaint_by lent each_type many_growths a_part_is_kept a_member_is_kept the_greater_one_is_kept spans early_references \
+        lent_anew room_for_eight forked
+    no_complaint_by idioms own_addresses texts inserted an_appender_is_left a_view_keeps_others
     no_complaint_by views each_call copies a_call_waits calls_come_soon it_outlives_the_vector it_outlives_an_assignment \
         what_was_grown_is_kept a_child_has_its_own
     no_complaint_by in_place each_type what_it_gives what_it_throws refusals calls_within_it one_within_another \
