@@ -168,10 +168,20 @@ static void zero_bytes(const std::string &path) {
 
 using appended = cvec::appender<std::uint64_t>;
 
+static std::string words_of(const std::function<void()> &refused) {
+    try {
+        refused();
+        return "none";
+    } catch (const cvec::error &refusal) {
+        return std::to_string(refusal.status()) + ' ' + refusal.what();
+    }
+}
+
 static void is_refused(appended &orphan, std::size_t gathered) {
+    const std::string refusal = std::to_string(CVEC_NOT_SO) + " cvec: an appender: its vector has gone";
     for (int turn = 0; turn < 2; ++turn) {
-        HOLDS(status_of([&] { orphan.flush(); }) == (gathered == 0 ? std::uint32_t{CVEC_DONE} : std::uint32_t{CVEC_NOT_SO}));
-        HOLDS(status_of([&] { orphan.settle(); }) == CVEC_NOT_SO && orphan.buffered() == gathered);
+        HOLDS(words_of([&] { orphan.flush(); }) == (gathered == 0 ? "none" : refusal));
+        HOLDS(words_of([&] { orphan.settle(); }) == refusal && orphan.buffered() == gathered);
     }
 }
 

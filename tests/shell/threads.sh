@@ -204,6 +204,10 @@ a_vector_in_c_that_is_closed_is_locked_no_more() (
     a_behaviour_of_a_vector_in_c unlocks_beside_programs
 )
 
+a_vector_in_c_is_locked_until_its_last_commit() (
+    a_behaviour_of_a_vector_in_c closes_locked
+)
+
 a_write_of_a_vector_in_c_that_is_cut_goes_on() (
     a_behaviour_of_a_vector_in_c parts
 )
@@ -290,7 +294,7 @@ threads_of_c_that_are_killed_as_a_phase_ends_lose_nothing_settled() (
 )
 
 a_phase_of_c_that_ends_beside_calls_refuses_none() (
-    for behaviour in renewal_waits renewal_after_commit renewal_after_call renewals; do
+    for behaviour in renewal_waits renewal_after_commit renewal_after_call renewal_before_call renewals; do
         rm -f "$work/t.cv"
         a_behaviour_of_a_vector_in_c $behaviour
     done
