@@ -54,7 +54,7 @@ each_behaves() {
 # This behaviour is as it is promised, and ends by a kill, behind what is durable.
 ends_by_a_kill() {
     status=0
-    "$built/behaviours" "$1" "$work/t.cv" >"$out" || status=$?
+    timeout 300 "$built/behaviours" "$1" "$work/t.cv" >"$out" || status=$?
     cat "$out"
     [ "$status" -eq 137 ]
     [ ! -s "$out" ]
@@ -112,7 +112,7 @@ int main(int, char **argv) {
 }
 END
     link_cpp -o "$work/program" "$work/other.cc" "$work/main.cc"
-    "$work/program" "$work/t.cv"
+    timeout 60 "$work/program" "$work/t.cv"
 )
 
 # A vector of this type isn't compiled, and the compiler says why.
@@ -188,7 +188,7 @@ rows_in_cpp_have_any_size() (
     has_cpp || exit $is_skipped
     make_cpp
     link_cpp -O0 -o "$work/sizes" "$cpp_tests/sizes.cc"
-    "$work/sizes" "$work/t.cv"
+    timeout 60 "$work/sizes" "$work/t.cv"
     run list u32 "$work/t.cv"
     printf '%s\n' 4294967295 5 2147483648 4294967294 4294967294 4294967292 4294967293 4294967294 4294967295 | cmp - "$out"
     run list u64 "$work/t.cv.u64"
@@ -225,7 +225,7 @@ rows_are_taken_away_in_cpp() (
     run append u64 "$work/t.cv"
     run set u64 "$work/t.cv" 1 --records=9
     did 'ok\n'
-    "$built/behaviours" shortened "$work/t.cv"
+    timeout 60 "$built/behaviours" shortened "$work/t.cv"
     lists 2 0 '5\n9\n'
 )
 
@@ -292,7 +292,7 @@ a_vector_is_closed_in_cpp() (
 a_refusal_has_its_reason_in_cpp() (
     behaves refusals versions forking closing_in_a_fork forking_meanwhile forking_beside_a_flusher forking_in_a_turn forking_with_one_number breaking
     : >"$work/t.cv"
-    flock "$work/t.cv" "$built/behaviours" locked "$work/t.cv"
+    timeout 60 flock "$work/t.cv" "$built/behaviours" locked "$work/t.cv"
 )
 
 # As a container has, whose first process forks into a further one.
@@ -447,7 +447,7 @@ memory_is_used_rightly_in_cpp() (
         closing_meanwhile moving opening_without_memory refusals breaking few_seats many_threads renewing
     rm -f "$work"/t.cv*
     sanitized sizes
-    "$work/sizes" "$work/t.cv"
+    timeout 60 "$work/sizes" "$work/t.cv"
 )
 
 memory_that_is_lent_is_used_rightly_in_cpp() (
@@ -490,8 +490,8 @@ the_program_of_the_page_for_cpp_runs() (
     shown_in use/cpp.md cpp >"$work/first.cpp"
     cd "$work"
     link_cpp -o first first.cpp
-    [ "$(./first numbers.cv)" = '3 rows from position 0' ]
-    [ "$(./first numbers.cv)" = '3 rows from position 3' ]
+    [ "$(timeout 60 ./first numbers.cv)" = '3 rows from position 0' ]
+    [ "$(timeout 60 ./first numbers.cv)" = '3 rows from position 3' ]
     run list u64 "$work/numbers.cv"
     did '5\n7\n11\n5\n7\n11\n'
 )
@@ -542,7 +542,7 @@ results_of_a_pool_are_kept_in_cpp() (
     has_results_of_a_pool pair 1 "$work/pool"
     tells_of_a_full_disk "$work/pool" "$work/full.cv" 5000
     # For fewer numbers there is nothing left to do.
-    "$work/pool" "$work/t.cv" 10 >"$out"
+    timeout 60 "$work/pool" "$work/t.cv" 10 >"$out"
     sed 1d "$out" | cmp "$work/wanted" -
 )
 
@@ -560,7 +560,7 @@ a_program_for_onetbb_is_made_durable() (
         cmp - "$cpp/primes.cc"
     link_cpp -o "$work/primes" "$cpp/primes.cc"
     cd "$work"
-    ./primes >"$out"
+    timeout 60 ./primes >"$out"
     [ "$(cat "$out")" = '9592 primes, whose sum is 454396537' ]
     "$top/cvec" list u64 primes.cv | sort -n >"$work/found"
     seq 99999 | factor | awk 'NF == 2 { print $2 }' | cmp - "$work/found"
@@ -570,14 +570,14 @@ the_program_for_onetbb_prints_the_same() (
     has_cpp && has_tbb || exit $is_skipped
     # Its headers have warnings of their own.
     compile_cpp -w -o "$work/primes_tbb" "$cpp/primes_tbb.cc" -ltbb -lpthread
-    [ "$("$work/primes_tbb")" = '9592 primes, whose sum is 454396537' ]
+    [ "$(timeout 60 "$work/primes_tbb")" = '9592 primes, whose sum is 454396537' ]
 )
 
 ranges_are_for_the_algorithms_of_onetbb() (
     has_cpp && has_tbb || exit $is_skipped
     make_cpp
     link_cpp -w -o "$work/parallel" "$cpp_tests/parallel.cc" -ltbb
-    "$work/parallel" "$work/t.cv"
+    timeout 60 "$work/parallel" "$work/t.cv"
 )
 
 # ---- the works of the bench
@@ -592,7 +592,7 @@ the_bench_grows_by_threads_of_cpp() (
         'durable mode=wait64 block=4096' 'durable mode=flow block=16'; do
         echo "work: $words"
         # shellcheck disable=SC2086 # each word is one
-        "$work/native" $words threads=3 n=6000 box_ms=20 "dir=$work" >"$out"
+        timeout 120 "$work/native" $words threads=3 n=6000 box_ms=20 "dir=$work" >"$out"
         grep -q '"threads":3,"n":[1-9][0-9]*,"seconds":0\.[0-9]*[,}]' "$out"
     done
     [ -z "$(find "$work" -name '*.cvec')" ]
@@ -602,7 +602,7 @@ the_bench_grows_by_threads_of_cpp() (
         echo "work: $words"
         status=0
         # shellcheck disable=SC2086 # each word is one
-        "$work/native" $words n=6000 box_ms=20 "dir=$work" >"$out" 2>"$err" || status=$?
+        timeout 120 "$work/native" $words n=6000 box_ms=20 "dir=$work" >"$out" 2>"$err" || status=$?
         [ "$status" -eq 3 ]
         [ ! -s "$out" ]
         [ "$(wc -l <"$err")" -le 1 ]
@@ -617,7 +617,7 @@ the_bench_reads_in_each_way_of_cpp() (
     for words in 'read block=16' 'read-mixed growers=3 block=16'; do
         work_name=${words%% *}
         # shellcheck disable=SC2086 # each word is one
-        "$work/native" $words n=6000 draws=500 "dir=$work" >"$out"
+        timeout 120 "$work/native" $words n=6000 draws=500 "dir=$work" >"$out"
         [ "$(grep -c "\"work\":\"$work_name.seq\",.*[0-9]}\$" "$out")" -eq 1 ]
         [ "$(grep -c "\"work\":\"$work_name.seq\",.*,\"way\":\"pieces\"}\$" "$out")" -eq 1 ]
         [ "$(grep -c "\"work\":\"$work_name.random\",.*[0-9]}\$" "$out")" -eq 3 ]
@@ -637,7 +637,7 @@ the_bench_by_threads_of_cpp_tells_of_a_full_disk() (
         echo "work: $words"
         status=0
         # shellcheck disable=SC2086 # each word is one
-        (ulimit -f 8 && exec "$work/native" $words threads=3 n=6000 box_ms=9999 "dir=$work") >"$out" 2>"$err" || status=$?
+        (ulimit -f 8 && exec timeout 120 "$work/native" $words threads=3 n=6000 box_ms=9999 "dir=$work") >"$out" 2>"$err" || status=$?
         [ "$status" -eq 1 ]
         [ ! -s "$out" ]
         # Of threads that wait one is told the first, and others the second.
