@@ -78,6 +78,12 @@ struct sample {
     friend bool operator<(const sample &a, const sample &b) { return a.sensor < b.sensor; }
 };
 
+// Which is made of its fields alone: none of them has a default.
+struct fixed {
+    const std::uint64_t one, other;
+    friend bool operator==(const fixed &a, const fixed &b) { return a.one == b.one && a.other == b.other; }
+};
+
 struct becomes_a_sample {
     operator sample() const { return {3, 0.75}; }
 };
@@ -88,6 +94,8 @@ static void fields(const std::string &path) {
     HOLDS(*vector.emplace_back(becomes_a_sample()) == (sample{3, 0.75}) && *vector.emplace_back(vector[0]) == (sample{1, 0.25}));
     cvec::concurrent_vector<std::array<std::uint32_t, 2>> arrays(path + ".arrays");
     HOLDS((*arrays.emplace_back(4U, 5U) == std::array<std::uint32_t, 2>{4, 5}));
+    cvec::concurrent_vector<fixed> constants(path + ".fixed");
+    HOLDS(*constants.emplace_back(std::uint64_t{7}, std::uint64_t{8}) == (fixed{7, 8}) && *constants.emplace_back() == (fixed{0, 0}));
     // A number is converted as it is by T(..).
     cvec::concurrent_vector<std::uint32_t> words(path + ".words");
     HOLDS(*words.emplace_back(7L) == 7);

@@ -155,7 +155,7 @@ template <class T, class... Args>
 struct are_fields<std::void_t<decltype(T{std::declval<Args>()...})>, T, Args...> : std::true_type {};
 
 // Whether it is one value that becomes a T. From C++20 on a struct is constructible of its fields too.
-template <class T, class... Args> struct is_a_value : std::bool_constant<sizeof...(Args) == 0> {};
+template <class T, class... Args> struct is_a_value : std::false_type {};
 template <class T, class Arg> struct is_a_value<T, Arg> : std::is_convertible<Arg, T> {};
 
 // Structs without a constructor are made of their fields.
