@@ -302,33 +302,33 @@ template <class T, class Layout = one_record> class concurrent_vector {
 
 // ---- comparing, row by row, as T's operators do
 
-template <class T, class A, class B>
-[[nodiscard]] bool operator==(const concurrent_vector<T, A> &a, const concurrent_vector<T, B> &b) {
+template <class T, class One, class Other>
+[[nodiscard]] bool operator==(const concurrent_vector<T, One> &a, const concurrent_vector<T, Other> &b) {
     return std::equal(a.begin(), a.end(), b.begin(), b.end());
 }
 
-template <class T, class A, class B>
-[[nodiscard]] bool operator<(const concurrent_vector<T, A> &a, const concurrent_vector<T, B> &b) {
+template <class T, class One, class Other>
+[[nodiscard]] bool operator<(const concurrent_vector<T, One> &a, const concurrent_vector<T, Other> &b) {
     return std::lexicographical_compare(a.begin(), a.end(), b.begin(), b.end());
 }
 
-template <class T, class A, class B>
-[[nodiscard]] bool operator!=(const concurrent_vector<T, A> &a, const concurrent_vector<T, B> &b) {
+template <class T, class One, class Other>
+[[nodiscard]] bool operator!=(const concurrent_vector<T, One> &a, const concurrent_vector<T, Other> &b) {
     return !(a == b);
 }
 
-template <class T, class A, class B>
-[[nodiscard]] bool operator>(const concurrent_vector<T, A> &a, const concurrent_vector<T, B> &b) {
+template <class T, class One, class Other>
+[[nodiscard]] bool operator>(const concurrent_vector<T, One> &a, const concurrent_vector<T, Other> &b) {
     return b < a;
 }
 
-template <class T, class A, class B>
-[[nodiscard]] bool operator<=(const concurrent_vector<T, A> &a, const concurrent_vector<T, B> &b) {
+template <class T, class One, class Other>
+[[nodiscard]] bool operator<=(const concurrent_vector<T, One> &a, const concurrent_vector<T, Other> &b) {
     return !(b < a);
 }
 
-template <class T, class A, class B>
-[[nodiscard]] bool operator>=(const concurrent_vector<T, A> &a, const concurrent_vector<T, B> &b) {
+template <class T, class One, class Other>
+[[nodiscard]] bool operator>=(const concurrent_vector<T, One> &a, const concurrent_vector<T, Other> &b) {
     return !(a < b);
 }
 

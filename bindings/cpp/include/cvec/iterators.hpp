@@ -16,7 +16,7 @@
 namespace cvec {
 namespace detail {
 
-// The file of a vector, which what has this keeps from no end. Use behind that is undefined; where it is checked the program aborts.
+// A file that who has this doesn't keep open. To use it behind its end is undefined; where that is checked, the program aborts.
 class borrowed_file {
   public:
     borrowed_file() = default;

@@ -149,7 +149,7 @@ template <class T, class Layout = one_record> struct row {
     }
 };
 
-// Whether these are the fields of a struct, and none of them is narrowed: the compiler itself may narrow them, with a warning.
+// Whether these are the fields of a struct, and none of them is narrowed: of that a compiler may only warn, and not in any header.
 template <class Void, class T, class... Args> struct are_fields : std::false_type {};
 template <class T, class... Args>
 struct are_fields<std::void_t<decltype(T{std::declval<Args>()...})>, T, Args...> : std::true_type {};
