@@ -290,7 +290,8 @@ a_vector_is_closed_in_cpp() (
 )
 
 a_refusal_has_its_reason_in_cpp() (
-    behaves refusals versions forking closing_in_a_fork forking_meanwhile forking_beside_a_flusher forking_in_a_turn forking_with_one_number breaking
+    behaves refusals versions forking closing_in_a_fork forking_meanwhile forking_beside_a_flusher forking_in_a_turn \
+        forking_with_one_number breaking
     : >"$work/t.cv"
     timeout 60 flock "$work/t.cv" "$built/behaviours" locked "$work/t.cv"
 )
