@@ -11,7 +11,8 @@
    CALLS_LARGEST=N    a request for more than N bytes of memory is refused
    CALLS_WAIT=N       each pread is made N microseconds later
    CALLS_NAP=N        each nap takes N microseconds more, as on a busy machine
-   CALLS_MOVE=FILE    once the first lock is had, the file FILE.new gets the name FILE */
+   CALLS_MOVE=FILE    once the first lock is had, the file FILE.new gets the name FILE
+   CALLS_AT_LOCK=N:COMMAND  before lock number N is asked for, from 1, this command of the shell is run, without this library */
 #define _GNU_SOURCE
 #include <dlfcn.h>
 #include <errno.h>
@@ -29,7 +30,7 @@ static const char *const names[CALLS] = {"read", "write", "pread", "pwrite", "fd
 static int seen[CALLS], made[CALLS], failing = -1, failing_at, log_to = -1;
 static size_t part = (size_t)-1, largest = (size_t)-1;
 static useconds_t before_read, in_nap;
-static const char *moved;
+static const char *moved, *at_lock;
 
 /* The program's own descriptors keep their numbers. */
 __attribute__((constructor)) static void begin(void) {
@@ -44,6 +45,7 @@ __attribute__((constructor)) static void begin(void) {
     if (most != NULL) part = strtoul(most, NULL, 10);
     if (bytes != NULL) largest = strtoul(bytes, NULL, 10);
     moved = getenv("CALLS_MOVE");
+    at_lock = getenv("CALLS_AT_LOCK");
     if (wait != NULL) before_read = (useconds_t)atoi(wait);
     if (nap != NULL) in_nap = (useconds_t)atoi(nap);
     for (int call = 0; fail != NULL && call < CALLS; call++) {
@@ -155,7 +157,16 @@ static void move_over(void) {
     moved = NULL;
 }
 
+static void run_at_lock(void) {
+    static int locks;
+    char *command;
+    if (at_lock == NULL || ++locks != strtol(at_lock, &command, 10)) return;
+    unsetenv("LD_PRELOAD");
+    if (system(command + 1) != 0) abort();
+}
+
 int flock(int fd, int how) {
+    run_at_lock();
     if (is_refused(FLOCK) || NEXT(flock)(fd, how) != 0) return -1;
     move_over();
     return 0;

@@ -327,6 +327,26 @@ a_file_that_replaces_a_locked_one_is_locked() (
     did '5\n6\n9\n'
 )
 
+# A command that makes a file has it, empty, before it has its lock. Another may make a vector there meanwhile: that is refused then,
+# and not taken away with what the refused command made.
+a_vector_that_was_made_in_a_new_file_stays() (
+    has_calls || exit $is_skipped
+    build_calls
+    t=$work/t.cv
+    printf '#!/bin/sh\n[ -e "%s" ] && "%s" create u64 "%s" && echo 5 6 | "%s" load u64 "%s"\n' "$t" "$program" "$t" "$program" "$t" >"$work/makes"
+    run create u64 "$work/from.cv"
+    did 'created\n'
+    # Of the two that read a file the second lock is that of the new one.
+    for words in '1 create u64' "2 copy u64 $work/from.cv" "2 upgrade u64 $work/from.cv"; do
+        rm -f "$t"
+        run_with "CALLS_AT_LOCK=${words%% *}:sh '$work/makes' >'$work/made'" ${words#* } "$t"
+        [ "$status" -eq 1 ]
+        grep -q 'refused: .*exists' "$out"
+        run list u64 "$t"
+        did '5\n6\n'
+    done
+)
+
 # What is no plain file is neither read nor written: a device's length is told as 0, so it would be taken for an empty file.
 # It isn't opened either: who waits to write to a pipe goes on waiting.
 what_is_no_plain_file_is_refused() (

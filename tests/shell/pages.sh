@@ -13,9 +13,9 @@ the_pages_can_be_read() (
 seeming_pages() {
     there=$work/there
     rm -rf "$there"
-    mkdir -p "$there/tests" "$there/docs/deep" "$there/bench" "$there/crates" "$there/examples/rattle"
+    mkdir -p "$there/tests/model" "$there/docs/deep" "$there/bench" "$there/crates" "$there/examples/rattle"
     cp "$top/tests/pages" "$there/tests"
-    for page in README.md bench/README.md crates/README.md examples/rattle/README.md docs/other.md; do
+    for page in README.md bench/README.md crates/README.md examples/rattle/README.md tests/model/README.md docs/other.md; do
         printf '# A page\n\n## What it `holds`\n\nText.\n' >"$there/$page"
     done
     printf '%s\n' "$@" >"$there/docs/deep/page.md"
@@ -30,13 +30,13 @@ sentence_of() { echo "$(yes word | head -n "$1" | paste -sd ' ')."; }
 pages_that_are_right_pass() (
     seeming_pages '# Here' "$(sentence_of 40)" "\`$(sentence_of 50)\` is one word." '```' "$(sentence_of 50)" '[no](link)' '```' \
         "| $(sentence_of 50) |" '[a](../other.md) [b](../other.md#what-it-holds) [c](#here) [d](https://example.org/#none)'
-    answers 0 '15 passed, 0 failed\n'
+    answers 0 '17 passed, 0 failed\n'
 )
 
 # The line is all that is found.
 finds() {
     [ "$status" -eq 1 ]
-    printf '%s\n' "$1" '14 passed, 1 failed' | cmp - "$out"
+    printf '%s\n' "$1" '16 passed, 1 failed' | cmp - "$out"
 }
 
 what_is_wrong_with_a_page_is_found() (
@@ -96,7 +96,7 @@ RATTLE
     "$there/tests/pages" >"$out" || status=$?
     [ "$status" -eq 1 ]
     printf 'docs/use/guide.md: no call: %s\n' 'part, of Thing' 'make, of a function' >"$work/wanted"
-    echo '16 passed, 1 failed' >>"$work/wanted"
+    echo '18 passed, 1 failed' >>"$work/wanted"
     cmp "$work/wanted" "$out"
 )
 

@@ -1,0 +1,103 @@
+/* What vector.pml takes of the system: the mutex, the conditions and the time; and what callers promise, or are promised. No name here
+ * is one of the C's. */
+
+inline lock() {
+    mutex == NOBODY -> mutex = id;
+    assert(!freed) /* the vector is there */
+}
+
+#define is_asleep(one) (line?[one] && (turn & (1 << one)))
+#define is_first_asleep (is_asleep(0) || is_asleep(1) || is_asleep(2) || is_asleep(3))
+
+inline unlock() {
+    assert(mutex == id);
+    assert(claimed || seats == SEATS || !is_first_asleep); /* who is first in line was called where there is a seat */
+    mutex = NOBODY
+}
+
+/* In an atomic, from which others go on, until this thread was woken and has the mutex again. */
+inline wait(condition, is_timed) {
+    condition = condition | MINE;
+    deadlines = deadlines | ((is_timed) -> MINE : 0);
+    unlock();
+    mutex == NOBODY && !(condition & MINE) -> mutex = id;
+    assert(!freed); /* the vector is there when a wait ends */
+    late = late || (expired & MINE);
+    deadlines = deadlines & ~MINE;
+    expired = expired & ~MINE
+}
+
+inline broadcast(condition) { condition = 0 }
+
+/* One of them is woken, whichever. */
+inline signal(condition) {
+    if
+    :: condition & 1 -> condition = condition & ~1
+    :: condition & 2 -> condition = condition & ~2
+    :: condition & 4 -> condition = condition & ~4
+    :: condition & 8 -> condition = condition & ~8
+    :: condition == 0
+    fi
+}
+
+/* ---- waits that end by their deadlines, or for nothing */
+
+#define all_waits (settled | returned | flushing | released | turn)
+
+inline end_wait(one) {
+    settled = settled & ~one; returned = returned & ~one; flushing = flushing & ~one; released = released & ~one; turn = turn & ~one
+}
+
+/* The waits whose deadlines may pass. Where a flusher would find nothing to commit it changes nothing, and rests on. */
+#define may_expire (deadlines & (settled | returned | turn | (durable < begun || broken -> flushing : 0)))
+
+#define CHANCES(one) \
+    :: atomic { may_expire & one -> expired = expired | one; end_wait(one) } \
+    :: atomic { spurious > 0 && (all_waits & one) -> spurious--; end_wait(one) }
+
+/* A process of its own: a choice of the thread that waits would be made before others go on. */
+proctype chance() {
+end:
+    do
+    CHANCES(1)
+    CHANCES(2)
+    CHANCES(4)
+    CHANCES(8)
+    od
+}
+
+/* A deadline may pass at any moment, and has passed from then on. */
+inline let_pass() {
+    if
+    :: timed -> late = true
+    :: true
+    fi
+}
+
+/* ---- calls by no seat */
+
+/* Its caller sees to it that the vector is there, and that no close has begun. */
+inline begin_call() {
+    if
+    :: mutex == NOBODY && !closing && !freed -> mutex = id; calls++
+    :: freed -> goto gone
+    fi
+}
+
+inline end_call() {
+    calls--;
+    unlock()
+}
+
+/* ---- what calls answered */
+
+/* A wait, for the growth of this thread's number, or for that many behind it. */
+inline check_answer(ahead) {
+    assert(answer != DONE || number + 1 + ahead <= synced);            /* what a wait tells to be durable is */
+    assert(answer != OUT_OF_RANGE || ahead > 0);                       /* a growth that was made is known */
+    assert((answer != LATE || timed) && (answer != BROKEN || broken)); /* a wait is late or broken for a reason */
+    answer = DONE
+}
+
+/* Who was lent records reads them until then. */
+inline stop_reading() { readers = readers & ~MINE }

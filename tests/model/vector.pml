@@ -1,0 +1,1079 @@
+/* What bindings/c/src/cvec_vector.c does with its mutex, its conditions and its atomics, function by function and in its order: an
+ * inline has the name of its function. An atomic is a section that has the mutex, or one call of the library or of the file; where it
+ * waits, others go on. README.md tells what is left out.
+ *
+ * A process that uses these has the locals LOCALS, a label `gone`, and a number `id`, from 0 on. What is `ghost` stands in no code:
+ * assertions ask for it. Each assertion stands in one line with what it says. */
+
+#ifndef BUG
+#define BUG 0 /* the number of the planted bug: run.sh lists them */
+#endif
+
+/* How often, in one run, a wait ends for nothing, memory is refused, and a call of the file fails: at most. */
+#ifndef SPURIOUS
+#define SPURIOUS 1
+#endif
+#ifndef REFUSALS
+#define REFUSALS 0
+#endif
+#ifndef FAILURES
+#define FAILURES 0
+#endif
+byte spurious = SPURIOUS, refusals = REFUSALS, failures = FAILURES;
+
+/* The seats of the vector, and the growths of a phase. */
+#ifndef SEATS
+#define SEATS 1
+#endif
+#ifndef LIMIT
+#define LIMIT 100
+#endif
+
+/* 1: who commits waits for those that the last commit woke. That takes time alone, and 0 leaves it out. */
+#ifndef GATHERS
+#define GATHERS 0
+#endif
+
+mtype = { DONE, MEMORY, BROKEN, LATE, OUT_OF_RANGE, NOT_SO, IS_FULL, DISK_WRITE, DISK_SYNC, IS_BUSY };
+mtype = { FREE, INSIDE, ASIDE };       /* what a seat's thread does */
+mtype = { NONE, FRESH, LISTED, IDLE }; /* where a seat is: nowhere, being made, among `first`, among `idle` */
+mtype = { GROW, PUBLISH, PIECES, BLOCK, DROP, PUSH }; /* calls by a seat */
+
+#define NOBODY 255
+#define MINE (1 << id)
+#define NO_PHASE 0
+#define LOCALS mtype answer = DONE, call = GROW; byte growths, seat, number, phase, own, wanted, had; bool late, timed, was
+#define when(condition, then) if :: condition -> then :: else fi
+
+/* ---- struct cvec_vector */
+
+byte mutex = NOBODY;                        /* who has it */
+byte settled, returned, flushing, released; /* conditions: the threads that wait for it, and whom nobody has woken */
+byte turn;                                  /* the same of those in line, though each has a condition of its own */
+byte deadlines, expired;                    /* of these waits some have deadlines, and some of these have passed */
+byte durable, committed, begun, base;       /* growths since the vector was begun; `begun` is all_begun() */
+byte phases = 1;
+bool unseated, alone, committing, is_stopped, claimed, shut_out, lent, broken;
+byte seats, holds, flushers, asking, waiting, woken;
+chan line = [4] of { byte };
+
+/* of each seat */
+mtype at[3] = NONE, busy[3] = FREE;
+byte blocks, pushes; /* the seats that have a block, and those that have records which were pushed and wait */
+
+#define MY_SEAT (1 << seat)
+
+/* ghost */
+bool closing;            /* a close is under way: no call begins */
+bool freed;              /* the vector is gone */
+byte calls;              /* so many calls by no seat are under way */
+byte total;              /* so many growths were made */
+bool has_all;            /* a call has all handles */
+byte owner[3] = NOBODY;  /* who has the seat */
+byte caller[3] = NOBODY; /* who is in a call by it */
+byte readers;            /* the threads that read what they were lent */
+bool is_lent;            /* of this phase something was lent, or is about to be */
+
+/* ---- libcvec_threads.a */
+
+bool has_phase = true, has_vault; /* whether there is a phase, and whether who commits has a vault */
+byte free_seats = SEATS;          /* so many seats of the phase were given to nobody */
+byte grower[3];                   /* of which phase it is, or 0 */
+byte grown, taken, told;          /* growths of this phase: by its seats, planned, told to the seats by the mark */
+bool is_listed;                   /* calls of a vault are listed */
+bool in_commit;                   /* ghost: a thread is between a plan and its end */
+
+inline cvec_phase_seat() {
+    if
+    :: has_phase && free_seats > 0 -> free_seats--; grower[seat] = phases; answer = DONE
+    :: has_phase && free_seats > 0 && refusals > 0 -> refusals--; free_seats--; answer = MEMORY
+    :: !has_phase || free_seats == 0 -> answer = NOT_SO
+    fi
+}
+
+inline cvec_phase_size() {
+    assert(caller[seat] == id);                /* one call at a time has a seat */
+    assert(grower[seat] == phases && !has_all) /* a seat's grower is open, and nobody has all handles */
+}
+
+inline phase_grow() {
+    cvec_phase_size();
+    if
+    :: grown < LIMIT -> number = grown; grown++; total++; answer = DONE
+    :: grown == LIMIT -> answer = IS_FULL
+    :: refusals > 0 -> refusals--; answer = MEMORY
+    fi;
+    assert(base + grown == total) /* numbers count on */
+}
+
+/* Who calls reads what it is lent, from then on. */
+#define lend is_lent = true; readers = readers | MINE
+
+inline cvec_phase_publish() {
+    phase_grow();
+    when(answer == DONE, blocks = blocks & ~MY_SEAT; lend)
+}
+
+inline cvec_phase_pieces() {
+    cvec_phase_size();
+    lend;
+    answer = DONE
+}
+
+inline cvec_phase_block() {
+    cvec_phase_size();
+    if
+    :: blocks = blocks | MY_SEAT; answer = DONE
+    :: refusals > 0 -> refusals--; answer = MEMORY
+    fi
+}
+
+/* One payload may hold no more than one of the growths. */
+inline cvec_phase_plan() {
+    assert(!in_commit && !has_vault && !freed); /* one thread at a time commits, by a committer */
+    in_commit = true;
+    answer = DONE;
+    if
+    :: growths = grown - taken
+    :: taken + 1 < grown -> growths = 1
+    :: refusals > 0 -> refusals--; answer = MEMORY
+    fi;
+    when(answer == DONE, taken = taken + growths)
+}
+
+inline cvec_phase_settle() {
+    told = taken;
+    is_listed = false;
+    assert(base + told <= synced && changed) /* what the mark tells is durable */
+}
+
+inline cvec_phase_gather() {
+    assert(!has_phase && grower[0] == 0 && grower[1] == 0); /* each other handle is closed */
+    assert(told == grown);                                  /* each growth is committed */
+    if
+    :: has_vault = true
+    :: refusals > 0 -> refusals--; answer = MEMORY
+    fi
+}
+
+/* Refused memory, it may lose the vault. */
+inline cvec_phase_share() {
+    assert(has_vault); /* there is a vault to share */
+    if
+    :: has_vault = false; has_phase = true; free_seats = SEATS; grown = 0; taken = 0; told = 0
+    :: refusals > 0 -> refusals--; answer = MEMORY
+    :: refusals > 0 -> refusals--; answer = MEMORY; has_vault = false
+    fi
+}
+
+/* ---- the file: growths since the vector was begun of which it has the bytes, and has them durably */
+
+byte written, synced;
+bool failed;         /* ghost: a call has failed */
+bool changed = true; /* ghost: what a vault has written is durable */
+bool locked = true;  /* flock */
+
+inline cvec_system_write_at() {
+    atomic {
+        assert(locked && !freed); /* the file is locked while it is written */
+        assert(!failed);          /* no write follows a call that failed */
+        if
+        :: written = base + taken
+        :: failures > 0 -> failures--; failed = true; answer = DISK_WRITE
+        fi
+    }
+}
+
+/* Behind one that failed a further sync may seem to succeed, and yet what was written before be lost. */
+inline cvec_system_sync() {
+    atomic {
+        assert(locked && !freed); /* the file is locked while it is synced */
+        if
+        :: !failed -> synced = written; changed = true
+        :: failed
+        :: failures > 0 -> failures--; failed = true; answer = DISK_SYNC
+        fi
+    }
+}
+
+#include "system.pml"
+
+/* ---- commits */
+
+#define are_listed (taken > told || is_listed)
+
+inline make_calls() {
+    when(answer == DONE && are_listed, cvec_system_write_at());
+    when(answer == DONE && are_listed, cvec_system_sync())
+}
+
+#define settle when(answer == DONE, cvec_phase_settle(); committed = base + told)
+
+inline commit() {
+    atomic { cvec_phase_plan() };
+#if BUG == 1
+    atomic { settle };
+    make_calls();
+    in_commit = false
+#else
+    make_calls();
+    atomic { settle; in_commit = false }
+#endif
+}
+
+#if BUG == 2
+#define is_lasting (answer != DONE && answer != MEMORY && answer != DISK_SYNC)
+#else
+#define is_lasting (answer != DONE && answer != MEMORY)
+#endif
+
+inline come() {
+    if
+    :: woken == 1 -> woken = 0; signal(returned)
+    :: woken > 1 -> woken--
+    :: woken == 0
+    fi
+}
+
+/* For 100 microseconds at most. */
+inline await_woken() {
+    late = false;
+    do
+    :: woken > 0 && !late -> wait(returned, BUG != 3)
+    :: else -> break
+    od;
+    late = false;
+    woken = 0
+}
+
+inline end_commit() {
+    assert(!failed || broken); /* who is woken behind a call that failed finds the vector broken */
+    committing = false;
+    durable = committed;
+    woken = waiting;
+    waiting = 0;
+#if BUG == 4
+    signal(settled)
+#else
+    broadcast(settled)
+#endif
+}
+
+inline lead() {
+    atomic {
+        committing = (BUG != 5);
+        if
+        :: woken > 0 -> await_woken()
+        :: true /* nobody was woken, or the last group was large */
+        fi;
+        committing = true;
+#if BUG == 6
+        end_commit();
+#endif
+        unlock()
+    };
+    commit();
+#if BUG == 7
+    atomic { lock(); end_commit(); unlock() };
+    atomic { lock(); broken = broken || is_lasting }
+#else
+    atomic {
+        lock();
+        broken = broken || is_lasting;
+#if BUG == 8
+        if
+        :: answer == DONE -> end_commit()
+        :: else -> committing = false
+        fi
+#else
+        end_commit()
+#endif
+    }
+#endif
+}
+
+/* ---- having all handles */
+
+#define is_inside(s) (at[s] == LISTED && busy[s] == INSIDE)
+#define is_somebody_inside (is_inside(0) || is_inside(1))
+
+inline shut() { shut_out = claimed || unseated }
+
+/* While somebody is inside it looks again and again, which changes nothing: here it looks again when nobody is. */
+inline take_all() {
+    atomic { asking = asking + (BUG != 15); claimed = true };
+#if BUG != 16
+    shut();
+#endif
+    atomic {
+        do
+        :: committing && BUG != 17 -> wait(settled, false)
+        :: else -> break
+        od;
+        committing = true
+    };
+    do
+    :: atomic { is_somebody_inside -> unlock(); mutex == NOBODY && !is_somebody_inside -> mutex = id }
+    :: atomic { else -> break }
+    od;
+#if BUG == 16
+    shut();
+#endif
+    atomic { unlock(); has_all = true }
+}
+
+inline call_first() {
+    if
+    :: line?[0] -> turn = turn & ~1
+    :: line?[1] -> turn = turn & ~2
+    :: line?[2] -> turn = turn & ~4
+    :: line?[3] -> turn = turn & ~8
+    :: empty(line)
+    fi
+}
+
+inline give_all_back() {
+    atomic {
+        lock();
+        has_all = false;
+        asking = asking - (BUG != 15);
+        claimed = false;
+        shut();
+        end_commit();
+#if BUG == 18
+        signal(released);
+#else
+        broadcast(released);
+#endif
+#if BUG != 19
+        call_first()
+#endif
+    }
+}
+
+#define tell broken = broken || answer == BROKEN || answer == DISK_WRITE || answer == DISK_SYNC
+
+inline settle_listed() {
+    atomic {
+        assert(!in_commit); /* one thread at a time commits, by a vault */
+        in_commit = true
+    };
+    make_calls();
+    atomic {
+        when(answer == DONE, cvec_phase_settle());
+        in_commit = false;
+        tell
+    }
+}
+
+/* drop_idle, and the growers of seats that aren't closed. */
+#define UNSEAT_ONE(s) \
+    if \
+    :: at[s] == IDLE && BUG != 20 -> at[s] = NONE; grower[s] = 0 \
+    :: at[s] == LISTED -> grower[s] = 0 \
+    :: else \
+    fi
+
+inline unseat() {
+    UNSEAT_ONE(0);
+    UNSEAT_ONE(1);
+    has_phase = false;
+    unseated = seats > 0;
+#if BUG != 52
+    lent = false;
+#endif
+    is_lent = false;
+    assert(readers == 0) /* what is lent stays while it may be read */
+}
+
+inline gather() {
+    growths = 1;
+    do
+    :: answer == DONE && growths > 0 -> commit()
+    :: else -> break
+    od;
+    atomic {
+        growths = 0;
+        when(answer == DONE, unseat(); cvec_phase_gather(); alone = (answer == DONE));
+        tell
+    }
+}
+
+inline share() {
+    atomic {
+        cvec_phase_share();
+        if
+        :: answer == DONE -> alone = false; base = committed; phases++
+        :: else -> broken = broken || (!has_vault && BUG != 72)
+        fi
+    }
+}
+
+#define SEAT_ONE(s) when(answer == DONE && at[s] == LISTED, seat = s; cvec_phase_seat())
+
+inline seat_all() {
+    atomic {
+        own = seat;
+        SEAT_ONE(0);
+        SEAT_ONE(1);
+        seat = own;
+        own = 0;
+        if
+        :: answer == DONE || BUG == 21 -> unseated = false
+        :: else -> unseat()
+        fi
+    }
+}
+
+inline end_phase() {
+    if
+    :: atomic { broken && BUG != 22 -> answer = BROKEN }
+    :: atomic { (!broken || BUG == 22) && alone -> answer = DONE }
+    :: atomic { (!broken || BUG == 22) && !alone && lent && BUG != 50 -> answer = IS_FULL }
+    :: atomic { (!broken || BUG == 22) && !alone && (!lent || BUG == 50) -> answer = DONE }; gather()
+    fi
+}
+
+inline renew() {
+    if
+    :: atomic {
+           lent && BUG != 51 ->
+           assert(is_lent); /* a phase is full where something of it is lent */
+           answer = IS_FULL
+       }
+    :: atomic { else -> answer = DONE };
+       take_all();
+       end_phase();
+       when(answer == DONE, share());
+       when(answer == DONE, seat_all());
+       give_all_back()
+    fi
+}
+
+#if BUG == 53
+#define is_used (seats > 0)
+#else
+#define is_used (seats > 0 || holds > 0)
+#endif
+
+inline await_handles() {
+    asking = asking + (BUG != 23);
+    do
+    :: !is_used && claimed -> wait(released, false)
+    :: !is_used && !claimed && committing && BUG != 24 -> wait(settled, false)
+    :: BUG == 54 && seats == 0 && holds > 0 -> wait(released, false)
+    :: else -> break
+    od;
+    asking = asking - (BUG != 23)
+}
+
+inline leave_alone() {
+    assert(seats == 0 && holds == 0); /* a call of the whole vector has it alone */
+    give_all_back();
+    atomic { end_call() }
+}
+
+inline enter_alone() {
+    atomic {
+        begin_call();
+        was = (BUG == 25 && broken) || (BUG == 49 && is_used);
+        await_handles();
+        if
+        :: (BUG == 49 -> was : is_used) -> answer = IS_BUSY
+        :: !(BUG == 49 -> was : is_used) && (BUG == 25 -> was : broken) -> answer = BROKEN
+        :: else -> answer = DONE
+        fi;
+        was = false;
+        when(answer != DONE, end_call())
+    };
+    if
+    :: answer == DONE ->
+        take_all();
+        when(!alone, gather());
+        when(answer != DONE, leave_alone())
+    :: else
+    fi
+}
+
+inline settle_alone() {
+    if
+    :: answer == DONE -> settle_listed()
+    :: else -> tell
+    fi;
+    leave_alone()
+}
+
+/* One that is refused may leave calls listed, as a fold does. */
+inline vault_change() {
+    assert(has_all && has_vault && !in_commit); /* who writes by a vault has all handles */
+    if
+    :: is_listed = true; changed = false
+    :: refusals > 0 -> refusals--; answer = MEMORY
+    :: refusals > 0 -> refusals--; answer = MEMORY; is_listed = true; changed = false
+    fi
+}
+
+/* So is each call of the whole vector that writes. */
+inline cvec_vector_change_records() {
+    enter_alone();
+    if
+    :: answer == DONE -> atomic { vault_change() }; settle_alone()
+    :: else
+    fi
+}
+
+inline cvec_vector_compact() {
+    enter_alone();
+#if BUG == 55
+    when(answer == DONE, atomic { lock(); has_all = false; claimed = false; asking--; shut(); broadcast(released); end_call() })
+#else
+    when(answer == DONE || BUG == 47, leave_alone())
+#endif
+}
+
+/* ---- the vector */
+
+inline give_up() {
+    atomic {
+        assert(calls == 0 && empty(line) && asking == 0 && flushers == 0); /* nobody is inside a vector that is closed */
+        assert(seats == 0 && holds == 0 && readers == 0);                  /* nobody uses a vector that is closed */
+        assert(mutex == NOBODY && all_waits == 0);                         /* nobody waits in a vector that is closed */
+        assert(answer != DONE || (synced == total && changed && !failed)); /* a close that answers DONE lost nothing */
+        locked = false;
+        freed = true
+    }
+}
+
+inline commit_rest() {
+    growths = 1;
+    do
+    :: answer == DONE && growths > 0 -> lead()
+    :: else -> break
+    od
+}
+
+inline commit_all() {
+    if
+    :: alone -> settle_listed()
+    :: else -> commit_rest()
+    fi
+}
+
+inline end_flushers() {
+    is_stopped = true;
+    broadcast(flushing);
+    do
+    :: flushers > 0 ->
+        wait(flushing, false);
+#if BUG == 26
+        break
+#endif
+    :: else -> break
+    od
+}
+
+inline cvec_vector_close() {
+    atomic {
+        lock();
+        closing = true;
+        when(seats > 0 || (holds > 0 && BUG != 56) || asking > 0, closing = false; unlock(); goto is_busy);
+        when(BUG != 27, end_flushers());
+        answer = (broken -> BROKEN : DONE);
+        locked = (BUG != 28)
+    };
+    when(answer == DONE && BUG != 29, commit_all());
+    atomic {
+        when(BUG == 27, end_flushers());
+        unlock()
+    };
+    give_up();
+is_busy:
+    atomic { answer = DONE; growths = 0 }
+}
+
+/* ---- seats */
+
+inline list_seat() {
+    assert(owner[seat] == NOBODY && seats < SEATS); /* no seat is given twice */
+    assert(!has_all);                               /* nobody walks through the seats that are listed meanwhile */
+    owner[seat] = id;
+    at[seat] = LISTED;
+    seats++
+}
+
+inline drop_seat() {
+    assert(!has_all); /* nobody walks through the seats that are dropped meanwhile */
+    owner[seat] = NOBODY;
+    caller[seat] = NOBODY;
+    pushes = pushes & ~MY_SEAT;
+    seats--;
+    busy[seat] = FREE; /* its next call finds it so */
+    at[seat] = (unseated -> NONE : IDLE);
+#if BUG != 30
+    call_first()
+#endif
+}
+
+inline await_release() {
+    do
+    :: claimed ->
+        wait(released, false);
+#if BUG == 31
+        break
+#endif
+    :: else -> break
+    od
+}
+
+inline await_pause() {
+    asking = asking + (BUG != 57);
+    await_release();
+#if BUG == 58
+    do
+    :: holds > 0 -> wait(released, false)
+    :: else -> break
+    od;
+#endif
+    asking = asking - (BUG != 57)
+}
+
+/* The new one has the first place in memory that is free. */
+inline fresh_seat() {
+    atomic {
+        seat = (at[0] == NONE -> 0 : 1);
+        assert(at[seat] == NONE); /* no more seats are given than there are */
+        at[seat] = FRESH;
+        cvec_phase_seat()
+    };
+    when(answer == NOT_SO, renew());
+    atomic {
+        when(answer == DONE && grower[seat] == 0, cvec_phase_seat());
+        when(answer != DONE, at[seat] = NONE)
+    }
+}
+
+inline seat_of() {
+    if
+    :: atomic { at[0] == IDLE -> seat = 0; answer = DONE }
+    :: atomic { at[0] != IDLE && at[1] == IDLE -> seat = 1; answer = DONE }
+    :: else -> fresh_seat()
+    fi;
+    atomic {
+        when(answer == DONE, list_seat());
+#if BUG != 32
+        call_first()
+#endif
+    }
+}
+
+#define is_one_spare (seats + len(line) < SEATS)
+
+inline cvec_vector_take_seat() {
+    atomic {
+        begin_call();
+        await_pause();
+        answer = (is_one_spare -> DONE : NOT_SO)
+    };
+    when(answer == DONE, seat_of());
+    atomic { end_call() }
+}
+
+inline begin_line() {
+    line!id;
+    asking++
+}
+
+inline end_line() {
+    line??eval(id);
+    asking--
+}
+
+inline await_turn() {
+    begin_line();
+    late = false;
+    do
+    :: answer == DONE && (!(line?[eval(id)]) || claimed || seats == SEATS) ->
+        let_pass();
+        if
+        :: late -> answer = LATE
+        :: else ->
+            wait(turn, timed);
+#if BUG == 33
+            break
+#endif
+        fi
+    :: else -> break
+    od;
+    end_line();
+    late = false
+}
+
+inline cvec_vector_seat_within() {
+    atomic {
+        begin_call();
+        answer = DONE;
+        if
+        :: (!claimed || BUG == 48) && is_one_spare
+        :: else -> await_turn()
+        fi;
+        assert(answer != DONE || seats < SEATS); /* whose turn it is has a seat */
+        when(answer != DONE && BUG != 34, call_first())
+    };
+    when(answer == DONE, seat_of());
+    atomic { end_call() }
+}
+
+/* ---- holds */
+
+inline cvec_vector_hold() {
+    atomic {
+        begin_call();
+#if BUG == 59
+        asking++; asking--;
+#elif BUG == 60
+        await_release();
+#else
+        await_pause();
+#endif
+        holds++;
+        assert(!has_all); /* no call has all handles when a hold begins */
+        end_call()
+    }
+}
+
+inline cvec_vector_release() {
+    atomic {
+        begin_call();
+        answer = (holds > 0 || BUG == 61 -> DONE : NOT_SO);
+        when(answer == DONE, holds--);
+        end_call()
+    }
+}
+
+/* ---- a call by a seat */
+
+#if BUG == 62
+inline enter_so(how) {
+    if
+    :: busy[seat] == FREE -> atomic { busy[seat] = how; caller[seat] = id; answer = DONE }
+    :: else -> answer = IS_BUSY
+    fi
+}
+#else
+inline enter_so(how) {
+    atomic {
+        if
+        :: busy[seat] == FREE -> busy[seat] = how; caller[seat] = id; answer = DONE
+        :: else -> answer = IS_BUSY
+        fi
+    }
+}
+#endif
+
+inline leave_seat() { atomic { busy[seat] = FREE; caller[seat] = NOBODY } }
+
+inline come_in(past_phase) {
+#if BUG != 35
+    busy[seat] = ASIDE;
+#endif
+    atomic { lock(); await_release(); answer = DONE };
+    do
+    :: answer == DONE && (unseated || phases == past_phase) ->
+        renew();
+        atomic { await_release() }
+    :: else -> break
+    od;
+    atomic {
+        when(answer == DONE, busy[seat] = INSIDE);
+        unlock()
+    }
+}
+
+inline enter() {
+#if BUG == 36
+    was = shut_out;
+    enter_so(INSIDE);
+#else
+    enter_so(INSIDE);
+    was = shut_out;
+#endif
+    if
+    :: answer == DONE && was -> was = false; come_in(NO_PHASE); when(answer != DONE, leave_seat())
+    :: else -> was = false
+    fi
+}
+
+/* ---- growths */
+
+/* A turn comes: growths are made one by one here, and none has to be tried again. */
+inline try_growth() {
+    if
+    :: call == PUBLISH -> cvec_phase_publish()
+    :: else -> phase_grow()
+    fi
+}
+
+inline grow_by() {
+    do
+    :: phase = phases;
+       atomic { try_growth() };
+       if
+       :: answer == IS_FULL -> come_in(phase)
+       :: else -> break
+       fi;
+       when(answer != DONE, break)
+    od;
+    phase = 0
+}
+
+inline grow_counted() {
+    if
+    :: broken -> answer = BROKEN
+    :: else ->
+        begun++;
+        grow_by();
+        if
+        :: answer == DONE -> number = number + base
+        :: else -> begun--
+        fi
+    fi
+}
+
+inline cvec_vector_grow_records() {
+    enter();
+    if
+    :: answer == DONE -> grow_counted(); leave_seat()
+    :: else
+    fi
+}
+
+/* ---- growth in place, and what is lent */
+
+inline note_lent() { lent = true }
+
+inline lend_block() {
+    if
+    :: broken -> answer = BROKEN
+    :: else ->
+        atomic {
+            if
+            :: blocks & MY_SEAT -> answer = NOT_SO
+            :: else -> cvec_phase_block()
+            fi
+        }
+    fi
+}
+
+inline publish() {
+    if
+    :: blocks & MY_SEAT ->
+#if BUG == 63
+        note_lent();
+        grow_counted()
+#else
+        grow_counted();
+        when(answer == DONE && BUG != 64, note_lent())
+#endif
+    :: else -> answer = NOT_SO
+    fi
+}
+
+inline cvec_vector_drop() {
+    enter_so(ASIDE);
+    blocks = blocks & ~MY_SEAT;
+    leave_seat()
+}
+
+/* Each vector has records: there is something to lend. */
+inline lend_pieces() {
+    atomic { cvec_phase_size() };
+#if BUG != 65
+    atomic { note_lent(); is_lent = true };
+#endif
+    atomic { cvec_phase_pieces() }
+}
+
+/* ---- records that were pushed */
+
+#define is_waiting (pushes & MY_SEAT)
+
+/* What waits is fewer than are grown at once. */
+inline put_behind() { atomic { pushes = pushes | MY_SEAT; answer = DONE } }
+
+inline grow_waiting() {
+    if
+    :: is_waiting -> grow_counted(); when(answer == DONE, pushes = pushes & ~MY_SEAT)
+    :: else
+    fi
+}
+
+inline cvec_vector_close_seat() {
+#ifdef PUSHES
+    enter_so(ASIDE);
+    when(is_waiting && BUG != 66, come_in(NO_PHASE));
+    when(answer == DONE || BUG == 67, grow_waiting());
+#if BUG != 68
+    busy[seat] = ASIDE;
+#endif
+#endif
+    atomic {
+#ifndef PUSHES
+        enter_so(ASIDE);
+#endif
+#if BUG != 69
+        blocks = blocks & ~MY_SEAT;
+#endif
+        lock();
+        when(BUG != 37, await_release());
+        drop_seat();
+        unlock()
+    }
+#if BUG == 69
+    ;
+    blocks = blocks & ~MY_SEAT
+#endif
+}
+
+/* ---- waiting, and who commits for nobody */
+
+inline await_other(is_timed) { wait(settled, is_timed) }
+
+inline await_count(count) {
+    late = false;
+    do
+    :: atomic {
+           when(durable >= (count), answer = DONE; break);
+           when(broken && BUG != 9, answer = BROKEN; break);
+           when(late, answer = (BUG == 10 -> DONE : LATE); break);
+           when(BUG != 14, come());
+           if
+           :: (BUG == 12 -> was : committing) ->
+               was = (BUG == 12 && committing);
+               waiting = waiting + GATHERS;
+               await_other(timed);
+               waiting = waiting - (late && waiting > 0);
+#if BUG == 11
+               answer = DONE; break
+#else
+               goto next
+#endif
+           :: else
+           fi;
+           when(unseated && BUG != 13, answer = OUT_OF_RANGE; break)
+       };
+       lead();
+       atomic {
+           when(answer != DONE, break);
+           woken = woken + (woken > 0);
+           when(growths == 0 && durable < (count), answer = OUT_OF_RANGE; break)
+       };
+next:  atomic { let_pass() }
+    od
+}
+
+/* `ahead`: for the growth behind that one, which may not be there. */
+inline await_until(ahead) {
+#if BUG == 12
+    was = committing;
+#endif
+#if BUG == 46
+    if
+    :: durable > number + ahead -> answer = DONE; goto told_before
+    :: else
+    fi;
+#endif
+    atomic {
+        enter_so(ASIDE);
+        if
+        :: answer == DONE -> lock()
+        :: else -> goto told_before
+        fi
+    };
+    await_count(number + 1 + ahead);
+    atomic {
+        unlock();
+        leave_seat();
+told_before:
+        check_answer(ahead);
+        was = false;
+        late = false;
+        growths = 0
+    }
+}
+
+inline flush() {
+    atomic { wanted = begun; had = total; growths = 1; was = (BUG == 38 && (alone || unseated)) };
+    do
+    :: atomic {
+           if
+           :: answer == DONE && growths > 0 && durable < wanted && !is_stopped
+           :: else -> break
+           fi;
+           when(broken, answer = BROKEN; goto next);
+           when(committing, await_other(false); goto next);
+           when((BUG == 38 -> was : alone || unseated), growths = 0; goto next)
+       };
+       lead();
+       when(BUG == 39, growths = 1);
+next:  skip
+    od;
+    atomic {
+        assert(answer != DONE || is_stopped || durable >= had); /* what there was when a flush began is durable */
+        wanted = 0; had = 0; growths = 0; was = false
+    }
+}
+
+inline rest() {
+    late = false;
+#if BUG == 40
+    wait(flushing, timed);
+#endif
+    do
+    :: !is_stopped && !late -> wait(flushing, timed)
+    :: else -> break
+    od;
+    late = false
+}
+
+inline enter_flushers() { begin_call(); flushers++; answer = DONE }
+
+inline leave_flushers() {
+    flushers--;
+    when(BUG != 41, broadcast(flushing));
+    end_call()
+}
+
+inline flush_once() {
+    atomic { answer = (broken -> BROKEN : DONE) };
+    when(answer == DONE, flush())
+}
+
+inline cvec_vector_run_flusher() {
+    atomic { enter_flushers() };
+    do
+    :: answer == DONE && !is_stopped -> flush_once(); atomic { when(answer == DONE, rest()) }
+    :: else -> break
+    od;
+    atomic { leave_flushers() }
+}
+
+inline cvec_vector_flush() {
+#if BUG == 70
+    atomic { begin_call() };
+    flush_once();
+    atomic { end_call() }
+#else
+    atomic { enter_flushers() };
+    flush_once();
+    atomic { leave_flushers() }
+#endif
+}
+
+inline cvec_vector_stop_flusher() {
+    atomic {
+        begin_call();
+        is_stopped = true;
+        broadcast(flushing);
+        end_call()
+    }
+}
