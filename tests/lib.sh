@@ -299,7 +299,7 @@ has_sanitizer() {
 
 # Runs a program of examples, over this file of this type, of whose records so many are one of what it counts: thrice killed in
 # place of a sync, and then to its end, where its output is $out. Its first line says how many it found there, and each kill leaves
-# more.
+# more. It has a time: with a wake-up that is lost it would hang.
 goes_on_where_it_is_killed() {
     file=$1 type=$2 each=$3
     shift 3
@@ -309,7 +309,7 @@ goes_on_where_it_is_killed() {
         status=0
         (
             export KILL_AT=9 "LD_PRELOAD=$work/syncs.so"
-            exec "$@" >"$out" 2>"$err"
+            exec timeout 300 "$@" >"$out" 2>"$err"
         ) || status=$?
         [ "$status" -eq 137 ]
         grep -q "^found $before " "$out"
@@ -317,7 +317,7 @@ goes_on_where_it_is_killed() {
         [ "$now" -gt "$before" ]
         before=$now
     done
-    "$@" >"$out"
+    timeout 300 "$@" >"$out"
     sed -n 1p "$out" | grep -q "^found $before "
 }
 
@@ -335,7 +335,7 @@ indexes_words() {
     shift
     goes_on_where_it_is_killed "$work/t.cv" u64 "$words_of_entry" "$@" "$work/t.cv" Thread "$work"/*.txt
     sed 1d "$out" | cmp "$work/wanted" -
-    "$@" "$work/t.cv" Thread "$work"/*.txt >"$out"
+    timeout 300 "$@" "$work/t.cv" Thread "$work"/*.txt >"$out"
     sed -n 1p "$out" | grep -qx "found $(cat "$work"/*.txt | LC_ALL=C tr -cs A-Za-z '\n' | grep -c .) words"
 }
 

@@ -19,6 +19,7 @@
 #include <algorithm>
 #include <csignal>
 #include <cstring>
+#include <filesystem>
 #include <fstream>
 #include <list>
 #include <numeric>
@@ -61,10 +62,15 @@ extern "C" std::uint32_t counted_read(cvec_vector_seat *seat, std::uint64_t from
 // What is done while the vector is asked for its length.
 static std::function<void()> during_size;
 
+// And once it has answered.
+static std::function<void()> behind_size;
+
 extern "C" std::uint32_t cvec_vector_size(cvec_vector_seat *, std::uint64_t *);
 extern "C" std::uint32_t watched_size(cvec_vector_seat *seat, std::uint64_t *size) {
     if (during_size) during_size();
-    return cvec_vector_size(seat, size);
+    const std::uint32_t answer = cvec_vector_size(seat, size);
+    if (behind_size) behind_size();
+    return answer;
 }
 
 // For how many milliseconds the vector was asked to wait at most, and what it answers in place of its own answer.
@@ -387,10 +393,26 @@ static void receipts(const std::string &path) {
     if (wrong == 0) ::kill(::getpid(), SIGKILL);
 }
 
+// What is waited for is this growth, whatever stands of those before it: while each of them is durable, and while one commits.
+static void settles_it_itself(const std::string &path) {
+    using namespace std::chrono_literals;
+    numbers vector(path);
+    for (int turn = 0; turn < 3; ++turn) {
+        const cvec::growth made = vector.append(std::uint64_t{1});
+        HOLDS(!vector.is_settled(made) && vector.settle_for(made, 0s) && vector.is_settled(made));
+        const cvec::growth last = vector.append(std::uint64_t{2});
+        HOLDS(!vector.is_settled(last) && vector.settle_for(0s) && vector.is_settled(last));
+        const cvec::growth other = vector.append(std::uint64_t{3});
+        vector.settle(other);
+        HOLDS(vector.is_settled(other));
+    }
+}
+
 static void deadlines(const std::string &path) {
     using namespace std::chrono_literals;
     numbers vector(path);
     HOLDS(vector.settle_for(0s) && vector.settled() == 0);
+    settles_it_itself(path + ".each");
     const cvec::growth first = vector.append(4), second = vector.append({5, 6});
     // Nobody commits: it does.
     HOLDS(vector.settle_for(first, 0s) && vector.is_settled(first));
@@ -972,50 +994,80 @@ static void closing(const std::string &path) {
     HOLDS(moved.size() == 2 && numbers(path + ".other").empty());
 }
 
-// One that was moved from refuses each call, and can be assigned to.
+// One that was moved from refuses each member, and can be moved, swapped and assigned to.
 static void moving(const std::string &path) {
     numbers other(path);
     other.push_back(5);
     numbers vector(std::move(other));
+    const list rows = {1, 2};
+    const std::uint64_t raw[] = {1, 2};
+    const cvec::growth made{0, 0, 1};
+    const auto none = std::chrono::seconds(0);
     const std::function<void()> calls[] = {
         [&] { other.push_back(1); },
         [&] { other.emplace_back(1); },
-        [&] { other.grow_by({1, 2}); },
         [&] { other.grow_by(0); },
-        [&] { other.grow_to_at_least(1); },
+        [&] { other.grow_by(1); },
+        [&] { other.grow_by(0, 1); },
+        [&] { other.grow_by({1, 2}); },
+        [&] { other.grow_by(rows.begin(), rows.end()); },
+        [&] { other.grow_by(rows.begin(), rows.begin()); },
+        [&] { other.grow_to_at_least(0); },
+        [&] { other.grow_to_at_least(1, 1); },
         [&] { other.append(1); },
         [&] { other.append({1, 2}); },
+        [&] { other.append(rows.begin(), rows.begin()); },
+        [&] { other.grow_with(1, [](auto &) {}); },
         [&] { other.change(0, 1); },
+        [&] { other.change(0, raw); },
+        [&] { other.change(0, {1, 2}); },
+        [&] { other.change(0, rows.begin(), rows.begin()); },
         [&] { other.fold(); },
         [&] { other.compact(); },
-        [&] { other.grow_with(1, [](auto &) {}); },
         [&] { other.clear(); },
-        [&] { other.resize(1); },
+        [&] { other.resize(0); },
+        [&] { other.resize(1, 1); },
         [&] { other.settle(); },
-        [&] { other.settle({0, 0, 1}); },
-        [&] { static_cast<void>(other.settle_for(std::chrono::seconds(0))); },
+        [&] { other.settle(made); },
+        [&] { static_cast<void>(other.settle_for(none)); },
+        [&] { static_cast<void>(other.settle_for(made, none)); },
+        [&] { static_cast<void>(other.settled()); },
+        [&] { static_cast<void>(other.is_settled(made)); },
         [&] { other.run_flusher(std::chrono::seconds(1)); },
         [&] { other.stop_flusher(); },
-        [&] { static_cast<void>(other.settled()); },
         [&] { static_cast<void>(other[0]); },
+        [&] { static_cast<void>(other.at(0)); },
         [&] { static_cast<void>(other.front()); },
         [&] { static_cast<void>(other.back()); },
         [&] { static_cast<void>(other.copy(0)); },
         [&] { static_cast<void>(other.view()); },
         [&] { static_cast<void>(other.piece(0)); },
         [&] { other.for_each_piece([](const auto &) {}); },
+        [&] { other.for_each_piece(0, 0, [](const auto &) {}); },
         [&] { static_cast<void>(other.size()); },
+        [&] { static_cast<void>(other.empty()); },
+        [&] { static_cast<void>(other.begin()); },
+        [&] { static_cast<void>(other.cbegin()); },
+        [&] { static_cast<void>(other.end()); },
+        [&] { static_cast<void>(other.cend()); },
+        [&] { static_cast<void>(other.rbegin()); },
+        [&] { static_cast<void>(other.crbegin()); },
+        [&] { static_cast<void>(other.rend()); },
+        [&] { static_cast<void>(other.crend()); },
         [&] { static_cast<void>(other.range()); },
-        [&] { static_cast<void>(rows_of(other)); },
-        [&] { static_cast<void>(list(other.rbegin(), other.rend())); },
-        [&] { cvec::appender<std::uint64_t> rows(other); },
+        [&] { static_cast<void>(other == vector); },
+        [&] { static_cast<void>(vector < other); },
+        [&] { cvec::appender<std::uint64_t> appended(other); },
         [&] { other.close(); }};
     for (const auto &call : calls) HOLDS(status_of(call) == CVEC_NOT_SO);
     HOLDS(words_of(calls[0]) == std::to_string(CVEC_NOT_SO) + " cvec: a vector without a file: it was moved from");
-    HOLDS(is_out_of_range([&] { static_cast<void>(*other.begin()); }));
-    HOLDS(is_out_of_range([&] { static_cast<void>(*++numbers::iterator()); }));
-    other = std::move(vector);
-    HOLDS(rows_of(other) == list({5}) && status_of([&] { vector.push_back(1); }) == CVEC_NOT_SO);
+    HOLDS(is_out_of_range([&] { static_cast<void>(*++numbers::iterator()); }) && other.max_size() > 0 && other.max_growth() > 0);
+    numbers third(std::move(other));
+    HOLDS(status_of(calls[0]) == CVEC_NOT_SO && status_of([&] { third.push_back(1); }) == CVEC_NOT_SO);
+    swap(third, vector);
+    HOLDS(rows_of(third) == list({5}) && status_of([&] { vector.push_back(1); }) == CVEC_NOT_SO);
+    other = std::move(third);
+    HOLDS(rows_of(other) == list({5}) && status_of([&] { third.push_back(1); }) == CVEC_NOT_SO);
 }
 
 // Threads grow while one closes: each growth is there or was refused.
@@ -1151,7 +1203,7 @@ static void forking(const std::string &path) {
         HOLDS(status_of([&] { vector.run_flusher(std::chrono::hours(1)); }) == CVEC_FORKED);
         HOLDS(status_of([&] { vector.stop_flusher(); }) == CVEC_FORKED);
         HOLDS(status_of([&] { vector.change(0, 9); }) == CVEC_FORKED && status_of([&] { vector.fold(); }) == CVEC_FORKED);
-        HOLDS(status_of([&] { vector.close(); }) == CVEC_FORKED);
+        HOLDS(status_of([&] { vector.close(); }) == CVEC_DONE);
         std::fflush(stdout);
         ::_exit(wrong);
     }
@@ -1161,6 +1213,54 @@ static void forking(const std::string &path) {
     rows.settle();
     vector.push_back(7);
     HOLDS(rows_of(vector) == list({5, 6, 7}));
+}
+
+// How the child of a fork ends that does this, in 10 seconds. The first process of a namespace gets no signal that it doesn't take.
+static int ends_in_a_fork(const std::function<bool()> &call) {
+    const pid_t child = ::fork();
+    if (child == 0) {
+        std::signal(SIGALRM, [](int) { ::_exit(2); });
+        ::alarm(10);
+        ::_exit(call() ? 0 : 1);
+    }
+    int ended = 1;
+    ::waitpid(child, &ended, 0);
+    return ended;
+}
+
+// How many descriptors of this process lead to the file.
+static std::ptrdiff_t descriptors_of(const std::string &path) {
+    const std::filesystem::directory_iterator all("/proc/self/fd");
+    return std::count_if(begin(all), end(all), [&](const std::filesystem::directory_entry &it) {
+        std::error_code ignored;
+        return std::filesystem::read_symlink(it.path(), ignored) == std::filesystem::canonical(path);
+    });
+}
+
+// A child closes what it has, as often as it does, and nothing of its parent's: the file stays open and locked there.
+static void closing_in_a_fork(const std::string &path) {
+    auto vector = std::make_unique<numbers>(path);
+    vector->grow_by({5, 6});
+    HOLDS((*vector)[1] == 6 && descriptors_of(path) == 1);
+    const auto closes = [&] {
+        HOLDS(descriptors_of(path) == 1);
+        for (int turn = 0; turn < 2; ++turn) HOLDS(status_of([&] { vector->close(); }) == CVEC_DONE && descriptors_of(path) == 0);
+        HOLDS(status_of([&] { vector->push_back(9); }) == CVEC_NOT_SO && (*vector)[1] == 6);
+        vector.reset();
+        std::fflush(stdout);
+        return wrong == 0;
+    };
+    const auto destroys = [&] {
+        vector.reset();
+        HOLDS(descriptors_of(path) == 0);
+        std::fflush(stdout);
+        return wrong == 0;
+    };
+    HOLDS(ends_in_a_fork(closes) == 0 && ends_in_a_fork(destroys) == 0);
+    HOLDS(status_of([&] { numbers again(path); }) == CVEC_IN_USE && vector->settled() == 0);
+    vector->push_back(7);
+    vector->close();
+    HOLDS(rows_of(numbers(path)) == list({5, 6, 7}));
 }
 
 // At the fork the only seat is lent: the child is refused, and waits for nobody.
@@ -1176,7 +1276,7 @@ static void forking_meanwhile(const std::string &path) {
             ::alarm(10);
             const bool is_refused = status_of([&] { vector.push_back(2); }) == CVEC_FORKED;
             const bool is_changed = status_of([&] { vector.change(0, 2); }) != CVEC_FORKED;
-            const bool is_closed = status_of([&] { vector.close(); }) == CVEC_FORKED;
+            const bool is_closed = status_of([&] { vector.close(); }) == CVEC_DONE;
             ::_exit(is_refused && !is_changed && is_closed ? 0 : 1);
         }
         int ended = 1;
@@ -1186,19 +1286,6 @@ static void forking_meanwhile(const std::string &path) {
     is_over = true;
     other.join();
     HOLDS(std::all_of(vector.begin(), vector.end(), [](std::uint64_t it) { return it == 1; }));
-}
-
-// How the child of a fork ends that does this, in 10 seconds. The first process of a namespace gets no signal that it doesn't take.
-static int ends_in_a_fork(const std::function<bool()> &call) {
-    const pid_t child = ::fork();
-    if (child == 0) {
-        std::signal(SIGALRM, [](int) { ::_exit(2); });
-        ::alarm(10);
-        ::_exit(call() ? 0 : 1);
-    }
-    int ended = 1;
-    ::waitpid(child, &ended, 0);
-    return ended;
 }
 
 // At the fork a flusher rests, whose thread the child hasn't got.
@@ -1259,7 +1346,7 @@ static void forking_into_a_namespace(const std::string &path) {
     HOLDS(::getpid() == 1 && ::unshare(CLONE_NEWPID) == 0);
     HOLDS(ends_in_a_fork([&] {
               const bool is_refused = ::getpid() == 1 && status_of([&] { vector->push_back(2); }) == CVEC_FORKED &&
-                                      status_of([&] { vector->close(); }) == CVEC_FORKED;
+                                      status_of([&] { vector->close(); }) == CVEC_DONE;
               vector.reset();
               return is_refused;
           }) == 0);
@@ -1323,15 +1410,26 @@ static void many_threads(const std::string &path) {
     HOLDS(found == wanted);
 }
 
+// Threads that come at once to grow to a length. Who has looked at it rests before it grows, so that others could look too.
 static void turns(const std::string &path) {
+    constexpr std::uint64_t threads = 8;
     numbers vector(path);
-    in_threads(8, [&](std::uint64_t k) {
-        for (std::size_t length = 1; length <= 200; ++length) {
+    std::atomic<std::uint64_t> looks{0};
+    behind_size = [&] {
+        ++looks;
+        rest();
+    };
+    for (std::size_t length = 1; length <= 40; length += 3) {
+        std::atomic<std::uint64_t> come{0};
+        in_threads(threads, [&](std::uint64_t k) {
+            for (++come; come < threads;) std::this_thread::yield();
             vector.grow_to_at_least(length, k);
-            HOLDS(vector.size() >= length);
-        }
-    });
-    HOLDS(vector.size() == 200);
+        });
+        HOLDS(vector.size() == length);
+        if (wrong != 0) break;
+    }
+    behind_size = nullptr;
+    HOLDS(looks > 14 * threads && vector.size() == 40);
 }
 
 // ---- more growths than a phase takes
@@ -1475,6 +1573,7 @@ int main(int argc, char **argv) {
         {"locked", locked},
         {"versions", versions},
         {"forking", forking},
+        {"closing_in_a_fork", closing_in_a_fork},
         {"forking_meanwhile", forking_meanwhile},
         {"forking_beside_a_flusher", forking_beside_a_flusher},
         {"forking_in_a_turn", forking_in_a_turn},

@@ -350,7 +350,7 @@ static void a_fork_within_it(const std::string &path) {
             rows[0] = rows[1] = 5;
         });
     });
-    if (child == 0) ::_exit(status == CVEC_FORKED && status_of([&] { vector.close(); }) == CVEC_FORKED ? 0 : 1);
+    if (child == 0) ::_exit(status == CVEC_FORKED && status_of([&] { vector.close(); }) == CVEC_DONE ? 0 : 1);
     int ended = 1;
     ::waitpid(child, &ended, 0);
     HOLDS(ended == 0 && status == CVEC_DONE && list(vector.begin(), vector.end()) == list({5, 5}));

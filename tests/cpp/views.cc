@@ -358,7 +358,7 @@ static void a_child_has_its_own(const std::string &path) {
         bool is_right = (*rows)[0] == 1 && view(*rows)[2] == 3;
         rows.reset();
         is_right =
-            is_right && status_of([&] { vector.change(0, 9); }) == CVEC_FORKED && status_of([&] { vector.close(); }) == CVEC_FORKED;
+            is_right && status_of([&] { vector.change(0, 9); }) == CVEC_FORKED && status_of([&] { vector.close(); }) == CVEC_DONE;
         ::_exit(is_right ? 0 : 1);
     }
     int ended = 1;

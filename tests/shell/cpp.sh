@@ -54,7 +54,7 @@ each_behaves() {
 # This behaviour is as it is promised, and ends by a kill, behind what is durable.
 ends_by_a_kill() {
     status=0
-    "$built/behaviours" "$1" "$work/t.cv" >"$out" || status=$?
+    timeout 300 "$built/behaviours" "$1" "$work/t.cv" >"$out" || status=$?
     cat "$out"
     [ "$status" -eq 137 ]
     [ ! -s "$out" ]
@@ -65,11 +65,12 @@ ends_by_a_kill() {
 compiles_without_a_warning() {
     has_c && has "$1" 'the vector for C++' || exit $is_skipped
     compiler=$1
-    for name in behaviours lent views in_place; do
+    for name in behaviours lent views in_place idioms; do
         compile_cpp -O2 -Wshadow -Wnon-virtual-dtor -fsyntax-only "$cpp_tests/$name.cc"
     done
-    for name in lent in_place; do
+    for name in lent in_place idioms; do
         compile_cpp -std=c++20 -Wshadow -Wnon-virtual-dtor -fsyntax-only "$cpp_tests/$name.cc"
+        compile_cpp -DCVEC_CHECKED -Wshadow -Wnon-virtual-dtor -fsyntax-only "$cpp_tests/$name.cc"
     done
     for name in threads sizes index; do
         compile_cpp -O2 -fsyntax-only "$cpp_tests/$name.cc"
@@ -111,7 +112,7 @@ int main(int, char **argv) {
 }
 END
     link_cpp -o "$work/program" "$work/other.cc" "$work/main.cc"
-    "$work/program" "$work/t.cv"
+    timeout 60 "$work/program" "$work/t.cv"
 )
 
 # A vector of this type isn't compiled, and the compiler says why.
@@ -138,11 +139,12 @@ a_type_without_rows_is_refused_with_its_reason() (
     compile_cpp -fsyntax-only "$work/other.cc"
 )
 
-# These lines, of a program with a vector of structs, are compiled.
+# These lines, of a program with a vector of structs, are compiled. Further words go to the compiler.
 compiles_with() {
     printf '#include "cvec/concurrent_vector.hpp"\nstruct sample {\n    double value;\n};\n' >"$work/other.cc"
     printf 'void use(cvec::concurrent_vector<sample> &v) {\n    %s\n}\n' "$1" >>"$work/other.cc"
-    compile_cpp -fsyntax-only "$work/other.cc" >"$out" 2>"$err"
+    shift
+    compile_cpp -fsyntax-only "$@" "$work/other.cc" >"$out" 2>"$err"
 }
 
 # Rows are lent.
@@ -150,11 +152,26 @@ nothing_is_assigned_to_a_row() (
     has_cpp || exit $is_skipped
     compiles_with 'sample copy = v[0]; copy = *v.begin(); v.change(0, copy);'
     compiles_with 'const sample &row = v[0]; auto &same = v.at(0); const sample *place = &row; static_cast<void>(place == &same);'
+    compiles_with 'auto &row = v[0]; static_assert(std::is_same_v<decltype(row), const sample &>); static_cast<void>(row);'
     for line in 'v[0] = sample{};' '*v.begin() = sample{};' 'std::fill(v.begin(), v.end(), sample{});'; do
         status=0
         compiles_with "$line" || status=$?
         [ "$status" -ne 0 ]
         tells const
+    done
+)
+
+# Compilers show no warning of an installed header, and g++ only warns of a field that is narrowed.
+no_field_of_a_row_is_narrowed() (
+    has_cpp || exit $is_skipped
+    for standard in 17 20; do
+        for appends in 'v' 'cvec::appender<sample>(v)'; do
+            compiles_with "float one = 1; $appends.emplace_back(one);" -w "-std=c++$standard"
+            status=0
+            compiles_with "long one = 1; $appends.emplace_back(one);" -w "-std=c++$standard" || status=$?
+            [ "$status" -ne 0 ]
+            tells 'cvec: these are no fields of T, or one of them would be narrowed'
+        done
     done
 )
 
@@ -171,7 +188,7 @@ rows_in_cpp_have_any_size() (
     has_cpp || exit $is_skipped
     make_cpp
     link_cpp -O0 -o "$work/sizes" "$cpp_tests/sizes.cc"
-    "$work/sizes" "$work/t.cv"
+    timeout 60 "$work/sizes" "$work/t.cv"
     run list u32 "$work/t.cv"
     printf '%s\n' 4294967295 5 2147483648 4294967294 4294967294 4294967292 4294967293 4294967294 4294967295 | cmp - "$out"
     run list u64 "$work/t.cv.u64"
@@ -208,7 +225,7 @@ rows_are_taken_away_in_cpp() (
     run append u64 "$work/t.cv"
     run set u64 "$work/t.cv" 1 --records=9
     did 'ok\n'
-    "$built/behaviours" shortened "$work/t.cv"
+    timeout 60 "$built/behaviours" shortened "$work/t.cv"
     lists 2 0 '5\n9\n'
 )
 
@@ -234,6 +251,28 @@ growths_have_receipts_in_cpp() (
     did '4\n5\n6\n7\n8\n'
 )
 
+programs_use_a_vector_as_one_in_memory_in_cpp() (
+    behaves_by idioms own_addresses fields texts compared inserted
+    link_cpp -std=c++20 -o "$work/idioms" "$cpp_tests/idioms.cc"
+    each_behaves "$work/idioms" fields compared inserted
+)
+
+a_path_with_a_zero_byte_is_refused_in_cpp() (
+    behaves_by idioms zero_bytes
+)
+
+an_appender_may_outlive_its_vector_in_cpp() (
+    behaves_by idioms an_appender_is_left a_view_keeps_others
+)
+
+# Built so that this is looked at, a use behind the end of a vector aborts the program.
+a_use_behind_the_end_of_a_vector_is_told_in_cpp() (
+    has_cpp || exit $is_skipped
+    make_cpp
+    link_cpp -DCVEC_CHECKED -o "$work/idioms" "$cpp_tests/idioms.cc"
+    each_behaves "$work/idioms" each_is_told own_addresses inserted an_appender_is_left a_view_keeps_others
+)
+
 a_wait_has_a_deadline_in_cpp() (
     behaves deadlines deadlines_for_a_seat
 )
@@ -251,9 +290,10 @@ a_vector_is_closed_in_cpp() (
 )
 
 a_refusal_has_its_reason_in_cpp() (
-    behaves refusals versions forking forking_meanwhile forking_beside_a_flusher forking_in_a_turn forking_with_one_number breaking
+    behaves refusals versions forking closing_in_a_fork forking_meanwhile forking_beside_a_flusher forking_in_a_turn \
+        forking_with_one_number breaking
     : >"$work/t.cv"
-    flock "$work/t.cv" "$built/behaviours" locked "$work/t.cv"
+    timeout 60 flock "$work/t.cv" "$built/behaviours" locked "$work/t.cv"
 )
 
 # As a container has, whose first process forks into a further one.
@@ -408,13 +448,14 @@ memory_is_used_rightly_in_cpp() (
         closing_meanwhile moving opening_without_memory refusals breaking few_seats many_threads renewing
     rm -f "$work"/t.cv*
     sanitized sizes
-    "$work/sizes" "$work/t.cv"
+    timeout 60 "$work/sizes" "$work/t.cv"
 )
 
 memory_that_is_lent_is_used_rightly_in_cpp() (
     has_cpp_under address,undefined
-    no_complaint_by lent each_type many_growths a_part_is_kept a_member_is_kept spans early_references lent_anew \
-        room_for_eight forked
+    no_complaint_by lent each_type many_growths a_part_is_kept a_member_is_kept the_greater_one_is_kept spans early_references \
+        lent_anew room_for_eight forked
+    no_complaint_by idioms own_addresses texts inserted an_appender_is_left a_view_keeps_others
     no_complaint_by views each_call copies a_call_waits calls_come_soon it_outlives_the_vector it_outlives_an_assignment \
         what_was_grown_is_kept a_child_has_its_own
     no_complaint_by in_place each_type what_it_gives what_it_throws refusals calls_within_it one_within_another \
@@ -450,8 +491,8 @@ the_program_of_the_page_for_cpp_runs() (
     shown_in use/cpp.md cpp >"$work/first.cpp"
     cd "$work"
     link_cpp -o first first.cpp
-    [ "$(./first numbers.cv)" = '3 rows from position 0' ]
-    [ "$(./first numbers.cv)" = '3 rows from position 3' ]
+    [ "$(timeout 60 ./first numbers.cv)" = '3 rows from position 0' ]
+    [ "$(timeout 60 ./first numbers.cv)" = '3 rows from position 3' ]
     run list u64 "$work/numbers.cv"
     did '5\n7\n11\n5\n7\n11\n'
 )
@@ -502,7 +543,7 @@ results_of_a_pool_are_kept_in_cpp() (
     has_results_of_a_pool pair 1 "$work/pool"
     tells_of_a_full_disk "$work/pool" "$work/full.cv" 5000
     # For fewer numbers there is nothing left to do.
-    "$work/pool" "$work/t.cv" 10 >"$out"
+    timeout 60 "$work/pool" "$work/t.cv" 10 >"$out"
     sed 1d "$out" | cmp "$work/wanted" -
 )
 
@@ -520,7 +561,7 @@ a_program_for_onetbb_is_made_durable() (
         cmp - "$cpp/primes.cc"
     link_cpp -o "$work/primes" "$cpp/primes.cc"
     cd "$work"
-    ./primes >"$out"
+    timeout 60 ./primes >"$out"
     [ "$(cat "$out")" = '9592 primes, whose sum is 454396537' ]
     "$top/cvec" list u64 primes.cv | sort -n >"$work/found"
     seq 99999 | factor | awk 'NF == 2 { print $2 }' | cmp - "$work/found"
@@ -530,14 +571,14 @@ the_program_for_onetbb_prints_the_same() (
     has_cpp && has_tbb || exit $is_skipped
     # Its headers have warnings of their own.
     compile_cpp -w -o "$work/primes_tbb" "$cpp/primes_tbb.cc" -ltbb -lpthread
-    [ "$("$work/primes_tbb")" = '9592 primes, whose sum is 454396537' ]
+    [ "$(timeout 60 "$work/primes_tbb")" = '9592 primes, whose sum is 454396537' ]
 )
 
 ranges_are_for_the_algorithms_of_onetbb() (
     has_cpp && has_tbb || exit $is_skipped
     make_cpp
     link_cpp -w -o "$work/parallel" "$cpp_tests/parallel.cc" -ltbb
-    "$work/parallel" "$work/t.cv"
+    timeout 60 "$work/parallel" "$work/t.cv"
 )
 
 # ---- the works of the bench
@@ -552,7 +593,7 @@ the_bench_grows_by_threads_of_cpp() (
         'durable mode=wait64 block=4096' 'durable mode=flow block=16'; do
         echo "work: $words"
         # shellcheck disable=SC2086 # each word is one
-        "$work/native" $words threads=3 n=6000 box_ms=20 "dir=$work" >"$out"
+        timeout 120 "$work/native" $words threads=3 n=6000 box_ms=20 "dir=$work" >"$out"
         grep -q '"threads":3,"n":[1-9][0-9]*,"seconds":0\.[0-9]*[,}]' "$out"
     done
     [ -z "$(find "$work" -name '*.cvec')" ]
@@ -562,7 +603,7 @@ the_bench_grows_by_threads_of_cpp() (
         echo "work: $words"
         status=0
         # shellcheck disable=SC2086 # each word is one
-        "$work/native" $words n=6000 box_ms=20 "dir=$work" >"$out" 2>"$err" || status=$?
+        timeout 120 "$work/native" $words n=6000 box_ms=20 "dir=$work" >"$out" 2>"$err" || status=$?
         [ "$status" -eq 3 ]
         [ ! -s "$out" ]
         [ "$(wc -l <"$err")" -le 1 ]
@@ -577,7 +618,7 @@ the_bench_reads_in_each_way_of_cpp() (
     for words in 'read block=16' 'read-mixed growers=3 block=16'; do
         work_name=${words%% *}
         # shellcheck disable=SC2086 # each word is one
-        "$work/native" $words n=6000 draws=500 "dir=$work" >"$out"
+        timeout 120 "$work/native" $words n=6000 draws=500 "dir=$work" >"$out"
         [ "$(grep -c "\"work\":\"$work_name.seq\",.*[0-9]}\$" "$out")" -eq 1 ]
         [ "$(grep -c "\"work\":\"$work_name.seq\",.*,\"way\":\"pieces\"}\$" "$out")" -eq 1 ]
         [ "$(grep -c "\"work\":\"$work_name.random\",.*[0-9]}\$" "$out")" -eq 3 ]
@@ -597,7 +638,7 @@ the_bench_by_threads_of_cpp_tells_of_a_full_disk() (
         echo "work: $words"
         status=0
         # shellcheck disable=SC2086 # each word is one
-        (ulimit -f 8 && exec "$work/native" $words threads=3 n=6000 box_ms=9999 "dir=$work") >"$out" 2>"$err" || status=$?
+        (ulimit -f 8 && exec timeout 120 "$work/native" $words threads=3 n=6000 box_ms=9999 "dir=$work") >"$out" 2>"$err" || status=$?
         [ "$status" -eq 1 ]
         [ ! -s "$out" ]
         # Of threads that wait one is told the first, and others the second.

@@ -26,12 +26,12 @@ the_c_programs_of_the_page_grow_and_read() (
         shown_program $number >"$work/shown.c"
         compile_threads "$work/shown.c" -o "$work/shown$number"
     done
-    "$work/shown1" "$work/t.cv" >"$out"
+    timeout 60 "$work/shown1" "$work/t.cv" >"$out"
     [ "$(cat "$out")" = '3 at 0' ]
     run list u64 "$work/t.cv"
     did '5\n7\n11\n'
     rm "$work/t.cv"
-    "$work/shown2" "$work/t.cv" >"$out"
+    timeout 60 "$work/shown2" "$work/t.cv" >"$out"
     [ "$(cat "$out")" = 499500 ]
     run list u64 "$work/t.cv"
     seq 0 999 | cmp - "$out"
@@ -141,14 +141,14 @@ threads_of_c_grow_files_of_each_type() (
         done
     }
     goes_on u32 '1\n2\n' '4294967295\n4294967294\n'
-    if "$built/behaviours" goes_on_u64 "$work/t.cv" >"$out"; then exit 1; fi
+    if timeout 60 "$built/behaviours" goes_on_u64 "$work/t.cv" >"$out"; then exit 1; fi
     goes_on u64 '1\n2\n' '18446744073709551615\n18446744073709551614\n'
-    if "$built/behaviours" goes_on_u32 "$work/t.cv" >"$out"; then exit 1; fi
+    if timeout 60 "$built/behaviours" goes_on_u32 "$work/t.cv" >"$out"; then exit 1; fi
     goes_on i64 '1\n-2\n' '-1\n-2\n'
     goes_on pair '1:2\n' '18446744073709551615:-9223372036854775808\n18446744073709551615:1\n'
-    if "$built/behaviours" goes_on_flagged "$work/t.cv" >"$out"; then exit 1; fi
+    if timeout 60 "$built/behaviours" goes_on_flagged "$work/t.cv" >"$out"; then exit 1; fi
     goes_on flagged '1:0\n' '18446744073709551615:1\n18446744073709551615:0\n'
-    if "$built/behaviours" goes_on_pair "$work/t.cv" >"$out"; then exit 1; fi
+    if timeout 60 "$built/behaviours" goes_on_pair "$work/t.cv" >"$out"; then exit 1; fi
 )
 
 a_vector_in_c_has_records_of_each_type() (
@@ -208,6 +208,10 @@ a_vector_in_c_that_is_closed_is_locked_no_more() (
     a_behaviour_of_a_vector_in_c unlocks_beside_programs
 )
 
+a_vector_in_c_is_locked_until_its_last_commit() (
+    a_behaviour_of_a_vector_in_c closes_locked
+)
+
 a_write_of_a_vector_in_c_that_is_cut_goes_on() (
     a_behaviour_of_a_vector_in_c parts
 )
@@ -228,7 +232,7 @@ opening_in_c_holds_the_bytes_of_a_file_once() (
     run create u64 "$work/t.cv"
     run append u64 "$work/t.cv" --block=131071
     [ "$status" -eq 0 ]
-    "$work/opening" "$work/t.cv" 8000000 >"$out"
+    timeout 120 "$work/opening" "$work/t.cv" 8000000 >"$out"
     read -r most stays <"$out"
     [ "$most" -lt 240 ]
     [ "$stays" -lt 140 ]
@@ -294,7 +298,7 @@ threads_of_c_that_are_killed_as_a_phase_ends_lose_nothing_settled() (
 )
 
 a_phase_of_c_that_ends_beside_calls_refuses_none() (
-    for behaviour in renewal_waits renewal_after_commit renewal_after_call renewals; do
+    for behaviour in renewal_waits renewal_after_commit renewal_after_call renewal_before_call renewals; do
         rm -f "$work/t.cv"
         a_behaviour_of_a_vector_in_c $behaviour
     done
@@ -506,7 +510,7 @@ a_wide_phase_in_c_reserves_addresses() (
     for sanitizer in address thread; do
         has_sanitizer $sanitizer || exit $is_skipped
         compile_threads "$top/tests/threads/lent.c" -fsanitize=$sanitizer -o "$work/lent"
-        "$work/lent" reserves "$work/t.cv" >"$out"
+        timeout 120 "$work/lent" reserves "$work/t.cv" >"$out"
         read -r one all narrow <"$out"
         [ "$one" -lt 200000 ]
         [ "$all" -lt 600000 ]

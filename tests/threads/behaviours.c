@@ -100,6 +100,20 @@ static void live(void) {
     if (calls_of_life >= 0 && calls_of_life-- == 0) raise(SIGKILL);
 }
 
+/* Where a path is watched, how many writes and syncs found its file locked, and how many not. */
+static const char *watched_path;
+static int locked_calls, unlocked_calls;
+
+static void look_for_lock(void) {
+    if (watched_path == NULL) return;
+    const int other = open(watched_path, O_RDONLY);
+    if (flock(other, LOCK_EX | LOCK_NB) == 0)
+        unlocked_calls++;
+    else
+        locked_calls += errno == EWOULDBLOCK;
+    close(other);
+}
+
 static int fails(void) { return left >= 0 && left-- == 0; }
 
 static int is_interrupted(void) {
@@ -110,6 +124,7 @@ static int is_interrupted(void) {
 static ssize_t test_pwrite(int fd, const void *bytes, size_t len, off_t at) {
     if (is_interrupted()) return -1;
     live();
+    look_for_lock();
     __atomic_add_fetch(&writes, 1, __ATOMIC_SEQ_CST);
     if (fails()) {
         errno = EIO;
@@ -121,6 +136,7 @@ static ssize_t test_pwrite(int fd, const void *bytes, size_t len, off_t at) {
 static int test_fdatasync(int fd) {
     if (is_interrupted()) return -1;
     live();
+    look_for_lock();
     pass_gate();
     if (is_slow) nap();
     __atomic_add_fetch(&syncs, 1, __ATOMIC_SEQ_CST);
@@ -227,8 +243,24 @@ void *__wrap_realloc(void *there, size_t len) { return is_refused() ? NULL : __r
 #define pthread_cond_timedwait test_timedwait
 #define pthread_cond_wait test_wait
 #include "system.c"
+
+/* A call of a thread that is to be stopped asks which process this is, on its way in, and goes no further until it may. */
+static __thread int is_to_stop;
+static int has_stopped, may_go_on;
+
+static uint64_t asked_process(void) {
+    if (is_to_stop) {
+        is_to_stop = 0;
+        __atomic_store_n(&has_stopped, 1, __ATOMIC_SEQ_CST);
+        while (!__atomic_load_n(&may_go_on, __ATOMIC_SEQ_CST)) nap();
+    }
+    return cvec_process();
+}
+
 #include "types.c"
+#define cvec_process asked_process
 #include "cvec_vector.c"
+#undef cvec_process
 #undef pthread_cond_wait
 #undef pthread_cond_timedwait
 #undef malloc
@@ -584,6 +616,19 @@ static void unlocks(const char *path) {
     HOLDS(cvec_vector_open(&vector, path, 1) == CVEC_DONE);
     if (vector != NULL) HOLDS(cvec_vector_close(vector) == CVEC_DONE);
     HOLDS(kill(child, SIGKILL) == 0 && waitpid(child, &status, 0) == child);
+}
+
+/* Until its last commit has ended a close has the lock: who opened the file before that would not see what it commits, and write over
+ * it. A commit is two writes and two syncs. */
+static void closes_locked(const char *path) {
+    uint64_t number = 0;
+    make(path, 1);
+    HOLDS(grow(0, &number) == CVEC_DONE && cvec_vector_close_seat(seat) == CVEC_DONE);
+    watched_path = path;
+    HOLDS(cvec_vector_close(vector) == CVEC_DONE);
+    watched_path = NULL;
+    HOLDS(locked_calls == 4 && unlocked_calls == 0);
+    HOLDS(found(path) == 1);
 }
 
 extern char **environ;
@@ -2226,6 +2271,37 @@ static void renewal_after_call(const char *path) {
     leaves_positions(path, 6);
 }
 
+static void *run_stopped_size(void *size) {
+    is_to_stop = 1;
+    return run_size(size);
+}
+
+/* A renewal begins as a call is on its way in, which nobody had shut out: it has no seat yet, so that the renewal doesn't wait for it.
+ * So it waits for the renewal. */
+static void renewal_before_call(const char *path) {
+    pthread_t grower, reader_thread;
+    uint32_t answer = CVEC_BUSY;
+    uint64_t size = 9;
+    make_renewing(path, 5);
+    pthread_create(&reader_thread, NULL, run_stopped_size, &size);
+    while (!__atomic_load_n(&has_stopped, __ATOMIC_SEQ_CST)) nap();
+    shut_gate(1);
+    pthread_create(&grower, NULL, run_grow, &answer);
+    until_held();
+    __atomic_store_n(&may_go_on, 1, __ATOMIC_SEQ_CST);
+    uint32_t busy = FREE;
+    while (busy != ASIDE && __atomic_load_n(&size, __ATOMIC_SEQ_CST) == 9) {
+        nap();
+        busy = __atomic_load_n(&beside->busy, __ATOMIC_SEQ_CST);
+    }
+    HOLDS(busy == ASIDE && __atomic_load_n(&size, __ATOMIC_SEQ_CST) == 9 && holds() == 1);
+    shut_gate(0);
+    pthread_join(grower, NULL);
+    pthread_join(reader_thread, NULL);
+    HOLDS(answer == CVEC_DONE && (size == 5 || size == 6) && cvec_vector_close_seat(beside) == CVEC_DONE);
+    leaves_positions(path, 6);
+}
+
 /* Threads that grow, push, await and read, take and close seats, and ask for the whole vector, where each phase has 50 growths. */
 enum { RENEWERS = 12, TURNS = 3000 };
 static uint64_t name_of_next;
@@ -2679,6 +2755,7 @@ int main(int argc, char **argv) {
                       {"fork", forks},
                       {"unlocks", unlocks},
                       {"unlocks_beside_programs", unlocks_beside_programs},
+                      {"closes_locked", closes_locked},
                       {"parts", parts},
                       {"faults", faults},
                       {"memory", memory},
@@ -2722,6 +2799,7 @@ int main(int argc, char **argv) {
                       {"renewal_waits", renewal_waits},
                       {"renewal_after_commit", renewal_after_commit},
                       {"renewal_after_call", renewal_after_call},
+                      {"renewal_before_call", renewal_before_call},
                       {"renewals", renewals},
                       {"hold_refuses", hold_refuses},
                       {"hold_waits", hold_waits},

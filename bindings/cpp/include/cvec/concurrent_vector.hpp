@@ -59,11 +59,13 @@ template <class T, class Layout = one_record> class concurrent_vector {
         if (file_->size() % row::words != 0) refuse_length();
     }
 
+    // One that was moved from refuses each member (CVEC_NOT_SO) but the destructor, assignment, swap, max_size and max_growth.
     concurrent_vector(concurrent_vector &&) noexcept = default;
     concurrent_vector &operator=(concurrent_vector &&) noexcept = default;
 
     // Commits what was grown, and closes the file. After it all calls are refused. The destructor does so too, but can't report
-    // what fails; nor can an assignment, of the file that the vector had. Where a view lives both leave the file to the last one.
+    // what fails; nor can an assignment, of the file that the vector had. Where a view lives both leave the file to the last one. In a
+    // forked process each gives up what that has of the file, which stays open and locked in the other one, and commits nothing.
     void close() { file().close(); }
 
     // -- growing: each call is one growth, whose rows stand in a row, and none of which a crash can take alone
@@ -233,10 +235,7 @@ template <class T, class Layout = one_record> class concurrent_vector {
     template <class Use> void for_each_piece(const Use &use) const { for_each_piece(0, size(), use); }
 
     // All rows that there are, which stay where they are as long as it lives.
-    [[nodiscard]] cvec::view<T, Layout> view() const {
-        static_cast<void>(file());
-        return cvec::view<T, Layout>(detail::hold(file_));
-    }
+    [[nodiscard]] cvec::view<T, Layout> view() const { return cvec::view<T, Layout>(detail::hold(owned())); }
 
     // The rows from this position on, to the end of the piece in which they stand; none past the end.
     [[nodiscard]] rows<T, Layout> piece(size_type first) const {
@@ -256,10 +255,10 @@ template <class T, class Layout = one_record> class concurrent_vector {
     // So many rows one growth may have.
     [[nodiscard]] static constexpr size_type max_growth() noexcept { return row::most_in_growth; }
 
-    [[nodiscard]] const_iterator begin() const noexcept { return const_iterator(file_.get(), 0); }
+    [[nodiscard]] const_iterator begin() const { return const_iterator(std::addressof(file()), 0); }
     // What stands before it an iterator finds without a call.
     [[nodiscard]] const_iterator end() const { return const_iterator(file_.get(), file().learned()); }
-    [[nodiscard]] const_iterator cbegin() const noexcept { return begin(); }
+    [[nodiscard]] const_iterator cbegin() const { return begin(); }
     [[nodiscard]] const_iterator cend() const { return end(); }
     [[nodiscard]] const_reverse_iterator rbegin() const { return const_reverse_iterator(end()); }
     [[nodiscard]] const_reverse_iterator rend() const { return const_reverse_iterator(begin()); }
@@ -277,9 +276,10 @@ template <class T, class Layout = one_record> class concurrent_vector {
     template <class, class> friend class appender;
 
     // One that was moved from has none.
-    detail::word_file &file() const {
+    detail::word_file &file() const { return *owned(); }
+    const std::shared_ptr<detail::word_file> &owned() const {
         if (!file_) refuse_moved();
-        return *file_;
+        return file_;
     }
 
     [[noreturn]] CVEC_APART static void refuse_moved() {
@@ -300,18 +300,52 @@ template <class T, class Layout = one_record> class concurrent_vector {
     std::shared_ptr<detail::word_file> file_; // with its views
 };
 
+// ---- comparing, row by row, as T's operators do
+
+template <class T, class One, class Other>
+[[nodiscard]] bool operator==(const concurrent_vector<T, One> &a, const concurrent_vector<T, Other> &b) {
+    return std::equal(a.begin(), a.end(), b.begin(), b.end());
+}
+
+template <class T, class One, class Other>
+[[nodiscard]] bool operator<(const concurrent_vector<T, One> &a, const concurrent_vector<T, Other> &b) {
+    return std::lexicographical_compare(a.begin(), a.end(), b.begin(), b.end());
+}
+
+template <class T, class One, class Other>
+[[nodiscard]] bool operator!=(const concurrent_vector<T, One> &a, const concurrent_vector<T, Other> &b) {
+    return !(a == b);
+}
+
+template <class T, class One, class Other>
+[[nodiscard]] bool operator>(const concurrent_vector<T, One> &a, const concurrent_vector<T, Other> &b) {
+    return b < a;
+}
+
+template <class T, class One, class Other>
+[[nodiscard]] bool operator<=(const concurrent_vector<T, One> &a, const concurrent_vector<T, Other> &b) {
+    return !(b < a);
+}
+
+template <class T, class One, class Other>
+[[nodiscard]] bool operator>=(const concurrent_vector<T, One> &a, const concurrent_vector<T, Other> &b) {
+    return !(a < b);
+}
+
 // ---- rows gathered into blocks
 
 // Gathers the rows that one thread pushes, and grows by many at once. Others see them once they are flushed. The destructor
-// flushes too, but can't report what fails: who wants to know calls flush or settle before.
+// flushes too, but can't report what fails: who wants to know calls flush or settle before. Once the file of its vector has gone it
+// is refused (CVEC_NOT_SO), and what it has gathered is lost: with CVEC_CHECKED its destructor aborts then.
 template <class T, class Layout = one_record> class appender {
     using row = detail::row<T, Layout>;
 
   public:
+    using value_type = T;
     using size_type = std::size_t;
 
     explicit appender(concurrent_vector<T, Layout> &vector, size_type rows = 1024)
-        : file_(std::addressof(vector.file())), rows_(std::clamp<size_type>(rows, 1, row::most_in_growth)) {}
+        : file_(vector.owned()), rows_(std::clamp<size_type>(rows, 1, row::most_in_growth)) {}
 
     appender(appender &&other) noexcept
         : file_(other.file_), rows_(other.rows_), words_(std::move(other.words_)), buffered_(std::exchange(other.buffered_, 0)),
@@ -319,6 +353,7 @@ template <class T, class Layout = one_record> class appender {
     appender &operator=(appender &&) = delete;
 
     ~appender() {
+        if (buffered_ != 0) file_.check();
         try {
             flush();
         } catch (...) {
@@ -337,7 +372,7 @@ template <class T, class Layout = one_record> class appender {
     // Grows by what was gathered, if anything was.
     std::optional<growth> flush() {
         if (buffered_ == 0) return std::nullopt;
-        last_ = row::grow(*file_, words_.data(), buffered_);
+        last_ = row::grow(file(), words_.data(), buffered_);
         buffered_ = 0;
         return last_;
     }
@@ -345,7 +380,7 @@ template <class T, class Layout = one_record> class appender {
     // Flushes, and waits until all that this appender grew is durable.
     void settle() {
         flush();
-        if (last_) file_->await(last_->number);
+        if (last_) file().await(last_->number);
     }
 
     // How many rows are gathered, which are not in the vector yet.
@@ -358,7 +393,12 @@ template <class T, class Layout = one_record> class appender {
         flush();
     }
 
-    detail::word_file *file_;
+    detail::word_file &file() const {
+        if (file_.is_gone()) throw error(CVEC_NOT_SO, "an appender", "its vector has gone", 0);
+        return *file_.get();
+    }
+
+    detail::borrowed_file file_;
     size_type rows_;
     std::vector<typename row::word> words_; // room for so many rows, or for none yet
     size_type buffered_ = 0;

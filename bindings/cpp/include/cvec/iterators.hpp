@@ -7,12 +7,61 @@
 #include <algorithm>
 #include <cstddef>
 #include <cstdint>
+#include <cstdio>
+#include <cstdlib>
 #include <iterator>
 #include <memory>
 #include <type_traits>
 
 namespace cvec {
 namespace detail {
+
+// A file that who has this doesn't keep open. To use it behind its end is undefined; where that is checked, the program aborts.
+class borrowed_file {
+  public:
+    borrowed_file() = default;
+    explicit borrowed_file(const std::shared_ptr<word_file> &file) noexcept : file_(file.get()), life_(file) {}
+    explicit borrowed_file(word_file *file) noexcept : file_(file) {
+        if (file != nullptr) life_ = file->weak_from_this();
+    }
+
+    [[nodiscard]] word_file *get() const noexcept { return file_; }
+    // Writes nothing: threads that append to one file have it together.
+    [[nodiscard]] bool is_gone() const noexcept { return file_ != nullptr && life_.expired(); }
+
+    void check() const noexcept {
+#if defined(CVEC_CHECKED)
+        if (is_gone()) abort_gone();
+#endif
+    }
+
+  private:
+    [[noreturn]] CVEC_APART static void abort_gone() noexcept {
+        std::fputs("cvec: an iterator, a range or rows of an appender are used behind the end of their vector\n", stderr);
+        std::abort();
+    }
+
+    word_file *file_ = nullptr;
+    std::weak_ptr<const word_file> life_;
+};
+
+// Iterators are as small as they can be where nothing is checked.
+#if defined(CVEC_CHECKED)
+class file_of_iterator {
+  public:
+    file_of_iterator(word_file *file = nullptr) noexcept : file_(file) {}
+    operator word_file *() const noexcept {
+        file_.check();
+        return file_.get();
+    }
+    word_file *operator->() const noexcept { return *this; }
+
+  private:
+    borrowed_file file_;
+};
+#else
+using file_of_iterator = word_file *;
+#endif
 
 // Goes through the rows of a vector where they stand. Within what it knows of them it makes no call and takes no lock, and it
 // goes from piece to piece by itself where these are of one length, and else by the vector's index.
@@ -30,7 +79,10 @@ template <class T, class Layout = one_record> class iterator {
     iterator(word_file *file, std::size_t position) noexcept : file_(file), position_(position) { locate(); }
 
     // What it didn't know of when it was moved is looked for.
-    [[nodiscard]] reference operator*() const { return CVEC_MOSTLY(at_ != nullptr) ? row::at(at_) : look(file_, position_); }
+    [[nodiscard]] reference operator*() const {
+        word_file *const file = file_;
+        return CVEC_MOSTLY(at_ != nullptr) ? row::at(at_) : look(file, position_);
+    }
     [[nodiscard]] pointer operator->() const { return std::addressof(**this); }
     [[nodiscard]] reference operator[](difference_type k) const { return *(*this + k); }
 
@@ -115,7 +167,7 @@ template <class T, class Layout = one_record> class iterator {
         gap_ = found.gap;
     }
 
-    word_file *file_ = nullptr;
+    file_of_iterator file_ = nullptr;
     std::size_t position_ = 0;
     const unsigned char *at_ = nullptr;   // of its row, where it knows that
     const unsigned char *last_ = nullptr; // of the last row of its piece
@@ -156,7 +208,7 @@ template <class T, class Layout = one_record> class range {
   private:
     [[nodiscard]] size_type middle() const noexcept { return first_ + (last_ - first_) / 2; }
 
-    word_file *file_;
+    file_of_iterator file_;
     size_type first_, last_, grainsize_;
 };
 

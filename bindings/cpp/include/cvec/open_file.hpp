@@ -40,6 +40,7 @@ class open_file {
   protected:
     open_file(const std::string &path, cvec_type type, const options &wanted)
         : type_(type), limit_(wanted.seats), process_(cvec_vector_process()), path_(path) {
+        if (path_.find('\0') != std::string::npos) refuse_path();
         if (limit_ == 0 || limit_ > most_seats) refuse(CVEC_NOT_SO, "a vector has 1 to 64 seats");
         if (wanted.version == 0) refuse(CVEC_NOT_SO);
         begin(wanted.how, {wanted.version, limit_, wanted.growths});
@@ -74,6 +75,12 @@ class open_file {
     cvec_vector *vector_ = nullptr;
 
   private:
+    // To the system a path ends there: it would open the file of that name.
+    [[noreturn]] void refuse_path() const {
+        const std::string text = cvec_vector_status_text(CVEC_DISK_OPEN);
+        throw error(CVEC_DISK_OPEN, path_.c_str(), text + ": its path goes on behind a zero byte", 0);
+    }
+
     void begin(opening how, const cvec_options &wanted) {
         const std::uint32_t status = how == opening::open     ? open(wanted)
                                      : how == opening::create ? create(wanted)

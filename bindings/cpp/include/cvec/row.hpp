@@ -149,12 +149,23 @@ template <class T, class Layout = one_record> struct row {
     }
 };
 
+// Whether these are the fields of a struct, and none of them is narrowed: of that a compiler may only warn, and not in any header.
+template <class Void, class T, class... Args> struct are_fields : std::false_type {};
+template <class T, class... Args>
+struct are_fields<std::void_t<decltype(T{std::declval<Args>()...})>, T, Args...> : std::true_type {};
+
+// Whether it is one value that becomes a T. From C++20 on a struct is constructible of its fields too.
+template <class T, class... Args> struct is_a_value : std::false_type {};
+template <class T, class Arg> struct is_a_value<T, Arg> : std::is_convertible<Arg, T> {};
+
 // Structs without a constructor are made of their fields.
 template <class T, class... Args> T made_of(Args &&...args) {
-    if constexpr (std::is_constructible_v<T, Args...>)
-        return T(std::forward<Args>(args)...);
-    else
+    if constexpr (std::is_aggregate_v<T> && !is_a_value<T, Args &&...>::value) {
+        static_assert(are_fields<void, T, Args &&...>::value, "cvec: these are no fields of T, or one of them would be narrowed");
         return T{std::forward<Args>(args)...};
+    } else {
+        return T(std::forward<Args>(args)...);
+    }
 }
 
 } // namespace detail

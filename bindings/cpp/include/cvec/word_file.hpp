@@ -22,7 +22,7 @@ namespace detail {
 
 inline constexpr std::uint64_t most_records = std::uint64_t{1} << 32;
 
-class word_file final : public seated_file {
+class word_file final : public seated_file, public std::enable_shared_from_this<word_file> {
   public:
     // A row is so many words, which have so many bytes together.
     word_file(const std::string &path, cvec_type type, std::size_t words, std::size_t bytes, const options &wanted)
@@ -33,7 +33,8 @@ class word_file final : public seated_file {
     // A destructor reports nothing: who wants to know calls close.
     ~word_file() { give_up(); }
 
-    // Waits until each call under way has ended. Later ones are refused, and to close again does nothing.
+    // Waits until each call under way has ended. Later ones are refused, and to close again does nothing. A forked process waits for
+    // nobody: it gives up what it has of the file, and commits nothing.
     void close() {
         const std::uint32_t status = give_up();
         if (status == CVEC_BUSY) refuse_held();
@@ -374,7 +375,10 @@ class word_file final : public seated_file {
 
     // Where rows are held it goes on as it was, its flushers too.
     std::uint32_t give_up() {
-        if (is_forked()) return leave();
+        if (is_forked()) {
+            leave();
+            return CVEC_DONE;
+        }
         const holds::want mine(holds_, wait_for_views_);
         std::unique_lock<std::mutex> lock(seating_, std::defer_lock);
         const entry how = enter(mine, lock);
@@ -386,12 +390,11 @@ class word_file final : public seated_file {
 
     // A forked process closes the file alone: threads that it hasn't got may have had the mutex, and seats. For those that
     // waited the condition is left: its end would wait for them.
-    std::uint32_t leave() noexcept {
+    void leave() noexcept {
         static_cast<void>(flusher_wakes_.release());
         end();
         cvec_vector *vector = std::exchange(vector_, nullptr);
         if (vector != nullptr) cvec_vector_close(vector);
-        return CVEC_FORKED;
     }
 
     const std::size_t row_words_;
