@@ -33,7 +33,7 @@ size_t cvec_bytes_of(cvec_type type, size_t count) {
     size_t types;
     const cvec_type_of *of = cvec_types(&types);
     if ((size_t)type >= types) return 0;
-    const size_t most = PTRDIFF_MAX / of[type].width;
+    const size_t most = PTRDIFF_MAX / MOST_WIDTH;
     return (count < most ? count : most) * of[type].width;
 }
 

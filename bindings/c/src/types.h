@@ -9,7 +9,7 @@
 /* The bytes of a flagged in a file, and of no type more. */
 enum { FLAGGED_LEN = sizeof(uint64_t) + 1, MOST_WIDTH = 64 };
 
-/* The bytes in a file of so many records; of more than memory has, of the most that it may have, which are too many too. */
+/* The bytes in a file of so many records; of more than memory has, of as many as are too many too. Each growth asks: no division. */
 size_t cvec_bytes_of(cvec_type type, size_t count);
 
 /* Writes the bytes of so many records of flagged to `out`. That of a flag goes as it is, also where it is neither 0 nor 1, which the
