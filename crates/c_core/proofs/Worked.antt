@@ -40,6 +40,7 @@ never_done refusals.Full is = absurd (omega arith)
 never_done refusals.Busy is = absurd (omega arith)
 never_done refusals.Unfolded is = absurd (omega arith)
 never_done refusals.Unsettled is = absurd (omega arith)
+
 told_in_numbers : (code_of (of_scan faults.Unborn) ≡ 1) × (code_of (of_scan (faults.Width 4)) ≡ 4) × (code_of (of_scan (faults.Damaged 33 causes.Runs)) ≡ 5)
     × (code_of refusals.NoRecord ≡ 13) × (code_of refusals.Exists ≡ 32) × (code_of refusals.Broken ≡ 34) × (code_of refusals.NotSo ≡ 64)
     × (code_of refusals.Again ≡ 65) × (code_of refusals.Full ≡ 66) × (code_of refusals.Busy ≡ 67) × (code_of refusals.Unfolded ≡ 69) × (code_of refusals.Unsettled ≡ 70)

@@ -233,12 +233,7 @@ impl End {
 
     /// A vault is lent, with room for so many growths, to a phase with so many seats, whose end is answered, and to who commits.
     /// Where there was no memory for what these share, the handle has no end.
-    pub fn share(
-        &mut self,
-        alloc: Global,
-        growths: u64,
-        seats: u16,
-    ) -> Result<Box<End>, Refusal>
+    pub fn share(&mut self, alloc: Global, growths: u64, seats: u16) -> Result<Box<End>, Refusal>
         ensures shares { IfOk result (λ end. AllAt (λ _ _ _. SharesOut growths seats) end.value self.old self.new) }
         ensures refused { IfErr result (λ refusal. AtAny (λ _ _ _. RefusesSharing growths seats refusal) self.old self.new) }
     {

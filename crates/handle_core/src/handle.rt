@@ -2,8 +2,8 @@
 
 ghost use Rattle.std.specs.Prelude.{◌≡◌, true, false, None, Some, IsSome, MatchBool, MatchOption};
 
-use crate::kept::Kept;
 use crate::end::End;
+use crate::kept::Kept;
 use std::alloc::Global;
 use std::mem;
 

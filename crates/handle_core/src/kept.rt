@@ -5,8 +5,8 @@ ghost use Rattle.handle_core.specs.declared.end.End.{End};
 ghost use Rattle.handle_core.specs.Keeping.{kept_owns, end_coded};
 ghost use Rattle.std.specs.Prelude.{Option};
 
-use crate::parts::Parts;
 use crate::end::End;
+use crate::parts::Parts;
 use std::alloc::Global;
 use std::marker::Model;
 use std::ptr;

@@ -127,12 +127,7 @@ impl<R: Record> Role<R> {
     }
 
     /// Writes the records that these bytes are over those of a vault from position `start` on. `NoRecord`.
-    pub(crate) fn change(
-        &mut self,
-        alloc: Global,
-        start: u64,
-        bytes: &[u8],
-    ) -> Result<(), Refusal>
+    pub(crate) fn change(&mut self, alloc: Global, start: u64, bytes: &[u8]) -> Result<(), Refusal>
         ensures changes { OnOk result (Changes start bytes.now self.old self.new) }
         ensures refused { IfErr result (λ refusal. RefusesChange start bytes.now refusal self.old self.new) }
     {

@@ -14,7 +14,7 @@ returns-in-Err-clause-refused g c =
     let width = g.R.Record.form.width in
     let fault = c.in-Err.fault in
     let told = by_length width (phase_of c.args.grower.now) c.args.grower.now.seat (length c.args.bytes.now / width) fault
-        (subst (λ w. IsLengthFault width (length c.args.bytes.now / w) fault) c.width_of.ensures.is c.in-Err.ensures) in
+    (subst (λ w. IsLengthFault width (length c.args.bytes.now / w) fault) c.width_of.ensures.is c.in-Err.ensures) in
     (refl, learns-refl c.args.grower.now.seat, inr (told.0, c.of_block.ensures ∙ told.1, told.2))
 
 pub returns-in_err-records-clause-refused : goal.returns-in_err-records-clause-refused
