@@ -33,9 +33,10 @@ the_readme_appends_in_python() (
     shown_in ../README.md python >"$work/shown.py"
     ln -s "$top/cvec" "$work/cvec"
     cd "$work"
-    CVEC_LIBRARY=$work/libcvec.so PYTHONPATH=$top/bindings/python PYTHONDONTWRITEBYTECODE=1 python3 shown.py >"$out"
+    CVEC_LIBRARY=$work/libcvec.so PYTHONPATH=$top/bindings/python PATH=$work:$PATH PYTHONDONTWRITEBYTECODE=1 \
+        python3 shown.py >"$out"
     [ "$(tr -cs 0-9 ' ' <"$out")" = ' 5 7 11 ' ]
-    run list u64 numbers.cv
+    run list u64 python.cv
     did '5\n7\n11\n13\n'
 )
 
