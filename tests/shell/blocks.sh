@@ -10,6 +10,14 @@ the_commands_on_the_pages_do_what_they_show() (
     counted "$top/tests/blocks"
 )
 
+# Who follows the pages does so in one folder.
+no_page_makes_a_file_of_another() (
+    has python3 'the commands on the pages' || exit $is_skipped
+    if has_c; then make_c_library; fi
+    export TMPDIR="$work"
+    "$top/tests/blocks" --together >"$out" || { cat "$out"; exit 1; }
+)
+
 # The README shows what stands in a function.
 the_readme_appends_in_c() (
     has_c || exit $is_skipped
@@ -31,11 +39,13 @@ the_readme_appends_in_python() (
     has_c && has python3 'the library for Python' || exit $is_skipped
     make_python_library
     shown_in ../README.md python >"$work/shown.py"
-    ln -s "$top/cvec" "$work/cvec"
+    mkdir "$work/bin"
+    ln -s "$top/cvec" "$work/bin/cvec"
     cd "$work"
-    CVEC_LIBRARY=$work/libcvec.so PYTHONPATH=$top/bindings/python PYTHONDONTWRITEBYTECODE=1 python3 shown.py >"$out"
+    CVEC_LIBRARY=$work/libcvec.so PYTHONPATH=$top/bindings/python PATH=$work/bin:$PATH PYTHONDONTWRITEBYTECODE=1 \
+        python3 shown.py >"$out"
     [ "$(tr -cs 0-9 ' ' <"$out")" = ' 5 7 11 ' ]
-    run list u64 numbers.cv
+    run list u64 python.cv
     did '5\n7\n11\n13\n'
 )
 
@@ -105,6 +115,20 @@ marks_excuse_what_they_name() (
     answers 0 '2 skipped: docs/page.md:8: as long as that; docs/page.md:12: nobody does\n2 passed, 0 failed\n'
     seeming_page Text. '<!-- not compared: it differs -->' '```' '$ cvecs 5' 6 '```'
     fails_at_line_3 'statuses [127]'
+)
+
+# A folder stands for a file. Variables stay a page's own.
+pages_are_in_the_way_of_each_other_together() (
+    seeming_page Text. '' '```sh' '[ -z "$own" ]; own=5; mkdir made' '```'
+    cp "$there/docs/page.md" "$there/docs/other.md"
+    "$there/tests/blocks" docs/page.md docs/other.md >"$out"
+    [ "$(cat "$out")" = '2 passed, 0 failed' ]
+    status=0
+    "$there/tests/blocks" --together docs/page.md docs/other.md >"$out" || status=$?
+    [ "$status" -eq 1 ]
+    [ "$(head -n 1 "$out")" = 'FAILED: docs/other.md:3' ]
+    grep -q 'mkdir: .*made' "$out"
+    [ "$(tail -n 1 "$out")" = '1 passed, 1 failed' ]
 )
 
 what_a_block_begins_ends_with_it() (

@@ -387,3 +387,63 @@ for name in sys.argv[1:]:
 sys.exit("\n".join(lost) or 0)
 PY
 )
+
+# ---- the index of wrong bodies
+
+# In a repository: each link of the index that leads to nothing, or to a file in which its test doesn't stand, and each folder
+# of which the index tells another number of edits than lie there beside those that it links.
+wrong_in_index() {
+    python3 - "$1/tests/wrong" <<'PY'
+import collections, glob, os, re, sys
+
+os.chdir(sys.argv[1])
+with open("INDEX.md", encoding="utf-8") as index:
+    table, _, own = index.read().partition("\n## Of our own\n")
+links = re.findall(r"\[`?([^\[\]`]+)`?\]\(([^()]+)\)", table)
+for text, target in links:
+    if not os.path.exists(target):
+        print(f"no file: {target}")
+    elif target.endswith((".rt", ".sh", ".script")):
+        with open(target, encoding="utf-8") as tests:
+            if not re.search(rf"(?m)^(fn )?{re.escape(text)}(\(|$)", tests.read()):
+                print(f"no test in {target}: {text}")
+linked = {target for _, target in links}
+there = collections.Counter(os.path.dirname(it) for it in glob.glob("*/*.edit") if it not in linked)
+told = {name: int(number) for name, number in re.findall(r"`(\w+)` (\d+)", own)}
+for name in sorted(there.keys() | told.keys()):
+    if there[name] != told.get(name, 0):
+        print(f"{name}: {there[name]} others, and the index tells of {told.get(name, 0)}")
+PY
+}
+
+each_wrong_body_stands_in_the_index() (
+    has python3 'the index of wrong bodies' || exit $is_skipped
+    wrong_in_index "$top" >"$out"
+    cat "$out"
+    [ ! -s "$out" ]
+)
+
+what_is_wrong_in_the_index_of_wrong_bodies_is_found() (
+    has python3 'the index of wrong bodies' || exit $is_skipped
+    there=$work/there
+    mkdir -p "$there/tests/wrong/one" "$there/tests/wrong/two" "$there/tests/wrong/three"
+    : >"$there/tests/wrong/one/a.edit" >"$there/tests/wrong/one/b.edit" >"$there/tests/wrong/two/c.edit"
+    printf 'fn holds(rt: HostRuntime) {\n' >"$there/tests/some.rt"
+    cd "$there/tests/wrong"
+    printf '%s\n' '| [edit](one/a.edit) | test [`holds`](../some.rt) |' '' '## Of our own' '' '`one` 1, `two` 1.' >INDEX.md
+    finds_in_index ''
+    mv one/a.edit one/d.edit
+    finds_in_index 'no file: one/a.edit' 'one: 2 others, and the index tells of 1'
+    mv one/d.edit one/a.edit
+    mv two/c.edit three
+    finds_in_index 'three: 1 others, and the index tells of 0' 'two: 0 others, and the index tells of 1'
+    mv three/c.edit two
+    sed -i s/holds/stands/ ../some.rt
+    finds_in_index 'no test in ../some.rt: holds'
+)
+
+# Of the repository there these lines are all that is found.
+finds_in_index() {
+    wrong_in_index "$there" >"$out"
+    printf '%s\n' "$@" | grep . | cmp - "$out"
+}
