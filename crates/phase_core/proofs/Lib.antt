@@ -6,6 +6,5 @@ mod TellLemmas
 mod RoomLemmas
 mod ReadLemmas
 mod GrowerSame
-mod PutNext
 mod Worked
 mod WorkedTelling

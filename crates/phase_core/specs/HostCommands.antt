@@ -43,11 +43,3 @@ module _ {R D : Type 0} {disk : Ghosts D} (form : Encoding R) (old new : HostVau
       (group_lines old.vault.pen (size - length (list_of old)) (8 + (size - length (list_of old)) * form.width)))
       × (size < length (list_of old) → IsCommandWith (Shrink size) (shrink_lines old.vault.pen size))
       × (size ≡ length (list_of old) → IsNothing)
-
-  -- it has none
-  abbrev pub IsClear : Type 0
-  IsClear =
-      (new.made ≡ old.made)
-      × Makes (list_of new ≡ [])
-      × (0 < length (list_of old) → IsCommandWith (Shrink 0) (shrink_lines old.vault.pen 0))
-      × (list_of old ≡ [] → IsNothing)

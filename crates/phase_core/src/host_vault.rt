@@ -23,7 +23,7 @@ pub struct HostVault<R: Record, D: Disk> {
 
 impl<R: Record, D: Disk> HostVault<R, D> {
     ghost use Rattle.phase_core.specs.HostVault.{list_of, disk_of, calls_of};
-    ghost use Rattle.phase_core.specs.HostCommands.{IsChange, IsResize, IsClear};
+    ghost use Rattle.phase_core.specs.HostCommands.{IsChange, IsResize};
 
     /// How many records it has.
     pub fn len(&self) -> u64
@@ -47,13 +47,6 @@ impl<R: Record, D: Disk> HostVault<R, D> {
         ensures { IsResize R.form self.old self.new result size filler }
     {
         self.vault.resize(size, filler)
-    }
-
-    /// Takes all records away. Refused as `Vault::clear` is.
-    pub fn clear(&mut self) -> Result<(), VaultFault>
-        ensures { IsClear R.form self.old self.new result }
-    {
-        self.vault.clear()
     }
 
     /// Folds all changes into the records' homes in the file, and answers whether there were some. Refused as
