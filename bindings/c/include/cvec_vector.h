@@ -289,9 +289,9 @@ uint32_t cvec_phase_publish(cvec_handle *grower, cvec_handle *block, cvec_receip
  * CVEC_NO_RECORD: they aren't whole records of the handle's vector, or a flag is neither 0 nor 1. A handle knows the width of its
  * records and not their type: who passes others of that width gets these.
  *
- * grow: CVEC_AGAIN: another growth came first; call it again. read: *count records of the piece that begins there. count and find
- * look at the records that the grower knows: how many equal that one; the first position from `from` on that has it, or how many
- * records there are. */
+ * grow: CVEC_EMPTY: fewer bytes than a record has; CVEC_AGAIN: another growth came first, so call it again. read: *count records of
+ * the piece that begins there. count and find look at the records that the grower knows: how many equal that one; the first position
+ * from `from` on that has it, or how many records there are. */
 uint32_t cvec_phase_grow(cvec_handle *grower, const void *records, size_t len, cvec_receipt *receipt);
 uint32_t cvec_phase_read(cvec_handle *grower, uint64_t from, void *out, size_t room, uint64_t *count);
 uint32_t cvec_phase_count(cvec_handle *grower, const void *record, size_t len, uint64_t *count);

@@ -22,7 +22,7 @@ pub enum Refusal {
     Memory = 6,
     /// A group or a growth without a record.
     Empty = 7,
-    /// The vector would have more than 2^32 records, or has no record at that position.
+    /// The vector would have more than 2^32 records, or has none at that position; or no call of that number is listed.
     OutOfRange = 8,
     /// It doesn't fit one frame; of a phase, the number of seats is 0 or past 64, or there is no such room for growths.
     TooLarge = 9,
@@ -38,7 +38,7 @@ pub enum Refusal {
     Exists = 32,
     /// A call of the file was lost or failed: nothing more can be committed.
     Broken = 34,
-    /// No type of records has this number; the handle has another end, or none; no seat is left, or no call of that number.
+    /// No type of records has this number; the handle has another end, or none; or no seat is left.
     NotSo = 64,
     /// Another growth came first: the call may be made again.
     Again = 65,
