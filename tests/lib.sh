@@ -226,13 +226,21 @@ c_library=$top/crates/cvec_c/out/libcvec_c.a
 
 has_c() { has cc 'the library for C' && has rt 'the library for C'; }
 
-# Compiles the file of this name of bindings/c, with what each of them takes, to one object in this folder. Further words go to the
-# compiler.
+# The files of bindings/c/src that make the part of the library that has this name.
+files_of_c() {
+    case $1 in
+    cvec_vector) set -- vector whole seats growing settling system types ;;
+    *) set -- "$1" system types ;;
+    esac
+    for file in "$@"; do echo "$c_sources/$file.c"; done
+}
+
+# Compiles them to one object in this folder, which has that name. Further words go to the compiler.
 compile_c() {
     name=$1 folder=$2
     shift 2
-    cc -std=c99 -O2 -fPIC -Wall -Wextra -Werror -pedantic "$@" "-I$c_headers" -r -o "$folder/$name.o" "$c_sources/$name.c" \
-        "$c_sources/system.c" "$c_sources/types.c"
+    # shellcheck disable=SC2046
+    cc -std=c99 -O2 -fPIC -Wall -Wextra -Werror -pedantic "$@" "-I$c_headers" -r -o "$folder/$name.o" $(files_of_c "$name")
 }
 
 # The library is built, and the file's calls are compiled.
@@ -284,7 +292,8 @@ compile_over_library() {
 }
 
 # The same over the files of C between them.
-compile_threads() { compile_over_library "$@" "$c_sources/cvec_vector.c" "$c_sources/system.c" "$c_sources/types.c"; }
+# shellcheck disable=SC2046 # none of these names has a space
+compile_threads() { compile_over_library "$@" $(files_of_c cvec_vector); }
 
 make_threads_library() {
     build_older cvec_threads

@@ -86,7 +86,7 @@ class _Receipt(ctypes.Structure):
 
 
 class _Options(ctypes.Structure):
-    _fields_ = [("version", c_uint8), ("seats", c_uint16), ("growths", c_uint64)]
+    _fields_ = [("version", c_uint8), ("seats", c_uint16), ("pushes", c_uint32), ("growths", c_uint64)]
 
 
 class _Piece(ctypes.Structure):
@@ -111,7 +111,6 @@ def _library() -> ctypes.CDLL:
         "await_for": [c_void_p, c_uint64, c_uint64],
         "flush": [c_void_p],
         "stop_flusher": [c_void_p],
-        "settled": [c_void_p, POINTER(c_uint64)],
         "size": [c_void_p, POINTER(c_uint64)],
         "read_records": [c_void_p, c_uint64, c_void_p, c_size_t, POINTER(c_uint64)],
         "pieces": [c_void_p, c_uint64, POINTER(_Piece), c_size_t, POINTER(c_size_t)],
@@ -129,6 +128,7 @@ def _library() -> ctypes.CDLL:
     for name, words in answers.items():
         call = getattr(lib, "cvec_vector_" + name)
         call.argtypes, call.restype = words, c_uint32
+    lib.cvec_seat_settled.argtypes, lib.cvec_seat_settled.restype = [c_void_p, POINTER(c_uint64)], c_uint32
     lib.cvec_vector_process.argtypes, lib.cvec_vector_process.restype = [], c_uint64
     lib.cvec_vector_status_text.argtypes, lib.cvec_vector_status_text.restype = [c_uint32], ctypes.c_char_p
     return lib
@@ -669,7 +669,7 @@ class Seat(_Single):
     def settled(self) -> int:
         """How many growths are durable: those with a lower number are. It doesn't wait."""
         count = c_uint64()
-        self._call(_LIB.cvec_vector_settled, byref(count))
+        self._call(_LIB.cvec_seat_settled, byref(count))
         return count.value
 
     def _words(self) -> int:

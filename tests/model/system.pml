@@ -42,10 +42,11 @@ inline signal(condition) {
 
 /* ---- waits that end by their deadlines, or for nothing */
 
-#define all_waits (settled | returned | flushing | released | turn)
+#define all_waits (settled | returned | flushing | released | came | handed | turn)
 
 inline end_wait(one) {
-    settled = settled & ~one; returned = returned & ~one; flushing = flushing & ~one; released = released & ~one; turn = turn & ~one
+    settled = settled & ~one; returned = returned & ~one; flushing = flushing & ~one; released = released & ~one; came = came & ~one;
+    handed = handed & ~one; turn = turn & ~one
 }
 
 /* The waits whose deadlines may pass. Where a flusher would find nothing to commit it changes nothing, and rests on. */

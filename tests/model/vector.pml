@@ -1,4 +1,4 @@
-/* What bindings/c/src/cvec_vector.c does with its mutex, its conditions and its atomics, function by function and in its order: an
+/* What the C for threads (bindings/c/src: vector.c, whole.c, seats.c, growing.c, settling.c) does with its mutex, its conditions and its atomics, function by function and in its order: an
  * inline has the name of its function. An atomic is a section that has the mutex, or one call of the library or of the file; where it
  * waits, others go on. README.md tells what is left out.
  *
@@ -48,13 +48,14 @@ mtype = { GROW, PUBLISH, PIECES, BLOCK, DROP, PUSH }; /* calls by a seat */
 /* ---- struct cvec_vector */
 
 byte mutex = NOBODY;                        /* who has it */
-byte settled, returned, flushing, released; /* conditions: the threads that wait for it, and whom nobody has woken */
+byte settled, returned, flushing, released, came, handed; /* conditions: the threads that wait for it, and whom nobody has woken */
 byte turn;                                  /* the same of those in line, though each has a condition of its own */
 byte deadlines, expired;                    /* of these waits some have deadlines, and some of these have passed */
 byte durable, committed, begun, base;       /* growths since the vector was begun; `begun` is all_begun() */
 byte phases = 1;
 bool unseated, alone, committing, is_stopped, claimed, shut_out, lent, broken;
-byte seats, holds, flushers, asking, waiting, woken;
+byte seats, holds, flushers, asking, paused, owed, waiting, woken;
+bool over, yields, owes_first;
 chan line = [4] of { byte };
 
 /* of each seat */
@@ -72,6 +73,7 @@ bool has_all;            /* a call has all handles */
 byte owner[3] = NOBODY;  /* who has the seat */
 byte caller[3] = NOBODY; /* who is in a call by it */
 byte readers;            /* the threads that read what they were lent */
+byte holding;            /* those that hold the vector */
 bool is_lent;            /* of this phase something was lent, or is about to be */
 
 /* ---- libcvec_threads.a */
@@ -209,7 +211,7 @@ inline make_calls() {
 
 #define settle when(answer == DONE, cvec_phase_settle(); committed = base + told)
 
-inline commit() {
+inline cvec_commit() {
     atomic { cvec_phase_plan() };
 #if BUG == 1
     atomic { settle };
@@ -227,7 +229,7 @@ inline commit() {
 #define is_lasting (answer != DONE && answer != MEMORY)
 #endif
 
-inline come() {
+inline cvec_come() {
     if
     :: woken == 1 -> woken = 0; signal(returned)
     :: woken > 1 -> woken--
@@ -259,7 +261,7 @@ inline end_commit() {
 #endif
 }
 
-inline lead() {
+inline cvec_lead() {
     atomic {
         committing = (BUG != 5);
         if
@@ -272,7 +274,7 @@ inline lead() {
 #endif
         unlock()
     };
-    commit();
+    cvec_commit();
 #if BUG == 7
     atomic { lock(); end_commit(); unlock() };
     atomic { lock(); broken = broken || is_lasting }
@@ -299,12 +301,16 @@ inline lead() {
 
 inline shut() { shut_out = claimed || unseated }
 
+inline claim() {
+    asking = asking + (BUG != 15);
+    claimed = true;
+#if BUG != 16
+    shut()
+#endif
+}
+
 /* While somebody is inside it looks again and again, which changes nothing: here it looks again when nobody is. */
 inline take_all() {
-    atomic { asking = asking + (BUG != 15); claimed = true };
-#if BUG != 16
-    shut();
-#endif
     atomic {
         do
         :: committing && BUG != 17 -> wait(settled, false)
@@ -322,7 +328,7 @@ inline take_all() {
     atomic { unlock(); has_all = true }
 }
 
-inline call_first() {
+inline cvec_call_first() {
     if
     :: line?[0] -> turn = turn & ~1
     :: line?[1] -> turn = turn & ~2
@@ -332,28 +338,72 @@ inline call_first() {
     fi
 }
 
+inline let_others_in() {
+    asking = asking - (BUG != 15);
+    claimed = false;
+    owes_first = len(line) > 0;
+    owed = paused + owes_first;
+    shut();
+#if BUG == 18
+    signal(released);
+#else
+    broadcast(released);
+#endif
+#if BUG != 19
+    cvec_call_first()
+#endif
+}
+
 inline give_all_back() {
     atomic {
         lock();
         has_all = false;
-        asking = asking - (BUG != 15);
-        claimed = false;
-        shut();
         end_commit();
-#if BUG == 18
-        signal(released);
-#else
-        broadcast(released);
-#endif
-#if BUG != 19
-        call_first()
-#endif
+        let_others_in()
     }
+}
+
+inline cvec_come_in_turn() {
+    if
+    :: owed == 1 -> owed = 0; broadcast(came)
+    :: owed > 1 -> owed--
+    :: owed == 0
+    fi
+}
+
+inline cvec_await_release() {
+    if
+    :: claimed ->
+        paused++;
+        do
+        :: claimed ->
+            wait(released, false);
+#if BUG == 31
+            break
+#endif
+        :: else -> break
+        od;
+        paused--;
+        cvec_come_in_turn()
+    :: else
+    fi
+}
+
+inline cvec_await_pause() {
+    asking = asking + (BUG != 57);
+    cvec_await_release();
+#if BUG == 58
+    do
+    :: holds > 0 -> wait(released, false)
+    :: else -> break
+    od;
+#endif
+    asking = asking - (BUG != 57)
 }
 
 #define tell broken = broken || answer == BROKEN || answer == DISK_WRITE || answer == DISK_SYNC
 
-inline settle_listed() {
+inline cvec_settle_listed() {
     atomic {
         assert(!in_commit); /* one thread at a time commits, by a vault */
         in_commit = true
@@ -389,7 +439,7 @@ inline unseat() {
 inline gather() {
     growths = 1;
     do
-    :: answer == DONE && growths > 0 -> commit()
+    :: answer == DONE && growths > 0 -> cvec_commit()
     :: else -> break
     od;
     atomic {
@@ -434,14 +484,14 @@ inline end_phase() {
     fi
 }
 
-inline renew() {
+inline cvec_renew() {
     if
     :: atomic {
            lent && BUG != 51 ->
            assert(is_lent); /* a phase is full where something of it is lent */
            answer = IS_FULL
        }
-    :: atomic { else -> answer = DONE };
+    :: atomic { else -> answer = DONE; claim() };
        take_all();
        end_phase();
        when(answer == DONE, share());
@@ -451,53 +501,68 @@ inline renew() {
 }
 
 #if BUG == 53
-#define is_used (seats > 0)
+#define is_held false
 #else
-#define is_used (seats > 0 || holds > 0)
+#define is_held (holds > 0)
 #endif
 
 inline await_handles() {
     asking = asking + (BUG != 23);
     do
-    :: !is_used && claimed -> wait(released, false)
-    :: !is_used && !claimed && committing && BUG != 24 -> wait(settled, false)
-    :: BUG == 54 && seats == 0 && holds > 0 -> wait(released, false)
+    :: !is_held && claimed -> wait(released, false)
+    :: !is_held && !claimed && owed > 0 -> wait(came, false)
+    :: BUG == 54 && holds > 0 -> wait(released, false)
     :: else -> break
     od;
     asking = asking - (BUG != 23)
 }
 
+inline await_committer() {
+    yields = true;
+    do
+    :: committing && !is_held && BUG != 24 -> wait(settled, false)
+    :: else -> break
+    od;
+    yields = false
+}
+
 inline leave_alone() {
-    assert(seats == 0 && holds == 0); /* a call of the whole vector has it alone */
+    assert(holds == 0); /* a call of the whole vector has it alone */
     give_all_back();
     atomic { end_call() }
 }
 
-inline enter_alone() {
+#define refusal (over -> NOT_SO : ((BUG == 49 -> was : is_held) -> IS_BUSY : ((BUG == 25 -> was : broken) -> BROKEN : DONE)))
+
+inline claim_all() {
     atomic {
-        begin_call();
-        was = (BUG == 25 && broken) || (BUG == 49 && is_used);
+        was = (BUG == 25 && broken) || (BUG == 49 && is_held);
         await_handles();
-        if
-        :: (BUG == 49 -> was : is_used) -> answer = IS_BUSY
-        :: !(BUG == 49 -> was : is_used) && (BUG == 25 -> was : broken) -> answer = BROKEN
-        :: else -> answer = DONE
-        fi;
-        was = false;
-        when(answer != DONE, end_call())
+        answer = refusal;
+        when(answer == DONE,
+            claim();
+            await_committer();
+            answer = refusal;
+            when(answer != DONE, let_others_in()));
+        was = false
     };
+    when(answer == DONE, take_all(); readers = readers & holding) /* others may read no more what they were lent */
+}
+
+inline enter_alone() {
+    atomic { begin_call() };
+    claim_all();
     if
     :: answer == DONE ->
-        take_all();
         when(!alone, gather());
         when(answer != DONE, leave_alone())
-    :: else
+    :: else -> atomic { end_call() }
     fi
 }
 
 inline settle_alone() {
     if
-    :: answer == DONE -> settle_listed()
+    :: answer == DONE -> cvec_settle_listed()
     :: else -> tell
     fi;
     leave_alone()
@@ -525,7 +590,7 @@ inline cvec_vector_change_records() {
 inline cvec_vector_compact() {
     enter_alone();
 #if BUG == 55
-    when(answer == DONE, atomic { lock(); has_all = false; claimed = false; asking--; shut(); broadcast(released); end_call() })
+    when(answer == DONE, atomic { lock(); has_all = false; let_others_in(); end_call() })
 #else
     when(answer == DONE || BUG == 47, leave_alone())
 #endif
@@ -547,19 +612,19 @@ inline give_up() {
 inline commit_rest() {
     growths = 1;
     do
-    :: answer == DONE && growths > 0 -> lead()
+    :: answer == DONE && growths > 0 -> cvec_lead()
     :: else -> break
     od
 }
 
 inline commit_all() {
     if
-    :: alone -> settle_listed()
+    :: alone -> cvec_settle_listed()
     :: else -> commit_rest()
     fi
 }
 
-inline end_flushers() {
+inline cvec_end_flushers() {
     is_stopped = true;
     broadcast(flushing);
     do
@@ -577,13 +642,13 @@ inline cvec_vector_close() {
         lock();
         closing = true;
         when(seats > 0 || (holds > 0 && BUG != 56) || asking > 0, closing = false; unlock(); goto is_busy);
-        when(BUG != 27, end_flushers());
+        when(BUG != 27, cvec_end_flushers());
         answer = (broken -> BROKEN : DONE);
         locked = (BUG != 28)
     };
     when(answer == DONE && BUG != 29, commit_all());
     atomic {
-        when(BUG == 27, end_flushers());
+        when(BUG == 27, cvec_end_flushers());
         unlock()
     };
     give_up();
@@ -601,7 +666,7 @@ inline list_seat() {
     seats++
 }
 
-inline drop_seat() {
+inline cvec_drop_seat() {
     assert(!has_all); /* nobody walks through the seats that are dropped meanwhile */
     owner[seat] = NOBODY;
     caller[seat] = NOBODY;
@@ -610,31 +675,8 @@ inline drop_seat() {
     busy[seat] = FREE; /* its next call finds it so */
     at[seat] = (unseated -> NONE : IDLE);
 #if BUG != 30
-    call_first()
+    cvec_call_first()
 #endif
-}
-
-inline await_release() {
-    do
-    :: claimed ->
-        wait(released, false);
-#if BUG == 31
-        break
-#endif
-    :: else -> break
-    od
-}
-
-inline await_pause() {
-    asking = asking + (BUG != 57);
-    await_release();
-#if BUG == 58
-    do
-    :: holds > 0 -> wait(released, false)
-    :: else -> break
-    od;
-#endif
-    asking = asking - (BUG != 57)
 }
 
 /* The new one has the first place in memory that is free. */
@@ -645,7 +687,7 @@ inline fresh_seat() {
         at[seat] = FRESH;
         cvec_phase_seat()
     };
-    when(answer == NOT_SO, renew());
+    when(answer == NOT_SO, cvec_renew());
     atomic {
         when(answer == DONE && grower[seat] == 0, cvec_phase_seat());
         when(answer != DONE, at[seat] = NONE)
@@ -661,7 +703,7 @@ inline seat_of() {
     atomic {
         when(answer == DONE, list_seat());
 #if BUG != 32
-        call_first()
+        cvec_call_first()
 #endif
     }
 }
@@ -671,7 +713,7 @@ inline seat_of() {
 inline cvec_vector_take_seat() {
     atomic {
         begin_call();
-        await_pause();
+        cvec_await_pause();
         answer = (is_one_spare -> DONE : NOT_SO)
     };
     when(answer == DONE, seat_of());
@@ -688,22 +730,32 @@ inline end_line() {
     asking--
 }
 
+/* Who was called has come. */
+inline is_first() {
+    when(line?[eval(id)] && owes_first, owes_first = false; cvec_come_in_turn())
+}
+
+/* The first one looks besides each millisecond, which here is a wait that ends for nothing. */
+inline await_call() { wait(turn, timed) }
+
 inline await_turn() {
     begin_line();
     late = false;
     do
     :: answer == DONE && (!(line?[eval(id)]) || claimed || seats == SEATS) ->
+        is_first();
         let_pass();
         if
         :: late -> answer = LATE
         :: else ->
-            wait(turn, timed);
+            await_call();
 #if BUG == 33
             break
 #endif
         fi
     :: else -> break
     od;
+    is_first();
     end_line();
     late = false
 }
@@ -717,7 +769,7 @@ inline cvec_vector_seat_within() {
         :: else -> await_turn()
         fi;
         assert(answer != DONE || seats < SEATS); /* whose turn it is has a seat */
-        when(answer != DONE && BUG != 34, call_first())
+        when(answer != DONE && BUG != 34, cvec_call_first())
     };
     when(answer == DONE, seat_of());
     atomic { end_call() }
@@ -725,17 +777,23 @@ inline cvec_vector_seat_within() {
 
 /* ---- holds */
 
+inline await_hold() {
+    when(!yields, cvec_await_pause());
+    when(yields, broadcast(settled))
+}
+
 inline cvec_vector_hold() {
     atomic {
         begin_call();
 #if BUG == 59
         asking++; asking--;
 #elif BUG == 60
-        await_release();
+        cvec_await_release();
 #else
-        await_pause();
+        await_hold();
 #endif
         holds++;
+        holding = holding | MINE;
         assert(!has_all); /* no call has all handles when a hold begins */
         end_call()
     }
@@ -745,7 +803,7 @@ inline cvec_vector_release() {
     atomic {
         begin_call();
         answer = (holds > 0 || BUG == 61 -> DONE : NOT_SO);
-        when(answer == DONE, holds--);
+        when(answer == DONE, holds--; holding = holding & ~MINE);
         end_call()
     }
 }
@@ -776,11 +834,11 @@ inline come_in(past_phase) {
 #if BUG != 35
     busy[seat] = ASIDE;
 #endif
-    atomic { lock(); await_release(); answer = DONE };
+    atomic { lock(); cvec_await_release(); answer = DONE };
     do
     :: answer == DONE && (unseated || phases == past_phase) ->
-        renew();
-        atomic { await_release() }
+        cvec_renew();
+        atomic { cvec_await_release() }
     :: else -> break
     od;
     atomic {
@@ -924,8 +982,8 @@ inline cvec_vector_close_seat() {
         blocks = blocks & ~MY_SEAT;
 #endif
         lock();
-        when(BUG != 37, await_release());
-        drop_seat();
+        when(BUG != 37, cvec_await_release());
+        cvec_drop_seat();
         unlock()
     }
 #if BUG == 69
@@ -945,7 +1003,7 @@ inline await_count(count) {
            when(durable >= (count), answer = DONE; break);
            when(broken && BUG != 9, answer = BROKEN; break);
            when(late, answer = (BUG == 10 -> DONE : LATE); break);
-           when(BUG != 14, come());
+           when(BUG != 14, cvec_come());
            if
            :: (BUG == 12 -> was : committing) ->
                was = (BUG == 12 && committing);
@@ -961,7 +1019,7 @@ inline await_count(count) {
            fi;
            when(unseated && BUG != 13, answer = OUT_OF_RANGE; break)
        };
-       lead();
+       cvec_lead();
        atomic {
            when(answer != DONE, break);
            woken = woken + (woken > 0);
@@ -1013,7 +1071,7 @@ inline flush() {
            when(committing, await_other(false); goto next);
            when((BUG == 38 -> was : alone || unseated), growths = 0; goto next)
        };
-       lead();
+       cvec_lead();
        when(BUG == 39, growths = 1);
 next:  skip
     od;
@@ -1076,4 +1134,59 @@ inline cvec_vector_stop_flusher() {
         broadcast(flushing);
         end_call()
     }
+}
+
+/* ---- seats that are borrowed: no scenario reaches these yet */
+
+inline borrow_in_turn() {
+    atomic {
+        begin_call();
+        answer = DONE;
+        when(seats == SEATS, await_turn());
+        end_call()
+    }
+}
+
+inline hand_back() { atomic { begin_call(); broadcast(handed); cvec_call_first(); end_call() } }
+
+inline make_idle() { atomic { begin_call(); cvec_call_first(); end_call() } }
+
+inline cvec_have_again() { wait(handed, false) }
+
+/* ---- by no seat: no scenario reaches these yet */
+
+inline cvec_vector_settle() {
+    atomic { begin_call(); asking++ };
+    await_count(begun);
+    atomic { asking--; end_call() }
+}
+
+inline cvec_vector_settled() { atomic { begin_call(); end_call() } }
+
+inline run_own_flusher() {
+    do
+    :: !is_stopped && !broken -> flush_once(); atomic { rest() }
+    :: else -> break
+    od;
+    atomic { leave_flushers() }
+}
+
+inline cvec_vector_start_flusher() { atomic { begin_call(); flushers++; end_call() } }
+
+inline await_calls() {
+    over = true;
+    do
+    :: asking > 0 || seats > 0 -> cvec_call_first(); unlock(); lock()
+    :: else -> break
+    od
+}
+
+inline cvec_vector_end() {
+    atomic {
+        lock();
+        answer = (holds > 0 -> IS_BUSY : DONE);
+        when(answer == DONE, await_calls(); cvec_end_flushers())
+    };
+    when(answer == DONE, commit_all());
+    atomic { unlock() }
 }

@@ -17,7 +17,7 @@ functions_with_the_mutex() {
 
 # All that bindings/c/src defines, and what the library for threads exports.
 functions_of_c() {
-    cat "$c_sources"/*.c | sed -n 's/^[a-z][^(]*[ *]\([a-z0-9_]*\)(.*) {.*/\1/p'
+    cat "$c_sources"/*.[ch] | sed -n 's/^[a-z][^(]*[ *]\([a-z0-9_]*\)(.*) {.*/\1/p'
     sed -n 's/^uint32_t \([a-z0-9_]*\)(.*);/\1/p' "$c_headers/cvec_vector.h"
 }
 

@@ -1,4 +1,4 @@
-# Threads of C that grow one vector (`cvec_threads`), by bindings/c/src/cvec_vector.c.
+# Threads of C that grow one vector (`cvec_threads`), by vector.c and the files beside it in bindings/c/src.
 
 # ---- programs, each built once, beside the folder of a test's files
 
@@ -10,6 +10,8 @@ make_threads() {
     mkdir -p "$built"
     [ -e "$built/use" ] || compile_threads "$c/use_vector.c" -o "$built/use"
     [ -e "$built/behaviours" ] || compile_over_library "$top/tests/threads/behaviours.c" "-I$c_sources" -Wl,--wrap=malloc,--wrap=realloc -o "$built/behaviours"
+    [ -e "$built/pauses" ] || compile_over_library "$top/tests/threads/pauses.c" "-I$c_sources" -Wl,--wrap=malloc,--wrap=realloc -o "$built/pauses"
+    [ -e "$built/borrowed" ] || compile_over_library "$top/tests/threads/borrowed.c" "-I$c_sources" -Wl,--wrap=malloc,--wrap=realloc -o "$built/borrowed"
     [ -e "$built/fill" ] || compile_threads "$top/tests/threads/fill.c" -o "$built/fill"
     [ -e "$built/writer" ] || compile_threads "$top/tests/threads/writer.c" -o "$built/writer"
 }
@@ -384,7 +386,7 @@ a_flusher_in_c_ends_by_what_is_refused() (
     a_behaviour_of_a_vector_in_c flusher_fails
 )
 
-a_whole_vector_in_c_is_changed_while_no_seat_is_taken() (
+a_whole_vector_in_c_is_changed() (
     a_behaviour_of_a_vector_in_c alone
     run list u64 "$work/t.cv"
     did '0\n'
@@ -402,6 +404,90 @@ a_whole_vector_in_c_is_changed_while_no_seat_is_taken() (
 
 a_change_of_a_whole_vector_in_c_that_fails_breaks_it() (
     a_behaviour_of_a_vector_in_c alone_faults
+)
+
+# ---- calls of the whole vector beside seats; seats that are borrowed; what settles without one
+
+# Behaviours of this program, by their names.
+behaves() {
+    make_threads
+    program_of_behaviours=$1
+    shift
+    for behaviour in "$@"; do
+        rm -f "$work/t.cv"
+        timeout 120 "$built/$program_of_behaviours" "$behaviour" "$work/t.cv" || { echo "$behaviour" && exit 1; }
+    done
+}
+
+a_whole_vector_in_c_is_changed_beside_seats() (
+    behaves pauses beside_seats waits_for_calls keeps holds_off
+)
+
+nobody_starves_in_c_beside_changes_in_a_loop() (
+    behaves pauses nobody_starves
+)
+
+memory_that_a_change_in_c_is_refused_beside_seats_loses_nothing() (
+    behaves pauses change_memory
+)
+
+a_vector_in_c_settles_without_a_seat() (
+    behaves pauses settles
+)
+
+a_flusher_of_the_librarys_own_ends_with_its_vector() (
+    behaves pauses own_flusher
+)
+
+a_forked_process_borrows_no_seat_and_settles_nothing() (
+    behaves pauses forks
+)
+
+a_vector_in_c_is_opened_or_made() (
+    behaves pauses opens_or_creates
+)
+
+a_seat_in_c_is_borrowed() (
+    behaves borrowed beside_takes keeps_nothing borrow_memory detached
+)
+
+more_threads_of_c_than_seats_borrow_them() (
+    behaves borrowed more_threads waits_in_line
+)
+
+a_wait_in_c_for_the_device_keeps_no_borrowed_seat_from_others() (
+    behaves borrowed settle_lends settle_keeps
+)
+
+a_vector_in_c_is_ended_beside_calls() (
+    behaves borrowed ends
+)
+
+# The same under this sanitizer, but for what refuses memory and forks.
+behaves_under() {
+    has_c || exit $is_skipped
+    has_sanitizer "$1" || exit $is_skipped
+    make_threads_library
+    while read -r name behaviours; do
+        compile_over_library "$top/tests/threads/$name.c" "-I$c_sources" -g "-fsanitize=$1" -fno-sanitize-recover=all \
+            -Wl,--wrap=malloc,--wrap=realloc -o "$work/$name"
+        for behaviour in $behaviours; do
+            rm -f "$work/t.cv"
+            timeout 300 "$work/$name" "$behaviour" "$work/t.cv" 2>"$err" || { cat "$err" && echo "$behaviour" && exit 1; }
+            [ ! -s "$err" ]
+        done
+    done <<'BEHAVIOURS'
+pauses beside_seats waits_for_calls nobody_starves keeps holds_off settles own_flusher opens_or_creates
+borrowed beside_takes keeps_nothing more_threads waits_in_line detached settle_lends settle_keeps ends
+BEHAVIOURS
+}
+
+pauses_and_borrowed_seats_in_c_use_memory_rightly() (
+    behaves_under address,undefined
+)
+
+pauses_and_borrowed_seats_in_c_are_in_order() (
+    behaves_under thread
 )
 
 # Rounds of random calls by 1 to 16 threads, of which half are killed, under this sanitizer.

@@ -1,328 +1,6 @@
-/* Behaviours of cvec_vector.c, each by its name: ./behaviours NAME FILE. The calls of the system that change a file may be
- * cut, refused or interrupted. The status is 0 where the behaviour is as it is promised; else a line says what isn't. */
-#define _GNU_SOURCE 1
-#include <errno.h>
-#include <fcntl.h>
-#include <inttypes.h>
-#include <limits.h>
-#include <pthread.h>
-#include <signal.h>
-#include <spawn.h>
-#include <stdio.h>
-#include <stdlib.h>
-#include <string.h>
-#include <sys/file.h>
-#include <sys/resource.h>
-#include <sys/stat.h>
-#include <sys/types.h>
-#include <sys/wait.h>
-#include <unistd.h>
-
-static int writes, syncs;       /* how many were made */
-static int left = -1;           /* the calls that pass before one fails; none does below 0 */
-static size_t part;             /* the bytes that a write makes at most; all of them at 0 */
-static int interrupts;          /* whether every second call is interrupted first */
-static int turn;
-static int mallocs = -1; /* the requests for memory that pass before one is refused; none is below 0 */
-
-static int waits, timed_waits; /* how many waits were begun: without a deadline, and with one */
-static int dozing;
-static int is_slow; /* a sync takes a millisecond more, and who waits for so long waits a tenth of a second more */
-
-/* While the gate is shut, who syncs is held before it. */
-static pthread_mutex_t gate = PTHREAD_MUTEX_INITIALIZER;
-static pthread_cond_t gate_moved = PTHREAD_COND_INITIALIZER;
-static int is_shut, held;
-
-static void shut_gate(int shut) {
-    pthread_mutex_lock(&gate);
-    is_shut = shut;
-    pthread_cond_broadcast(&gate_moved);
-    pthread_mutex_unlock(&gate);
-}
-
-static void pass_gate(void) {
-    pthread_mutex_lock(&gate);
-    held++;
-    pthread_cond_broadcast(&gate_moved);
-    while (is_shut) pthread_cond_wait(&gate_moved, &gate);
-    held--;
-    pthread_mutex_unlock(&gate);
-}
-
-static void until_held(void) {
-    pthread_mutex_lock(&gate);
-    while (held == 0) pthread_cond_wait(&gate_moved, &gate);
-    pthread_mutex_unlock(&gate);
-}
-
-static int holds(void) {
-    pthread_mutex_lock(&gate);
-    int count = held;
-    pthread_mutex_unlock(&gate);
-    return count;
-}
-
-static void nap(void) {
-    const struct timespec time = {0, 1000000};
-    nanosleep(&time, NULL);
-}
-
-static int wait_opens_gate; /* whether who waits opens the gate for whom it waits */
-
-/* While `dozing` is set, who was woken gets the mutex only after others that want it. */
-static int test_wait(pthread_cond_t *condition, pthread_mutex_t *mutex) {
-    __atomic_add_fetch(&waits, 1, __ATOMIC_SEQ_CST);
-    if (__atomic_load_n(&wait_opens_gate, __ATOMIC_SEQ_CST)) shut_gate(0);
-    int answer = pthread_cond_wait(condition, mutex);
-    if (__atomic_load_n(&dozing, __ATOMIC_SEQ_CST) == 0) return answer;
-    pthread_mutex_unlock(mutex);
-    while (__atomic_load_n(&dozing, __ATOMIC_SEQ_CST)) nap();
-    pthread_mutex_lock(mutex);
-    return answer;
-}
-
-static int test_timedwait(pthread_cond_t *condition, pthread_mutex_t *mutex, const struct timespec *until) {
-    struct timespec moment = *until;
-    __atomic_add_fetch(&timed_waits, 1, __ATOMIC_SEQ_CST);
-    moment.tv_nsec += is_slow ? 100000000 : 0;
-    if (moment.tv_nsec >= 1000000000) {
-        moment.tv_sec++;
-        moment.tv_nsec -= 1000000000;
-    }
-    return pthread_cond_timedwait(condition, mutex, &moment);
-}
-
-/* Whether the process is killed in place of a write or a sync, behind so many of them; none does below 0. */
-static int calls_of_life = -1;
-
-static void live(void) {
-    if (calls_of_life >= 0 && calls_of_life-- == 0) raise(SIGKILL);
-}
-
-/* Where a path is watched, how many writes and syncs found its file locked, and how many not. */
-static const char *watched_path;
-static int locked_calls, unlocked_calls;
-
-static void look_for_lock(void) {
-    if (watched_path == NULL) return;
-    const int other = open(watched_path, O_RDONLY);
-    if (flock(other, LOCK_EX | LOCK_NB) == 0)
-        unlocked_calls++;
-    else
-        locked_calls += errno == EWOULDBLOCK;
-    close(other);
-}
-
-static int fails(void) { return left >= 0 && left-- == 0; }
-
-static int is_interrupted(void) {
-    errno = EINTR;
-    return interrupts && turn++ % 2 == 0;
-}
-
-static ssize_t test_pwrite(int fd, const void *bytes, size_t len, off_t at) {
-    if (is_interrupted()) return -1;
-    live();
-    look_for_lock();
-    __atomic_add_fetch(&writes, 1, __ATOMIC_SEQ_CST);
-    if (fails()) {
-        errno = EIO;
-        return pwrite(fd, bytes, len / 2, at) < 0 ? -1 : (errno = EIO, -1);
-    }
-    return pwrite(fd, bytes, part > 0 && part < len ? part : len, at);
-}
-
-static int test_fdatasync(int fd) {
-    if (is_interrupted()) return -1;
-    live();
-    look_for_lock();
-    pass_gate();
-    if (is_slow) nap();
-    __atomic_add_fetch(&syncs, 1, __ATOMIC_SEQ_CST);
-    if (!fails()) return fdatasync(fd);
-    errno = EIO;
-    return -1;
-}
-
-/* Whether no folder may be read, and whether there is no /dev/null; the path where another file is put in the place of each one
- * that was opened, and how many were; and the least number that a file had at first. */
-static int folders_are_shut, is_null_gone;
-static const char *replaced_path;
-static int opens, least_number;
-
-static int test_open(const char *path, int flags, mode_t mode) {
-    const int is_null = strcmp(path, "/dev/null") == 0;
-    if (is_null && is_null_gone) {
-        errno = ENOENT;
-        return -1;
-    }
-    if (folders_are_shut && (flags & O_DIRECTORY) != 0) {
-        errno = EACCES;
-        return -1;
-    }
-    const int fd = open(path, flags, mode);
-    if (!is_null && fd >= 0 && fd < least_number) least_number = fd;
-    if (replaced_path == NULL || strcmp(path, replaced_path) != 0) return fd;
-    opens++;
-    if (remove(path) == 0) close(open(path, O_CREAT | O_WRONLY, 0666));
-    return fd;
-}
-
-/* While a reader has a lock, a sleep takes no time, and ends that lock where so many have been made. Before, a file may get
- * another name. Signals may cut sleeps, each behind 6 milliseconds; it is counted how many were slept. */
-static int reader = -1, naps, naps_of_reader;
-static const char *moved_from, *moved_to;
-static int naps_are_cut, slept;
-
-/* Whether a signal cuts the sleep of this time, and what of it is left then. */
-static int is_cut(const struct timespec *time, struct timespec *left_over) {
-    const long all = time->tv_nsec, piece = 6000000;
-    if (!naps_are_cut || all <= piece) {
-        slept += (int)(all / 1000000);
-        return 0;
-    }
-    slept += (int)(piece / 1000000);
-    if (left_over != NULL) left_over->tv_nsec = all - piece;
-    errno = EINTR;
-    return 1;
-}
-
-static int test_nanosleep(const struct timespec *time, struct timespec *left_over) {
-    if (reader < 0 && replaced_path == NULL) return nanosleep(time, left_over);
-    if (is_cut(time, left_over)) return -1;
-    if (++naps == naps_of_reader) {
-        if (moved_from != NULL) rename(moved_from, moved_to);
-        flock(reader, LOCK_UN);
-    }
-    return 0;
-}
-
-static int test_fsync(int fd) {
-    if (!fails()) return fsync(fd);
-    errno = EIO;
-    return -1;
-}
-
-static int test_fstat(int fd, struct stat *found) { return is_interrupted() ? -1 : fstat(fd, found); }
-
-static int stats = -1, stat_fault; /* the looks for a name that pass before one fails, and why; none does below 0 */
-
-static int test_stat(const char *path, struct stat *found) {
-    if (stats < 0 || stats-- > 0) return stat(path, found);
-    errno = stat_fault;
-    return -1;
-}
-
-static pid_t number_of_all; /* the number that each process has, or 0: each its own */
-
-static pid_t test_getpid(void) { return number_of_all != 0 ? number_of_all : getpid(); }
-
-static void *test_malloc(size_t len) { return mallocs >= 0 && mallocs-- == 0 ? NULL : malloc(len); }
-
-/* What asks the library for memory may be refused. */
-static int requests = -1; /* of the library's that pass before one is refused; none is below 0 */
-
-#include "cvec_vector.h"
-
-void *__real_malloc(size_t len);
-void *__real_realloc(void *there, size_t len);
-static int is_refused(void) { return requests >= 0 && requests-- == 0; }
-void *__wrap_malloc(size_t len) { return is_refused() ? NULL : __real_malloc(len); }
-void *__wrap_realloc(void *there, size_t len) { return is_refused() ? NULL : __real_realloc(there, len); }
-
-#define getpid test_getpid
-#define malloc test_malloc
-#define nanosleep test_nanosleep
-#define pwrite test_pwrite
-#define fdatasync test_fdatasync
-#define fsync test_fsync
-#define fstat test_fstat
-#define stat(path, found) test_stat(path, found) /* but not the type */
-#define open test_open
-#define pthread_cond_timedwait test_timedwait
-#define pthread_cond_wait test_wait
-#include "system.c"
-
-/* A call of a thread that is to be stopped asks which process this is, on its way in, and goes no further until it may. */
-static __thread int is_to_stop;
-static int has_stopped, may_go_on;
-
-static uint64_t asked_process(void) {
-    if (is_to_stop) {
-        is_to_stop = 0;
-        __atomic_store_n(&has_stopped, 1, __ATOMIC_SEQ_CST);
-        while (!__atomic_load_n(&may_go_on, __ATOMIC_SEQ_CST)) nap();
-    }
-    return cvec_process();
-}
-
-#include "types.c"
-#define cvec_process asked_process
-#include "cvec_vector.c"
-#undef cvec_process
-#undef pthread_cond_wait
-#undef pthread_cond_timedwait
-#undef malloc
-#undef getpid
-#undef nanosleep
-#undef pwrite
-#undef fdatasync
-#undef fsync
-#undef fstat
-#undef stat
-#undef open
-
-#include "typed.h"
-
-static int wrong;
-
-/* What isn't so is told, by its line. */
-#define HOLDS(claim) \
-    do \
-        if (!(claim)) { \
-            printf("line %d: not so: %s\n", __LINE__, #claim); \
-            wrong = 1; \
-        } \
-    while (0)
-
-static cvec_vector *vector;
-static cvec_vector_seat *seat;
-
-/* A new vector with so many seats, one of them taken, and with phases of so many growths. */
-static void make_narrow(const char *path, uint16_t seats, uint64_t growths) {
-    const cvec_options options = {1, seats, growths};
-    HOLDS(cvec_vector_create_with(&vector, path, CVEC_U64, &options) == CVEC_DONE);
-    if (wrong) exit(1);
-    HOLDS(cvec_vector_take_seat(vector, &seat) == CVEC_DONE);
-    if (wrong) exit(1);
-}
-
-/* With as many as there can be. */
-static void make(const char *path, uint16_t seats) { make_narrow(path, seats, 0); }
-
-static uint32_t grow(uint64_t record, uint64_t *number) {
-    cvec_receipt receipt;
-    uint32_t status = cvec_vector_grow(seat, &record, 1, &receipt);
-    if (status == CVEC_DONE) *number = receipt.number;
-    return status;
-}
-
-/* Opens the file again, and answers how many records there are, which are 0, 1, .. in order. */
-static uint64_t found(const char *path) {
-    static uint64_t seen[1 << 18];
-    uint64_t size = 0, count = 0;
-    HOLDS(cvec_vector_open(&vector, path, 1) == CVEC_DONE);
-    if (wrong) return 0;
-    HOLDS(cvec_vector_take_seat(vector, &seat) == CVEC_DONE);
-    HOLDS(cvec_vector_size(seat, &size) == CVEC_DONE);
-    HOLDS(cvec_vector_read(seat, 0, seen, 1 << 18, &count) == CVEC_DONE);
-    HOLDS(count == size);
-    for (uint64_t k = 0; k < count; k++) HOLDS(seen[k] == k);
-    HOLDS(cvec_vector_close_seat(seat) == CVEC_DONE);
-    HOLDS(cvec_vector_close(vector) == CVEC_DONE);
-    return size;
-}
+/* Behaviours of the C for threads, each by its name: ./behaviours NAME FILE. The status is 0 where the behaviour is as it is promised;
+ * else a line says what isn't. */
+#include "held.h"
 
 static void locks(const char *path) {
     cvec_vector *second;
@@ -484,7 +162,7 @@ static void is_busy(const char *path) {
     HOLDS(cvec_vector_await(seat, 0) == CVEC_BUSY);
     HOLDS(cvec_vector_await_for(seat, 0, 1) == CVEC_BUSY);
     HOLDS(cvec_vector_size(seat, &count) == CVEC_BUSY);
-    HOLDS(cvec_vector_settled(seat, &count) == CVEC_BUSY);
+    HOLDS(cvec_seat_settled(seat, &count) == CVEC_BUSY);
     HOLDS(cvec_vector_read(seat, 0, &count, 1, &count) == CVEC_BUSY);
     HOLDS(cvec_vector_at(seat, 0, &count) == CVEC_BUSY);
     HOLDS(cvec_vector_push(seat, &number) == CVEC_BUSY);
@@ -503,7 +181,7 @@ static void is_busy(const char *path) {
     HOLDS(grow(0, &number) == CVEC_DONE);
     HOLDS(cvec_vector_await(seat, number) == CVEC_DONE);
     HOLDS(cvec_vector_size(seat, &count) == CVEC_DONE && count == 1);
-    HOLDS(cvec_vector_settled(seat, &count) == CVEC_DONE && count == 1);
+    HOLDS(cvec_seat_settled(seat, &count) == CVEC_DONE && count == 1);
     HOLDS(cvec_vector_read(seat, 0, &number, 1, &count) == CVEC_DONE && count == 1);
     HOLDS(cvec_vector_at(seat, 0, &number) == CVEC_DONE);
     HOLDS(cvec_vector_push_block(seat, 5) == CVEC_DONE);
@@ -534,7 +212,7 @@ static int is_refused_in_a_fork(void) {
            cvec_vector_count(seat, 0, &number) == CVEC_FORKED && cvec_vector_find(seat, 0, 0, &number) == CVEC_FORKED &&
            cvec_vector_hold(vector) == CVEC_FORKED && cvec_vector_release(vector) == CVEC_FORKED &&
            cvec_vector_compact(vector) == CVEC_FORKED && grow(7, &number) == CVEC_FORKED && cvec_vector_await(seat, 0) == CVEC_FORKED &&
-           cvec_vector_size(seat, &number) == CVEC_FORKED && cvec_vector_settled(seat, &number) == CVEC_FORKED &&
+           cvec_vector_size(seat, &number) == CVEC_FORKED && cvec_seat_settled(seat, &number) == CVEC_FORKED &&
            cvec_vector_read(seat, 0, &number, 1, &number) == CVEC_FORKED && cvec_vector_take_seat(vector, &other) == CVEC_FORKED &&
            cvec_vector_await_for(seat, 0, 1) == CVEC_FORKED && cvec_vector_run_flusher(vector, 1) == CVEC_FORKED &&
            cvec_vector_seat_within(vector, 1, &other) == CVEC_FORKED && cvec_vector_stop_flusher(vector) == CVEC_FORKED &&
@@ -551,7 +229,7 @@ static int has_its_own_in_a_fork(const char *path) {
     cvec_vector_seat *parents = seat;
     snprintf(own, sizeof own, "%s.child", path);
     make(own, 1);
-    return grow(9, &number) == CVEC_DONE && cvec_vector_settled(parents, &number) == CVEC_FORKED &&
+    return grow(9, &number) == CVEC_DONE && cvec_seat_settled(parents, &number) == CVEC_FORKED &&
            cvec_vector_await(seat, 0) == CVEC_DONE && cvec_vector_close_seat(seat) == CVEC_DONE &&
            cvec_vector_close(vector) == CVEC_DONE;
 }
@@ -681,7 +359,7 @@ static void fails_at(const char *path, int call) {
     uint32_t failed = cvec_vector_await(seat, number);
     left = -1;
     HOLDS(failed == (call % 2 == 0 ? CVEC_DISK_WRITE : CVEC_DISK_SYNC));
-    HOLDS(cvec_vector_settled(seat, &count) == CVEC_DONE && count == 1);
+    HOLDS(cvec_seat_settled(seat, &count) == CVEC_DONE && count == 1);
     HOLDS(cvec_vector_await(seat, 0) == CVEC_DONE);
     HOLDS(cvec_vector_await(seat, number) == CVEC_BROKEN);
     HOLDS(grow(2, &number) == CVEC_BROKEN);
@@ -883,15 +561,15 @@ static void full(const char *path) {
     HOLDS(cvec_vector_take_seat(vector, &other) == CVEC_DONE);
     for (uint64_t k = 0; k < 2 * MOST + 1; k++) {
         if (grow(k, &number) != CVEC_DONE || number != k) HOLDS(!"it was grown");
-        if (k == MOST - 1) HOLDS(cvec_vector_settled(other, &count) == CVEC_DONE && count == 0);
-        if (k == MOST) HOLDS(cvec_vector_settled(other, &count) == CVEC_DONE && count == MOST);
+        if (k == MOST - 1) HOLDS(cvec_seat_settled(other, &count) == CVEC_DONE && count == 0);
+        if (k == MOST) HOLDS(cvec_seat_settled(other, &count) == CVEC_DONE && count == MOST);
         if (wrong) return;
     }
     HOLDS(cvec_vector_at(other, MOST, &count) == CVEC_DONE && count == MOST);
     HOLDS(cvec_vector_await_for(other, 0, 0) == CVEC_DONE && cvec_vector_await_for(other, 2 * MOST - 1, 0) == CVEC_DONE);
-    HOLDS(cvec_vector_settled(other, &count) == CVEC_DONE && count == 2 * MOST);
+    HOLDS(cvec_seat_settled(other, &count) == CVEC_DONE && count == 2 * MOST);
     HOLDS(cvec_vector_await(other, 2 * MOST + 1) == CVEC_OUT_OF_RANGE);
-    HOLDS(cvec_vector_settled(seat, &count) == CVEC_DONE && count == 2 * MOST + 1);
+    HOLDS(cvec_seat_settled(seat, &count) == CVEC_DONE && count == 2 * MOST + 1);
     count = 2 * MOST + 1;
     HOLDS(cvec_vector_grow(other, &count, 1, &receipt) == CVEC_DONE && receipt.number == 2 * MOST + 1 && receipt.serial == 0);
     HOLDS(receipt.seat == 1 && receipt.start == 2 * MOST + 1 && receipt.len == 1);
@@ -926,7 +604,7 @@ static uint32_t end_of(struct wait *wait) {
 
 static uint64_t settled(void) {
     uint64_t count = 0;
-    HOLDS(cvec_vector_settled(seat, &count) == CVEC_DONE);
+    HOLDS(cvec_seat_settled(seat, &count) == CVEC_DONE);
     return count;
 }
 
@@ -952,7 +630,7 @@ static void late(const char *path) {
     for (uint64_t milliseconds = 0; milliseconds < 30; milliseconds += 7)
         for (number = 0; number < 2; number++) HOLDS(cvec_vector_await_for(seat, number, milliseconds) == CVEC_LATE);
     HOLDS(settled() == 0);
-    for (uint64_t milliseconds = 0; milliseconds < 1000; milliseconds++) HOLDS(moment_in(milliseconds).tv_nsec < 1000000000);
+    for (uint64_t milliseconds = 0; milliseconds < 1000; milliseconds++) HOLDS(cvec_moment_in(milliseconds).tv_nsec < 1000000000);
     /* A wait sleeps: it isn't woken again and again. */
     HOLDS(__atomic_load_n(&timed_waits, __ATOMIC_SEQ_CST) < 1000);
     shut_gate(0);
@@ -1252,6 +930,13 @@ static void all_answer(uint32_t answer) {
     HOLDS(cvec_vector_compact(vector) == answer);
 }
 
+/* While somebody holds the vector each is refused, also while a seat is taken. */
+static void all_are_held_off(void) {
+    HOLDS(cvec_vector_hold(vector) == CVEC_DONE);
+    all_answer(CVEC_BUSY);
+    HOLDS(cvec_vector_release(vector) == CVEC_DONE);
+}
+
 /* How many records equal this one, and the first position from there on that has it, as a new seat finds them. */
 static uint64_t counted(uint64_t record) {
     uint64_t count = 9;
@@ -1275,12 +960,12 @@ static void grown(const char *path) {
     for (uint64_t k = 0; k < 3; k++) HOLDS(grow(k, &number) == CVEC_DONE);
     HOLDS(cvec_vector_await(seat, number) == CVEC_DONE);
     first = seat;
-    all_answer(CVEC_BUSY);
+    all_are_held_off();
     HOLDS(cvec_vector_take_seat(vector, &seat) == CVEC_DONE);
     if (wrong) exit(1);
     for (uint64_t k = 3; k < 6; k++) HOLDS(grow(k, &number) == CVEC_DONE && number == k);
     HOLDS(cvec_vector_close_seat(first) == CVEC_DONE);
-    all_answer(CVEC_BUSY);
+    all_are_held_off();
     HOLDS(cvec_vector_close_seat(seat) == CVEC_DONE);
 }
 
@@ -1320,9 +1005,9 @@ static void alone(const char *path) {
     HOLDS(cvec_vector_take_seat(vector, &seat) == CVEC_DONE);
     HOLDS(cvec_vector_take_seat(vector, &second) == CVEC_DONE);
     HOLDS(grow(0, &number) == CVEC_DONE && number == 0);
-    HOLDS(cvec_vector_settled(seat, &place) == CVEC_DONE && place == 0);
+    HOLDS(cvec_seat_settled(seat, &place) == CVEC_DONE && place == 0);
     HOLDS(cvec_vector_await(second, number) == CVEC_DONE);
-    HOLDS(cvec_vector_settled(second, &place) == CVEC_DONE && place == 1);
+    HOLDS(cvec_seat_settled(second, &place) == CVEC_DONE && place == 1);
     HOLDS(cvec_vector_close_seat(seat) == CVEC_DONE);
     HOLDS(cvec_vector_close_seat(second) == CVEC_DONE);
     HOLDS(cvec_vector_close(vector) == CVEC_DONE);
@@ -1406,7 +1091,7 @@ static uint32_t waits_for_flusher(void *(*call)(void *)) {
     return answer;
 }
 
-/* A call of the whole vector waits for a flusher that commits, but for nobody where a seat is taken. */
+/* A call of the whole vector waits for a flusher that commits, but for nobody where the vector is held. */
 static void alone_waits(const char *path) {
     struct wait first;
     uint64_t number = 0;
@@ -1416,7 +1101,7 @@ static void alone_waits(const char *path) {
     shut_gate(1);
     begin_wait(&first, number, 0);
     until_held();
-    all_answer(CVEC_BUSY);
+    all_are_held_off();
     HOLDS(cvec_vector_take_seat(vector, &seat) == CVEC_DONE);
     shut_gate(0);
     HOLDS(end_of(&first) == CVEC_DONE && cvec_vector_close_seat(first.seat) == CVEC_DONE);
@@ -2195,11 +1880,16 @@ static void *run_size(void *size) {
     return NULL;
 }
 
+static void *run_compact(void *answer) {
+    __atomic_store_n((uint32_t *)answer, cvec_vector_compact(vector), __ATOMIC_SEQ_CST);
+    return NULL;
+}
+
 /* Beside a renewal that is held in its sync: who awaits and has a deadline isn't held longer, nor is who waits for a seat; a call that
- * would use its grower waits; the whole vector isn't had; a flusher waits too. */
+ * would use its grower waits, and so does one of the whole vector; a flusher waits too. */
 static void renewal_waits(const char *path) {
-    pthread_t grower, reader_thread, flusher;
-    uint32_t answer = CVEC_BUSY;
+    pthread_t grower, reader_thread, flusher, whole;
+    uint32_t answer = CVEC_BUSY, compacted = CVEC_BUSY;
     uint64_t size = 9;
     cvec_vector_seat *third = NULL;
     struct wait first;
@@ -2211,16 +1901,17 @@ static void renewal_waits(const char *path) {
     begin_wait(&first, 4, 30);
     HOLDS(end_of(&first) == CVEC_LATE);
     HOLDS(cvec_vector_seat_within(vector, 20, &third) == CVEC_LATE && third == NULL);
-    all_answer(CVEC_BUSY);
+    pthread_create(&whole, NULL, run_compact, &compacted);
     begin_flusher(&flusher, &soon);
     while (flushers() == 0) nap();
     pthread_create(&reader_thread, NULL, run_size, &size);
     while (__atomic_load_n(&beside->busy, __ATOMIC_SEQ_CST) != ASIDE) nap();
-    HOLDS(holds() == 1 && size == 9);
+    HOLDS(holds() == 1 && size == 9 && __atomic_load_n(&compacted, __ATOMIC_SEQ_CST) == CVEC_BUSY);
     shut_gate(0);
     pthread_join(grower, NULL);
     pthread_join(reader_thread, NULL);
-    HOLDS(answer == CVEC_DONE && (size == 5 || size == 6));
+    pthread_join(whole, NULL);
+    HOLDS(answer == CVEC_DONE && compacted == CVEC_DONE && (size == 5 || size == 6));
     HOLDS(cvec_vector_stop_flusher(vector) == CVEC_DONE && end_of_flusher(flusher) == CVEC_DONE);
     HOLDS(cvec_vector_close_seat(beside) == CVEC_DONE);
     leaves_positions(path, 6);
@@ -2320,7 +2011,7 @@ static void grow_one(cvec_vector_seat *own, uint64_t record, uint64_t *size, uin
     *size = now;
     is_mine(own, receipt.start, record);
     if (record % 7 == 0) HOLDS(cvec_vector_await(own, receipt.number) == CVEC_DONE);
-    HOLDS(cvec_vector_settled(own, &now) == CVEC_DONE && now >= *durable);
+    HOLDS(cvec_seat_settled(own, &now) == CVEC_DONE && now >= *durable);
     HOLDS(record % 7 != 0 || now > receipt.number);
     *durable = now;
 }
@@ -2343,8 +2034,7 @@ static void *run_renewer(void *unused) {
 static void *run_whole(void *ends) {
     const uint64_t none = 0;
     while (!__atomic_load_n((int *)ends, __ATOMIC_SEQ_CST)) {
-        const uint32_t answer = cvec_vector_change(vector, 0, &none, 0);
-        HOLDS(answer == CVEC_DONE || answer == CVEC_BUSY);
+        HOLDS(cvec_vector_change(vector, 0, &none, 0) == CVEC_DONE);
         nap();
     }
     return NULL;
@@ -2352,7 +2042,7 @@ static void *run_whole(void *ends) {
 
 static void renewals(const char *path) {
     static uint64_t seen[RENEWERS * (TURNS + 200)], next[RENEWERS];
-    const cvec_options narrow = {0, 8, 50};
+    const cvec_options narrow = {0, 8, 0, 50};
     pthread_t threads[RENEWERS], flusher, whole;
     uint64_t count = 0;
     int ends = 0;
@@ -2666,7 +2356,7 @@ static void seats_in_line(const char *path) {
         begin_want(&first, 30000, 0);
         begin_want(&second, 30000, 1);
         pthread_mutex_lock(&vector->mutex);
-        drop_seat(vector, seat);
+        cvec_drop_seat(vector, seat);
         pthread_cond_signal(&vector->line->next->turn);
         HOLDS(!is_one_spare(vector) && vector->asking == 2);
         pthread_mutex_unlock(&vector->mutex);
@@ -2674,8 +2364,8 @@ static void seats_in_line(const char *path) {
         HOLDS(first.answer == CVEC_DONE && first.waited < 20000 && queued() == 1);
         begin_want(&first, 30000, 1);
         pthread_mutex_lock(&vector->mutex);
-        drop_seat(vector, other);
-        drop_seat(vector, vector->first);
+        cvec_drop_seat(vector, other);
+        cvec_drop_seat(vector, vector->first);
         HOLDS(vector->seats == 0 && vector->asking == 2);
         pthread_mutex_unlock(&vector->mutex);
         pthread_join(first.thread, NULL);

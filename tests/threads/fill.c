@@ -66,7 +66,7 @@ static void *run_reader(void *unused) {
         REQUIRE(cvec_vector_size(seat, &now) == CVEC_DONE && now >= size);
         size = now;
         REQUIRE(size == 0 || cvec_vector_at(seat, size - 1, &record) == CVEC_DONE);
-        REQUIRE(cvec_vector_settled(seat, &now) == CVEC_DONE && now >= durable);
+        REQUIRE(cvec_seat_settled(seat, &now) == CVEC_DONE && now >= durable);
         durable = now;
         const struct timespec time = {0, 100000};
         nanosleep(&time, NULL);
@@ -75,13 +75,15 @@ static void *run_reader(void *unused) {
     return NULL;
 }
 
-/* Seats are taken all the while. */
+/* Each is refused while the vector is held. */
 static void *run_whole(void *unused) {
     const uint32_t record = 0;
     (void)unused;
     while (!has_ended()) {
+        REQUIRE(cvec_vector_hold(vector) == CVEC_DONE);
         REQUIRE(cvec_vector_change_records(vector, 0, &record, 1) == CVEC_BUSY);
         REQUIRE(cvec_vector_compact(vector) == CVEC_BUSY);
+        REQUIRE(cvec_vector_release(vector) == CVEC_DONE);
         const struct timespec time = {0, 1000000};
         nanosleep(&time, NULL);
     }
@@ -132,7 +134,7 @@ int main(int argc, char **argv) {
     if (argc < 5) return 2;
     const uint32_t threads = (uint32_t)strtoul(argv[2], NULL, 10);
     if (threads == 0 || threads > MOST_THREADS) return 2;
-    const cvec_options options = {2, (uint16_t)(threads + 1), strtoull(argv[4], NULL, 10)};
+    const cvec_options options = {2, (uint16_t)(threads + 1), 0, strtoull(argv[4], NULL, 10)};
     each = strtoull(argv[3], NULL, 10) / threads;
     is_told = argc > 5;
     REQUIRE(cvec_vector_create_with(&vector, argv[1], CVEC_U32, &options) == CVEC_DONE);

@@ -1,4 +1,4 @@
-/* What cvec_vector.c lends, each behaviour by its name: lent NAME FILE. The status is 0 where the behaviour is as it is promised; else
+/* What the C for threads lends, each behaviour by its name: lent NAME FILE. The status is 0 where the behaviour is as it is promised; else
  * a line says what isn't. */
 #define _POSIX_C_SOURCE 200809L
 #include "cvec_vector.h"
@@ -30,7 +30,7 @@ static cvec_vector_seat *seat, *other;
 
 /* A new vector of this type, with two seats, both taken, and with phases of so many growths. */
 static void make(const char *path, cvec_type type, uint64_t growths) {
-    const cvec_options options = {2, 8, growths};
+    const cvec_options options = {2, 8, 0, growths};
     remove(path);
     HOLDS(cvec_vector_create_with(&vector, path, type, &options) == CVEC_DONE);
     if (is_wrong()) exit(1);
@@ -51,7 +51,7 @@ static uint64_t size_by(cvec_vector_seat *own) {
 
 static uint64_t settled(void) {
     uint64_t count = UINT64_MAX;
-    HOLDS(cvec_vector_settled(seat, &count) == CVEC_DONE);
+    HOLDS(cvec_seat_settled(seat, &count) == CVEC_DONE);
     return count;
 }
 
@@ -526,7 +526,8 @@ static void is_full(const uint64_t *lent, uint64_t value, uint64_t size) {
         HOLDS(are_numbers(CVEC_U64, records, 3, 2) && cvec_vector_drop(seat) == CVEC_DONE && *lent == value);
         HOLDS(cvec_vector_push_block(other, 1) == CVEC_DONE && cvec_vector_push(other, &pushed) == CVEC_FULL && *lent == value);
         HOLDS(cvec_vector_take_seat(vector, &third) == CVEC_DONE && size_by(third) == size);
-        HOLDS(cvec_vector_close_seat(third) == CVEC_DONE && *lent == value && cvec_vector_compact(vector) == CVEC_BUSY);
+        HOLDS(cvec_vector_close_seat(third) == CVEC_DONE && *lent == value && cvec_vector_hold(vector) == CVEC_DONE);
+        HOLDS(cvec_vector_compact(vector) == CVEC_BUSY && cvec_vector_release(vector) == CVEC_DONE);
     }
     HOLDS(cvec_vector_await(seat, size - 1) == CVEC_DONE && settled() == size && *lent == value);
     HOLDS(place_of(seat, 0) == lent && place_of(other, 0) == lent);
@@ -605,9 +606,10 @@ static void stays_beside_refusals(const char *path) {
     make(path, CVEC_U64, PHASE);
     grow_all(0, PHASE);
     const uint64_t *const lent = place_of(seat, 0);
-    HOLDS(cvec_vector_close_seat(seat) == CVEC_DONE);
+    HOLDS(cvec_vector_close_seat(seat) == CVEC_DONE && cvec_vector_hold(vector) == CVEC_DONE);
     HOLDS(cvec_vector_compact(vector) == CVEC_BUSY && cvec_vector_clear(vector) == CVEC_BUSY);
     HOLDS(cvec_vector_change(vector, 0, &record, 1) == CVEC_BUSY && cvec_vector_close(vector) == CVEC_BUSY);
+    HOLDS(cvec_vector_release(vector) == CVEC_DONE);
     HOLDS(grow(other, 5) == CVEC_FULL && *lent == UINT64_MAX && place_of(other, 0) == lent);
     HOLDS(cvec_vector_take_seat(vector, &seat) == CVEC_DONE);
     close_all();
@@ -620,9 +622,9 @@ static void options(const char *path) {
     static const struct {
         cvec_options options;
         uint32_t answer;
-    } none[] = {{{3, 1, 8}, CVEC_NOT_SO},          {{UINT8_MAX, 1, 8}, CVEC_NOT_SO},       {{1, 65, 8}, CVEC_TOO_LARGE},
-                {{1, 1, 536870905}, CVEC_TOO_LARGE}, {{1, 1, UINT64_MAX}, CVEC_TOO_LARGE}, {{0, UINT16_MAX, 0}, CVEC_TOO_LARGE}},
-      some[] = {{{0, 0, 0}, CVEC_DONE}, {{2, 1, 536870904}, CVEC_DONE}, {{0, 1, 1}, CVEC_DONE}, {{1, 64, 0}, CVEC_DONE}};
+    } none[] = {{{3, 1, 0, 8}, CVEC_NOT_SO},          {{UINT8_MAX, 1, 0, 8}, CVEC_NOT_SO},       {{1, 65, 0, 8}, CVEC_TOO_LARGE},
+                {{1, 1, 0, 536870905}, CVEC_TOO_LARGE}, {{1, 1, 0, UINT64_MAX}, CVEC_TOO_LARGE}, {{0, UINT16_MAX, 0, 0}, CVEC_TOO_LARGE}},
+      some[] = {{{0, 0, 0, 0}, CVEC_DONE}, {{2, 1, 0, 536870904}, CVEC_DONE}, {{0, 1, 0, 1}, CVEC_DONE}, {{1, 64, 131071, 0}, CVEC_DONE}};
     for (size_t k = 0; k < sizeof none / sizeof *none; k++) {
         vector = (cvec_vector *)&vector;
         HOLDS(cvec_vector_create_with(&vector, path, CVEC_U64, &none[k].options) == none[k].answer && vector == NULL);
@@ -657,7 +659,7 @@ static int version_of(const char *path) {
 
 /* What isn't said is the default: 64 seats, a file of version 1; and a file is opened with options too. */
 static void defaults(const char *path) {
-    const cvec_options version_2 = {2, 0, 0}, seats_3 = {2, 3, 1};
+    const cvec_options version_2 = {2, 0, 0, 0}, seats_3 = {2, 3, 0, 1};
     HOLDS(cvec_vector_create_with(&vector, path, CVEC_U64, NULL) == CVEC_DONE && all_seats() == 64);
     HOLDS(cvec_vector_close(vector) == CVEC_DONE && version_of(path) == 1);
     HOLDS(cvec_vector_open_with(&vector, path, CVEC_U64, NULL) == CVEC_DONE && all_seats() == 64);
@@ -687,7 +689,7 @@ static uint64_t addresses(void) {
 
 /* How many more a vector of so many seats takes, with phases of so many growths. */
 static uint64_t addresses_of(const char *path, uint16_t seats, uint64_t growths) {
-    const cvec_options options = {1, seats, growths};
+    const cvec_options options = {1, seats, 0, growths};
     remove(path);
     const uint64_t before = addresses();
     HOLDS(cvec_vector_create_with(&vector, path, CVEC_U64, &options) == CVEC_DONE);

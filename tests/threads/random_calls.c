@@ -1,4 +1,4 @@
-/* Random calls of cvec_vector.c by 1 to 16 threads, whose answers are checked by what each thread knows:
+/* Random calls of the C for threads by 1 to 16 threads, whose answers are checked by what each thread knows:
  * random_calls FILE SEED ROUNDS. A round runs in a process of its own. At its end calls of the whole vector are made, which leave
  * each record as it is, and the vector is closed; or the process is killed behind so many calls. Then the file is opened again:
  * it has each growth that was known to be durable, and whole growths alone. The status is 0 where all is as it is promised; else
@@ -172,9 +172,10 @@ static void read_lent(struct thread *own) {
         if (((const uint64_t *)pieces[0].records)[at] != record(own->name, turn, receipt->len, at)) HOLDS(!"its own growth is lent");
 }
 
-/* While it holds the vector, no call of the whole vector is made. */
+/* While it holds the vector, no call of the whole vector is made: so what is lent may be read. */
 static void hold(struct thread *own) {
-    HOLDS(cvec_vector_hold(vector) == CVEC_DONE && cvec_vector_compact(vector) == CVEC_BUSY);
+    HOLDS(cvec_vector_hold(vector) == CVEC_DONE);
+    if (below(&own->random, 2) == 0) HOLDS(cvec_vector_compact(vector) == CVEC_BUSY);
     read_lent(own);
     HOLDS(cvec_vector_release(vector) == CVEC_DONE);
 }
@@ -203,7 +204,7 @@ static void read_any(struct thread *own) {
 
 static void ask_settled(struct thread *own) {
     uint64_t settled = 0;
-    HOLDS(cvec_vector_settled(own->seat, &settled) == CVEC_DONE && settled >= own->settled);
+    HOLDS(cvec_seat_settled(own->seat, &settled) == CVEC_DONE && settled >= own->settled);
     own->settled = settled;
 }
 
@@ -242,7 +243,7 @@ static void call_common(struct thread *own) {
     uint64_t answer = 0;
     const uint64_t which = below(&own->random, 5);
     const uint32_t status = which == 0   ? cvec_vector_size(common, &answer)
-                            : which == 1 ? cvec_vector_settled(common, &answer)
+                            : which == 1 ? cvec_seat_settled(common, &answer)
                             : which == 2 ? cvec_vector_read(common, below(&own->random, own->size + 1), own->room, 50, &answer)
                             : which == 3 ? cvec_vector_at(common, below(&own->random, own->size + 1), own->room)
                                          : cvec_vector_await_for(common, 0, 0);
@@ -255,21 +256,54 @@ static void close_too_early(struct thread *own) {
     HOLDS(cvec_vector_close(vector) == CVEC_BUSY);
 }
 
-static void (*const calls[])(struct thread *) = {
-    grow,     grow,     grow,        grow,      push,          push,       grow_in_place, grow_in_place, grow_what_is_refused,
-    read_own, read_one, read_lent,   read_lent, count_a_head,  find_a_head, hold,
-    read_any, ask_size, ask_settled, await_own, await_own_for, await_none, change_seat,   call_common,   close_too_early,
-};
-
-/* ---- the calls of the whole vector, of what this thread has grown */
-
-static void change_to_the_same(struct thread *own) {
+static uint32_t change_own(struct thread *own) {
     uint64_t turn;
     const cvec_receipt *receipt = any(own, &turn);
     const uint64_t skipped = below(&own->random, receipt->len), left = receipt->len - skipped, count = left < 1000 ? left : 1000;
     for (uint64_t at = 0; at < count; at++) own->room[at] = record(own->name, turn, receipt->len, skipped + at);
-    HOLDS(cvec_vector_change(vector, receipt->start + skipped, own->room, count) == CVEC_DONE);
+    return cvec_vector_change(vector, receipt->start + skipped, own->room, count);
 }
+
+/* A call of the whole vector beside those by seats. It leaves each record as it is. */
+static void whole_beside(struct thread *own) {
+    const uint64_t which = below(&own->random, 9);
+    if (which > 2 || own->turns == 0) return;
+    const uint32_t status = which == 0 ? change_own(own) : which == 1 ? cvec_vector_fold(vector) : cvec_vector_compact(vector);
+    HOLDS(status == CVEC_DONE || status == CVEC_BUSY);
+}
+
+/* By a seat that is borrowed, all that has returned is settled. */
+static void settle_all(struct thread *own) {
+    uint64_t settled = 0;
+    if (own->turns == 0) return;
+    HOLDS(cvec_vector_settle(vector, CVEC_NO_LIMIT) == CVEC_DONE && cvec_vector_settled(vector, &settled) == CVEC_DONE);
+    HOLDS(settled > own->receipts[own->turns - 1].number);
+    ask_settled(own);
+}
+
+/* Another growth of this thread, by a seat that is borrowed where there is one. */
+static void grow_by_any(struct thread *own) {
+    cvec_vector_seat *seat = NULL;
+    const cvec_vector_seat *const its = own->seat;
+    const uint32_t status = cvec_seat_borrow(vector, below(&own->random, 20), &seat);
+    HOLDS((status == CVEC_DONE && seat != NULL && seat != its) || (status == CVEC_LATE && seat == NULL));
+    if (seat == NULL) return;
+    cvec_vector_seat *const kept = own->seat;
+    own->seat = seat;
+    (below(&own->random, 2) == 0 ? grow : push)(own);
+    own->seat = kept;
+    HOLDS(cvec_seat_return(&seat) == CVEC_DONE && seat == NULL);
+}
+
+static void (*const calls[])(struct thread *) = {
+    grow,     grow,        grow,       grow,        push,          push,       grow_in_place, grow_in_place, grow_what_is_refused,
+    read_own, read_one,    hold,       hold,        count_a_head,  find_a_head, whole_beside, settle_all,    grow_by_any, grow_by_any,
+    read_any, ask_size,    ask_settled, await_own,  await_own_for, await_none, change_seat,   call_common,   close_too_early,
+};
+
+/* ---- the calls of the whole vector, of what this thread has grown */
+
+static void change_to_the_same(struct thread *own) { HOLDS(change_own(own) == CVEC_DONE); }
 
 static void fold(struct thread *own) {
     (void)own;

@@ -1,4 +1,4 @@
-/* Growths of cvec_vector.c where memory is refused: refused FILE. A file is made, grown by each call and closed, once with the first
+/* Growths of the C for threads where memory is refused: refused FILE. A file is made, grown by each call and closed, once with the first
  * request for memory refused, once with the second, and so on, until none is met. A call that answers CVEC_MEMORY is made once
  * more. The status is 0 where each growth is then made, and the file has what was awaited; else a line says what isn't so. */
 #define _POSIX_C_SOURCE 200809L

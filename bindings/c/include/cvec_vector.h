@@ -1,8 +1,8 @@
 /* A durable vector that threads of one process grow, from C (C99) and C++, over POSIX threads. Its records are of one type of
  * enum cvec_type (cvec.h), which is passed where it is made or opened.
  *
- * The first part is what cvec_vector.c offers: opaque pointers, one vector for a file, and a seat for each thread. It makes
- * the calls of the system, and is not proved. The second part is libcvec_threads.a, which is proved: what each call makes
+ * The first part is what vector.c and the files beside it offer: opaque pointers, one vector for a file, and a seat for each thread.
+ * They make the calls of the system, and are not proved. The second part is libcvec_threads.a, which is proved: what each call makes
  * of the handle that it is passed. docs/use/threads.md tells both.
  *
  * What a function answers is a number of enum cvec_status (cvec.h), which has a sentence for each.
@@ -23,12 +23,12 @@ extern "C" {
  *   CVEC_NOT_SO    of the library: a handle of another end, or none
  *   CVEC_AGAIN     of the library alone
  *   CVEC_FULL      of a vector that has lent records; of the library: of any phase
- *   CVEC_BUSY      of a seat: another thread is inside a call by it; of the vector: a seat isn't closed, or it is held
- *   CVEC_LATE      of cvec_vector_await_for and cvec_vector_seat_within
+ *   CVEC_BUSY      of a seat: another thread is inside a call by it; of the vector: it is held; of its close: or a seat isn't closed
+ *   CVEC_LATE      of what has a deadline
  *   CVEC_UNFOLDED  of a resize that takes records away, and of a clear
  *   CVEC_UNSETTLED of the library alone */
 
-/* ---- cvec_vector.c, over system.c and types.c beside it: not proved */
+/* ---- vector.c, whole.c, seats.c, growing.c and settling.c, over system.c and types.c beside them: not proved */
 
 typedef struct cvec_vector cvec_vector;
 typedef struct cvec_vector_seat cvec_vector_seat;
@@ -58,10 +58,16 @@ uint32_t cvec_vector_open_as(cvec_vector **vector, const char *path, cvec_type t
 uint32_t cvec_vector_create(cvec_vector **vector, const char *path, uint8_t version, uint16_t seats);
 uint32_t cvec_vector_open(cvec_vector **vector, const char *path, uint16_t seats);
 
+enum { CVEC_PUSHES = 1024 };
+
+/* In milliseconds, of what has a deadline: as long as it takes. With 0 a call only looks, and is CVEC_LATE. */
+#define CVEC_NO_LIMIT UINT64_MAX
+
 /* 0 of any: the default, so {0} is all of them. */
 typedef struct cvec_options {
     uint8_t version;  /* of a file that is made: 1 by default, or 2 (else CVEC_NOT_SO) */
     uint16_t seats;   /* 64 by default, or fewer (CVEC_TOO_LARGE past that) */
+    uint32_t pushes;  /* so many records that were pushed are grown at once: CVEC_PUSHES by default, what fits one growth at most */
     uint64_t growths; /* for so many a phase has room: 536,870,904 at most (CVEC_TOO_LARGE); 4,129,776 by default with 64 seats */
 } cvec_options;
 
@@ -75,12 +81,22 @@ typedef struct cvec_options {
 uint32_t cvec_vector_create_with(cvec_vector **vector, const char *path, cvec_type type, const cvec_options *options);
 uint32_t cvec_vector_open_with(cvec_vector **vector, const char *path, cvec_type type, const cvec_options *options);
 
+/* Opens a file that is there, and makes one where there is none, or only what a stopped creation left. */
+uint32_t cvec_vector_open_or_create(cvec_vector **vector, const char *path, cvec_type type, const cvec_options *options);
+
 /* Ends the loops of flushers and waits for these, commits what was grown, and closes the file. CVEC_BUSY, and nothing ends or
- * is closed, while a seat isn't closed, or it is held (below), or a call by no seat waits, or has the whole vector. Whatever else
+ * is closed, while a seat isn't closed, or a borrowed one not given back, or it is held (below), or a call by no seat waits, or has
+ * the whole vector. Whatever else
  * it answers, the vector is gone, and all that it lent, but in a forked process, where memory stays; another number than CVEC_DONE
  * says that growths nobody awaited may be lost. But for such a call and for loops of flushers that have begun, no call may be
  * under way beside it, or begin. */
 uint32_t cvec_vector_close(cvec_vector *vector);
+
+/* The same for who can't know which threads are about to borrow a seat: it waits until those that are borrowed are given back, and the
+ * calls under way have ended, or are refused where they wait for a seat. Later calls, but of seats that are closed, are CVEC_NOT_SO.
+ * The handle stays, for cvec_vector_close to give up. CVEC_BUSY, and nothing ends: a seat of a caller's own isn't closed, or it is
+ * held. */
+uint32_t cvec_vector_end(cvec_vector *vector);
 
 /* Which file it is: the number of its device, and its own there. One that is put in its place has another. */
 uint32_t cvec_vector_identity(const cvec_vector *vector, uint64_t *device, uint64_t *file);
@@ -96,6 +112,17 @@ uint32_t cvec_vector_take_seat(cvec_vector *vector, cvec_vector_seat **seat);
 /* The same, but it waits so many milliseconds at most for a seat that another thread closes, and for a pause: CVEC_LATE. Who came
  * first has the first one. With 0 it only looks. So any number of threads work by the seats that there are. */
 uint32_t cvec_vector_seat_within(cvec_vector *vector, uint64_t milliseconds, cvec_vector_seat **seat);
+
+/* For threads that keep no seat: one for a call or a few, mostly the one that this thread had last, without a lock then. CVEC_LATE: so
+ * many milliseconds none was free. Who waits is in one line with those of cvec_vector_seat_within; who has waited for a millisecond
+ * goes before who comes. Borrowed seats count among the vector's. While it is idle one holds up no other call: to take a seat where
+ * there is no other closes it, and so does the close of the vector. A borrowed seat whose call waits for a commit is lent to others
+ * who would wait for one, if it keeps nothing, and had again before that call returns. */
+uint32_t cvec_seat_borrow(cvec_vector *vector, uint64_t milliseconds, cvec_vector_seat **seat);
+
+/* Gives it back, and *seat is NULL. It keeps nothing: what was pushed is grown, and its block given up. CVEC_BUSY, CVEC_FORKED, CVEC_NOT_SO
+ * (it wasn't borrowed): *seat stays. Any other number says why what waited wasn't grown, and is lost. */
+uint32_t cvec_seat_return(cvec_vector_seat **seat);
 
 /* Grows by what was pushed and still waits, and gives the seat up. Its growths stay. CVEC_BUSY, CVEC_FORKED: it stays. Whatever
  * else it answers, the seat is gone; another number than CVEC_DONE says why what waited wasn't grown, and is lost: who can't
@@ -125,13 +152,28 @@ uint32_t cvec_vector_publish(cvec_vector_seat *seat, cvec_receipt *receipt);
 /* Gives up the seat's block, of which nothing is left, as a close of the seat does. CVEC_NOT_SO: it has none. */
 uint32_t cvec_vector_drop(cvec_vector_seat *seat);
 
-/* Puts a copy of one record into a buffer of the seat, where it waits. The 1,024th there grows the vector by all of them, as
+/* A block that is taken out of its seat, so that the seat may be given back while the block is written. It is nobody's copy: a block
+ * is in one place. `at` is NULL of none. */
+typedef struct cvec_block {
+    void *at, *records;
+    size_t count;
+} cvec_block;
+
+/* Takes the seat's block out, and puts one into a seat of the same vector, to be published or dropped by it; *block has none then.
+ * CVEC_NOT_SO: the seat has no block; it has one, or there is none to put in. */
+uint32_t cvec_seat_detach(cvec_vector_seat *seat, cvec_block *block);
+uint32_t cvec_seat_attach(cvec_vector_seat *seat, cvec_block *block);
+
+/* Gives it up by no seat, also where its vector is closed. */
+void cvec_block_drop(cvec_block *block);
+
+/* Puts a copy of one record into a buffer of the seat, where it waits. The last of so many as the option says grows the vector by all of them, as
  * cvec_vector_grow_records would: as one growth. Before that nobody reads them, nothing makes them durable, and whatever ends
  * the process loses them. But for the next two calls and the close of the seat, none moves them: a growth in between stands
  * before them, and an await is for none of them.
  *
  * Where it is refused this record isn't in the buffer, and the others wait as before: the same call may be made again. The
- * first push takes memory for 1,024 records, later ones none but for growths. */
+ * first push takes memory for so many records, later ones none but for growths. */
 uint32_t cvec_vector_push(cvec_vector_seat *seat, const void *record);
 
 /* From now on so many records are grown at once: 1 at least (CVEC_EMPTY), and no more than fit one growth (CVEC_TOO_LARGE).
@@ -152,6 +194,13 @@ uint32_t cvec_vector_await(cvec_vector_seat *seat, uint64_t number);
  * ends, and begins a further one only while there is time. So with 0 it commits where nobody does, and else only looks. */
 uint32_t cvec_vector_await_for(cvec_vector_seat *seat, uint64_t number, uint64_t milliseconds);
 
+/* Waits so long, by no seat, until each growth is durable that had returned when it was called, of whichever seat. */
+uint32_t cvec_vector_settle(cvec_vector *vector, uint64_t milliseconds);
+
+/* Begins a thread of the library's own that commits what was grown each so many milliseconds (at least 1), takes no signals, and which
+ * a stop or the close ends. CVEC_MEMORY: the system makes no thread. A commit that is refused for good ends it. */
+uint32_t cvec_vector_start_flusher(cvec_vector *vector, uint64_t every_milliseconds);
+
 /* For a thread of the caller's, which takes no seat: commits what was grown, and so again and again, this many milliseconds
  * (at least 1) behind the last time. CVEC_DONE: it was ended by cvec_vector_stop_flusher or the close; any other number: a
  * commit was refused, and it ends. What was grown behind its last commit is left to who waits, or to the close. As any other
@@ -165,8 +214,9 @@ uint32_t cvec_vector_flush(cvec_vector *vector);
 /* Ends the loops of this vector, each that is begun later too. It doesn't wait for them. */
 uint32_t cvec_vector_stop_flusher(cvec_vector *vector);
 
-/* How many growths are durable: the first ones are. It doesn't wait. */
-uint32_t cvec_vector_settled(cvec_vector_seat *seat, uint64_t *count);
+/* How many growths are durable: the first ones are. It doesn't wait for commits; by no seat it is as the last one that ended told. */
+uint32_t cvec_seat_settled(cvec_vector_seat *seat, uint64_t *count);
+uint32_t cvec_vector_settled(cvec_vector *vector, uint64_t *count);
 
 /* How many records there are, durable or not. */
 uint32_t cvec_vector_size(cvec_vector_seat *seat, uint64_t *size);
@@ -192,12 +242,13 @@ typedef struct cvec_piece {
  * What is lent stays where it is, as it is, while threads grow, wait, and take and close seats, this one too: until a call of the
  * whole vector (below) or its close begins; one that answers CVEC_BUSY hasn't. Who reads what is lent beside such calls holds the
  * vector, so that they are refused. A vector that has lent records never moves them to go on growing: where the phase has no more
- * room growths are CVEC_FULL, and a call of the whole vector, as cvec_vector_compact, makes room. The seats that are closed for that
- * lose what was pushed and waits, and their blocks: copy those before. A forked process may read what was lent before the fork. */
+ * room growths are CVEC_FULL, and a call of the whole vector, as cvec_vector_compact, makes room. A forked process may read what was
+ * lent before the fork. */
 uint32_t cvec_vector_pieces(cvec_vector_seat *seat, uint64_t from, cvec_piece *out, size_t room, size_t *count);
 
 /* From now on calls of the whole vector and its close answer CVEC_BUSY, until each hold is released: what is lent from then on
- * stays. It takes no seat, and stops neither growths nor commits. It waits for such a call that is under way. Any thread may release;
+ * stays. It takes no seat, and stops neither growths nor commits. It waits for such a call that is under way; one that only waits for
+ * a commit is refused. Any thread may release;
  * CVEC_NOT_SO: nobody holds it. */
 uint32_t cvec_vector_hold(cvec_vector *vector);
 uint32_t cvec_vector_release(cvec_vector *vector);
@@ -208,9 +259,10 @@ uint32_t cvec_vector_count_record(cvec_vector_seat *seat, const void *record, ui
 /* The first position from `from` on that has this record; where none has, how many records there are. */
 uint32_t cvec_vector_find_record(cvec_vector_seat *seat, const void *record, uint64_t from, uint64_t *place);
 
-/* Of the whole vector, while no seat is taken and nobody holds it, else CVEC_BUSY, and nothing is done. What they do is durable when
- * they return. Nothing that was lent before may be read once they have begun. CVEC_MEMORY and CVEC_FILE_FULL: the same call may be
- * made again.
+/* Of the whole vector. They wait for calls by seats that are under way, but not for those that wait for a commit, and later calls wait
+ * for them: seats may be taken meanwhile. Who waited comes in before the next such call. What a seat keeps stays: what was pushed and
+ * waits, and its block. CVEC_BUSY, and nothing is done: somebody holds the vector. What they do is durable when they return. Nothing
+ * that was lent before may be read once they have begun. CVEC_MEMORY and CVEC_FILE_FULL: the same call may be made again.
  *
  * Writes the records over those from position `start` on, as one frame. */
 uint32_t cvec_vector_change_records(cvec_vector *vector, uint64_t start, const void *records, size_t count);
@@ -239,7 +291,7 @@ uint32_t cvec_vector_find(cvec_vector_seat *seat, uint64_t record, uint64_t from
 /* What cvec_status_text of cvec.h answers. */
 const char *cvec_vector_status_text(uint32_t status);
 
-/* ---- libcvec_threads.a: proved. cvec_vector.c keeps its rules: a handle is all zero at first; it is never copied; one call
+/* ---- libcvec_threads.a: proved. the files of C keep its rules: a handle is all zero at first; it is never copied; one call
  * at a time has it; no call comes from a signal's handler or from a forked process. Pointers are never NULL, and what is
  * written overlaps nothing. A call that doesn't answer 0 writes nothing but its handles. */
 

@@ -43,7 +43,7 @@ class open_file {
         if (path_.find('\0') != std::string::npos) refuse_path();
         if (limit_ == 0 || limit_ > most_seats) refuse(CVEC_NOT_SO, "a vector has 1 to 64 seats");
         if (wanted.version == 0) refuse(CVEC_NOT_SO);
-        begin(wanted.how, {wanted.version, limit_, wanted.growths});
+        begin(wanted.how, {wanted.version, limit_, 0, wanted.growths});
     }
     // What a constructor behind this one throws leaves it to close the file.
     ~open_file() {

@@ -109,7 +109,7 @@ class word_file final : public seated_file, public std::enable_shared_from_this<
     std::uint64_t settled() {
         const lease lent(*this);
         std::uint64_t count = 0;
-        require(cvec_vector_settled(lent.seat(), &count));
+        require(cvec_seat_settled(lent.seat(), &count));
         return count;
     }
 

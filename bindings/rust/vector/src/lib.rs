@@ -240,6 +240,7 @@ impl RawReceipt {
 struct RawOptions {
     version: u8,
     seats: u16,
+    pushes: u32,
     growths: u64,
 }
 
@@ -255,7 +256,7 @@ unsafe extern "C" {
     fn cvec_vector_await_for(seat: *mut RawSeat, number: u64, milliseconds: u64) -> u32;
     fn cvec_vector_run_flusher(vector: *mut RawVector, every_milliseconds: u64) -> u32;
     fn cvec_vector_stop_flusher(vector: *mut RawVector) -> u32;
-    fn cvec_vector_settled(seat: *mut RawSeat, count: *mut u64) -> u32;
+    fn cvec_seat_settled(seat: *mut RawSeat, count: *mut u64) -> u32;
     fn cvec_vector_size(seat: *mut RawSeat, size: *mut u64) -> u32;
     fn cvec_vector_read_records(seat: *mut RawSeat, from: u64, out: *mut c_void, room: usize, count: *mut u64) -> u32;
     fn cvec_vector_at(seat: *mut RawSeat, position: u64, record: *mut c_void) -> u32;
@@ -355,7 +356,7 @@ impl Options {
         if !(1..=MOST_SEATS).contains(&self.seats) {
             return Err(Error::Seats);
         }
-        Ok(RawOptions { version, seats: self.seats, growths: self.growths })
+        Ok(RawOptions { version, seats: self.seats, pushes: 0, growths: self.growths })
     }
 }
 
@@ -592,7 +593,7 @@ impl<'v, R: Record> Seat<'v, R> {
     pub fn settled(&self) -> Result<u64, Error> {
         let mut count = 0;
         // SAFETY: as above.
-        told(unsafe { cvec_vector_settled(self.raw.as_ptr(), &mut count) })?;
+        told(unsafe { cvec_seat_settled(self.raw.as_ptr(), &mut count) })?;
         Ok(count)
     }
 
