@@ -52,6 +52,19 @@ hold_by_two_whole|seats.pml|-DSEATS=1 -DLIMIT=1 -DWORKERS=0 -DHOLDERS=2 -DWHOLES
 push|seats.pml|-DSEATS=2 -DLIMIT=1 -DWORKERS=2 -DREFUSALS=1 -DFAILURES=1 -DPUSHES -DNO_LINE
 push_refused|seats.pml|-DSEATS=1 -DLIMIT=1 -DWORKERS=1 -DGROWTHS=3 -DREFUSALS=2 -DPUSHES -DNO_LINE
 push_often|seats.pml|-DSEATS=2 -DLIMIT=1 -DWORKERS=2 -DGROWTHS=2 -DREFUSALS=1 -DPUSHES -DNO_LINE
+push_whole|seats.pml|-DSEATS=1 -DLIMIT=1 -DWORKERS=1 -DWHOLES=1 -DGROWTHS=2 -DREFUSALS=1 -DPUSHES -DNO_LINE
+borrow|borrowed.pml|-DSEATS=1 -DBORROWERS=2 -DTURNS=2 -DTIMED=0 -DSPURIOUS=0
+borrow_three|borrowed.pml|-DSEATS=1 -DBORROWERS=3
+borrow_two|borrowed.pml|-DSEATS=2 -DBORROWERS=3 -DTIMED=0 -DSPURIOUS=0 -DREFUSALS=1 -DLOOKS=1
+borrow_own|borrowed.pml|-DSEATS=1 -DBORROWERS=1 -DOWNERS=1 -DTURNS=2 -DLIMIT=2
+borrow_whole|borrowed.pml|-DSEATS=1 -DLIMIT=1 -DBORROWERS=2 -DWHOLES=1 -DREFUSALS=1 -DTIMED=0
+borrow_push|borrowed.pml|-DSEATS=1 -DLIMIT=1 -DBORROWERS=2 -DTURNS=2 -DPUSHES -DREFUSALS=1 -DTIMED=0
+end|borrowed.pml|-DSEATS=1 -DBORROWERS=2 -DENDS -DTIMED=0 -DREFUSALS=1 -DFAILURES=1
+end_own|borrowed.pml|-DSEATS=1 -DBORROWERS=1 -DOWNERS=1 -DENDS -DTIMED=0 -DREFUSALS=1
+end_settle|borrowed.pml|-DSEATS=1 -DBORROWERS=1 -DSETTLERS=1 -DWHOLES=1 -DENDS -DTIMED=0 -DSETTLES
+settle|borrowed.pml|-DSEATS=1 -DBORROWERS=1 -DSETTLERS=1 -DTURNS=2 -DSETTLES -DREFUSALS=1 -DFAILURES=1
+settle_whole|borrowed.pml|-DSEATS=1 -DLIMIT=1 -DBORROWERS=1 -DWHOLES=1 -DSETTLERS=1 -DSETTLES -DREFUSALS=1 -DFAILURES=1
+own_flusher|borrowed.pml|-DSEATS=1 -DBORROWERS=1 -DSTARTS=1 -DREFUSALS=1 -DFAILURES=1 -DTURNS=2
 fork|fork.pml|
 TABLE
 }
@@ -80,6 +93,19 @@ hold|all
 hold_compact|all
 push|all
 push_refused|all
+push_whole|all
+borrow|all
+borrow_three|all
+borrow_two|all
+borrow_own|all
+borrow_whole|all
+borrow_push|all
+end|all
+end_own|all
+end_settle|all
+settle|all
+settle_whole|all
+own_flusher|all
 fork|all
 TABLE
 }

@@ -9,9 +9,19 @@ inline lock() {
 #define is_asleep(one) (line?[one] && (turn & (1 << one)))
 #define is_first_asleep (is_asleep(0) || is_asleep(1) || is_asleep(2) || is_asleep(3))
 
+/* Who is refused memory for a further seat, while others are lent, waits for these. */
+#define was_refused (slot_seats > 0 && refusals < REFUSALS)
+#define is_lendable (slot[0] == LENDABLE || slot[1] == LENDABLE)
+#ifndef BORROWERS
+#define BORROWERS 0 /* the threads before this number borrow */
+#endif
+#define is_borrower_first (BORROWERS > 0 && line?[0] || BORROWERS > 1 && line?[1] || BORROWERS > 2 && line?[2])
+
 inline unlock() {
     assert(mutex == id);
-    assert(claimed || seats == SEATS || !is_first_asleep); /* who is first in line was called where there is a seat */
+    assert(claimed || seats == SEATS || !is_first_asleep || was_refused);    /* who is first in line was called where there is a seat */
+    assert(!is_lendable || !is_first_asleep || !is_borrower_first);          /* who waits to borrow was called where a seat is lent on */
+    assert(!(handed & away[0] && slot[0] == LENDABLE || handed & away[1] && slot[1] == LENDABLE)); /* who wants it back was called */
     mutex = NOBODY
 }
 
@@ -90,6 +100,14 @@ inline end_call() {
     unlock()
 }
 
+/* The same of one that goes on without the mutex. */
+inline begin_passing() {
+    if
+    :: !closing && !freed -> passing++
+    :: freed -> goto gone
+    fi
+}
+
 /* ---- what calls answered */
 
 /* A wait, for the growth of this thread's number, or for that many behind it. */
@@ -98,6 +116,12 @@ inline check_answer(ahead) {
     assert(answer != OUT_OF_RANGE || ahead > 0);                       /* a growth that was made is known */
     assert((answer != LATE || timed) && (answer != BROKEN || broken)); /* a wait is late or broken for a reason */
     answer = DONE
+}
+
+/* Ghost: who has the seat. */
+inline note_owner() {
+    assert(owner[seat] == NOBODY); /* no seat is lent to two */
+    owner[seat] = id
 }
 
 /* Who was lent records reads them until then. */

@@ -1,6 +1,6 @@
-/* What the C for threads (bindings/c/src: vector.c, whole.c, seats.c, growing.c, settling.c) does with its mutex, its conditions and its atomics, function by function and in its order: an
- * inline has the name of its function. An atomic is a section that has the mutex, or one call of the library or of the file; where it
- * waits, others go on. README.md tells what is left out.
+/* What the C for threads (bindings/c/src: vector.c, whole.c, seats.c, growing.c, settling.c) does with its mutex, its conditions and its
+ * atomics, function by function and in its order: an inline has the name of its function. An atomic is a section that has the mutex, or
+ * one call of the library or of the file, or one exchange of a slot; where it waits, others go on. README.md tells what is left out.
  *
  * A process that uses these has the locals LOCALS, a label `gone`, and a number `id`, from 0 on. What is `ghost` stands in no code:
  * assertions ask for it. Each assertion stands in one line with what it says. */
@@ -21,6 +21,12 @@
 #endif
 byte spurious = SPURIOUS, refusals = REFUSALS, failures = FAILURES;
 
+/* How often who is first in line looks for a seat by itself, at most. Without, each that stands there has to be called. */
+#ifndef LOOKS
+#define LOOKS 0
+#endif
+byte looks = LOOKS;
+
 /* The seats of the vector, and the growths of a phase. */
 #ifndef SEATS
 #define SEATS 1
@@ -37,12 +43,13 @@ byte spurious = SPURIOUS, refusals = REFUSALS, failures = FAILURES;
 mtype = { DONE, MEMORY, BROKEN, LATE, OUT_OF_RANGE, NOT_SO, IS_FULL, DISK_WRITE, DISK_SYNC, IS_BUSY };
 mtype = { FREE, INSIDE, ASIDE };       /* what a seat's thread does */
 mtype = { NONE, FRESH, LISTED, IDLE }; /* where a seat is: nowhere, being made, among `first`, among `idle` */
+mtype = { OWN, LENT, LENDABLE };       /* in which slot: in none; or, with IDLE too, the state of its slot */
 mtype = { GROW, PUBLISH, PIECES, BLOCK, DROP, PUSH }; /* calls by a seat */
 
 #define NOBODY 255
 #define MINE (1 << id)
 #define NO_PHASE 0
-#define LOCALS mtype answer = DONE, call = GROW; byte growths, seat, number, phase, own, wanted, had; bool late, timed, was
+#define LOCALS mtype answer = DONE, call = GROW; byte growths, seat, number, phase, own, wanted, had; bool late, timed, was, lends
 #define when(condition, then) if :: condition -> then :: else fi
 
 /* ---- struct cvec_vector */
@@ -55,12 +62,23 @@ byte durable, committed, begun, base;       /* growths since the vector was begu
 byte phases = 1;
 bool unseated, alone, committing, is_stopped, claimed, shut_out, lent, broken;
 byte seats, holds, flushers, asking, paused, owed, waiting, woken;
-bool over, yields, owes_first;
-chan line = [4] of { byte };
+bool over, yields, owes_first, called;
+byte overdue;                               /* the threads in line that have waited long */
+chan line = [4] of { byte };                /* `queued` is its length */
 
 /* of each seat */
 mtype at[3] = NONE, busy[3] = FREE;
 byte blocks, pushes; /* the seats that have a block, and those that have records which were pushed and wait */
+#define is_waiting (pushes & MY_SEAT)
+#define keeps_something ((pushes | blocks) & MY_SEAT)
+mtype slot[3] = OWN; /* here a slot has the number of its seat */
+byte away[3];        /* the threads that have lent it on, and want it back */
+byte taken_slots;    /* the slots that who ends the vector has: `ended` */
+#define slot_seats ((slot[0] != OWN) + (slot[1] != OWN))
+#define idle_slots ((slot[0] == IDLE) + (slot[1] == IDLE))
+#ifdef SETTLES
+byte grown_by[3], all_known; /* behind so many growths the last one stands that returned by it; by those that are closed */
+#endif
 
 #define MY_SEAT (1 << seat)
 
@@ -68,6 +86,11 @@ byte blocks, pushes; /* the seats that have a block, and those that have records
 bool closing;            /* a close is under way: no call begins */
 bool freed;              /* the vector is gone */
 byte calls;              /* so many calls by no seat are under way */
+byte passing;            /* so many without the mutex: no close may begin beside them */
+bool ending;             /* an end is under way: no close may begin beside it */
+byte threads;            /* so many of the library's own are there */
+byte returned_growths;   /* behind so many the last growth stands whose call has returned */
+byte kept;               /* the seats that were pushed what isn't grown */
 byte total;              /* so many growths were made */
 bool has_all;            /* a call has all handles */
 byte owner[3] = NOBODY;  /* who has the seat */
@@ -330,10 +353,10 @@ inline take_all() {
 
 inline cvec_call_first() {
     if
-    :: line?[0] -> turn = turn & ~1
-    :: line?[1] -> turn = turn & ~2
-    :: line?[2] -> turn = turn & ~4
-    :: line?[3] -> turn = turn & ~8
+    :: line?[0] -> called = true; turn = turn & ~1
+    :: line?[1] -> called = true; turn = turn & ~2
+    :: line?[2] -> called = true; turn = turn & ~4
+    :: line?[3] -> called = true; turn = turn & ~8
     :: empty(line)
     fi
 }
@@ -341,8 +364,8 @@ inline cvec_call_first() {
 inline let_others_in() {
     asking = asking - (BUG != 15);
     claimed = false;
-    owes_first = len(line) > 0;
-    owed = paused + owes_first;
+    owes_first = (BUG != 74 && len(line) > 0);
+    owed = (BUG == 75 -> 0 : paused + owes_first);
     shut();
 #if BUG == 18
     signal(released);
@@ -384,7 +407,7 @@ inline cvec_await_release() {
         :: else -> break
         od;
         paused--;
-        cvec_come_in_turn()
+        when(BUG != 76, cvec_come_in_turn())
     :: else
     fi
 }
@@ -427,6 +450,9 @@ inline cvec_settle_listed() {
 inline unseat() {
     UNSEAT_ONE(0);
     UNSEAT_ONE(1);
+#if BUG == 73
+    pushes = 0;
+#endif
     has_phase = false;
     unseated = seats > 0;
 #if BUG != 52
@@ -598,13 +624,23 @@ inline cvec_vector_compact() {
 
 /* ---- the vector */
 
+/* Behind an end the mutex, the conditions and the slots are left. */
+inline give_up_file() {
+    assert(calls == 0 && empty(line) && asking == 0 && flushers == 0); /* nobody is inside a vector that is closed */
+    assert(seats == 0 && holds == 0 && readers == 0);                  /* nobody uses a vector that is closed */
+    assert(all_waits == 0);                                            /* nobody waits in a vector that is closed */
+    assert(answer != DONE || (synced == total && changed && !failed)); /* a close that answers DONE lost nothing */
+    locked = false
+}
+
 inline give_up() {
     atomic {
-        assert(calls == 0 && empty(line) && asking == 0 && flushers == 0); /* nobody is inside a vector that is closed */
-        assert(seats == 0 && holds == 0 && readers == 0);                  /* nobody uses a vector that is closed */
-        assert(mutex == NOBODY && all_waits == 0);                         /* nobody waits in a vector that is closed */
-        assert(answer != DONE || (synced == total && changed && !failed)); /* a close that answers DONE lost nothing */
-        locked = false;
+        if
+        :: over -> assert(calls == 0 && all_waits == 0 && flushers == 0) /* nobody is inside a vector that is given up */
+        :: else -> give_up_file()
+        fi;
+        assert(mutex == NOBODY && passing == 0); /* nobody has the mutex of a vector that is given up */
+        assert(threads == 0);                    /* a close leaves no thread of the library's */
         freed = true
     }
 }
@@ -618,10 +654,41 @@ inline commit_rest() {
 }
 
 inline commit_all() {
+    atomic { answer = (broken -> BROKEN : DONE) };
     if
-    :: alone -> cvec_settle_listed()
-    :: else -> commit_rest()
+    :: answer == DONE && alone -> cvec_settle_listed()
+    :: answer == DONE && !alone -> commit_rest()
+    :: else
     fi
+}
+
+#if BUG == 78
+#define is_used (seats > 0 || holds > 0)
+#else
+#define is_used (seats > slot_seats || (holds > 0 && BUG != 56))
+#endif
+
+#define TAKE_ONE(s) when(slot[s] == IDLE, slot[s] = LENT; taken_slots = taken_slots | (1 << s))
+#define GIVE_ONE(s) when(taken_slots & (1 << s), slot[s] = IDLE)
+#define DROP_ONE(s) when(slot[s] != OWN, seat = s; empty_slot())
+#define is_taken(s) (slot[s] == OWN || (taken_slots & (1 << s)))
+#define has_slots (is_taken(0) && is_taken(1))
+
+inline cvec_take_slots() {
+    TAKE_ONE(0);
+    TAKE_ONE(1)
+}
+
+inline cvec_give_slots_back() {
+    GIVE_ONE(0);
+    GIVE_ONE(1);
+    taken_slots = 0
+}
+
+inline cvec_drop_slots() {
+    DROP_ONE(0);
+    DROP_ONE(1);
+    seat = 0
 }
 
 inline cvec_end_flushers() {
@@ -637,23 +704,75 @@ inline cvec_end_flushers() {
     od
 }
 
-inline cvec_vector_close() {
+inline cvec_join_flushers() { threads == 0 || BUG == 79 }
+
+inline is_idle() {
+    answer = (is_used || asking > 0 -> IS_BUSY : DONE);
+    when(answer == DONE,
+        cvec_take_slots();
+        when(!has_slots && BUG != 80, answer = IS_BUSY));
+    when(answer == IS_BUSY, cvec_give_slots_back())
+}
+
+inline finish() {
     atomic {
-        lock();
-        closing = true;
-        when(seats > 0 || (holds > 0 && BUG != 56) || asking > 0, closing = false; unlock(); goto is_busy);
         when(BUG != 27, cvec_end_flushers());
-        answer = (broken -> BROKEN : DONE);
+        cvec_drop_slots();
         locked = (BUG != 28)
     };
-    when(answer == DONE && BUG != 29, commit_all());
+    when(BUG != 29, commit_all());
+    atomic { when(BUG == 27, cvec_end_flushers()) }
+}
+
+/* Its caller sees to it that no call is under way but those that its answer counts: none that takes no mutex. */
+inline cvec_vector_close() {
     atomic {
-        when(BUG == 27, cvec_end_flushers());
-        unlock()
+        mutex == NOBODY && passing == 0 && !ending -> mutex = id;
+        assert(!freed); /* the vector is there */
+        closing = true;
+        was = over;
+        answer = DONE;
+        when(!was, is_idle());
+        when(answer == IS_BUSY, closing = false; unlock(); goto is_busy)
     };
+    when(!was, finish());
+    atomic { unlock() };
+    cvec_join_flushers();
     give_up();
 is_busy:
-    atomic { answer = DONE; growths = 0 }
+    atomic { answer = DONE; growths = 0; was = false }
+}
+
+/* While it has to wait it looks again and again, and calls who is first in line: here it looks again when there is something to be
+ * done. */
+#define is_left(s) (is_taken(s) || slot[s] == IDLE)
+#define is_all_left (asking == 0 && !is_used && is_left(0) && is_left(1))
+
+inline await_calls() {
+    over = true;
+    do
+    :: cvec_take_slots();
+       when(asking == 0 && !is_used && has_slots, break);
+       when(BUG != 81, cvec_call_first());
+       unlock();
+       mutex == NOBODY && (is_all_left || is_first_asleep) -> mutex = id
+    od
+}
+
+/* Ends the vector: `over` is for its close. Whether it was refused. */
+inline cvec_vector_end() {
+    atomic {
+        lock();
+        ending = true;
+        answer = (over -> NOT_SO : (is_used -> IS_BUSY : DONE));
+        when(answer == DONE, await_calls())
+    };
+    when(answer == DONE, finish(); atomic { give_up_file() });
+    atomic {
+        ending = false;
+        unlock();
+        growths = 0
+    }
 }
 
 /* ---- seats */
@@ -666,11 +785,19 @@ inline list_seat() {
     seats++
 }
 
+#ifdef SETTLES
+#define count_known when(all_known < grown_by[seat], all_known = grown_by[seat]); grown_by[seat] = 0
+#else
+#define count_known skip
+#endif
+
 inline cvec_drop_seat() {
     assert(!has_all); /* nobody walks through the seats that are dropped meanwhile */
     owner[seat] = NOBODY;
     caller[seat] = NOBODY;
     pushes = pushes & ~MY_SEAT;
+    kept = kept & ~MY_SEAT;
+    when(BUG != 82, count_known);
     seats--;
     busy[seat] = FREE; /* its next call finds it so */
     at[seat] = (unseated -> NONE : IDLE);
@@ -708,78 +835,286 @@ inline seat_of() {
     }
 }
 
-#define is_one_spare (seats + len(line) < SEATS)
+/* ---- slots: seats that any thread may borrow */
 
-inline cvec_vector_take_seat() {
-    atomic {
-        begin_call();
-        cvec_await_pause();
-        answer = (is_one_spare -> DONE : NOT_SO)
-    };
-    when(answer == DONE, seat_of());
-    atomic { end_call() }
+/* Each is tried, from whichever on. DONE: it has that seat; LATE: none was idle. */
+#if BUG == 83
+#define TRY_SLOT(s) if :: answer == LATE && slot[s] == IDLE -> atomic { slot[s] = LENT; seat = s; note_owner(); answer = DONE } :: else fi
+#else
+#define TRY_SLOT(s) if :: atomic { answer == LATE && slot[s] == IDLE -> slot[s] = LENT; seat = s; note_owner(); answer = DONE } :: else fi
+#endif
+
+inline idle_slot() {
+#if SEATS == 1
+    TRY_SLOT(0)
+#else
+    if
+    :: true -> TRY_SLOT(0); TRY_SLOT(1)
+    :: true -> TRY_SLOT(1); TRY_SLOT(0)
+    fi
+#endif
 }
+
+#define LENDABLE_ONE(s) when(answer == LATE && slot[s] == LENDABLE, slot[s] = LENT; seat = s; note_owner(); answer = DONE)
+
+inline lendable_slot() {
+    LENDABLE_ONE(0);
+    LENDABLE_ONE(1)
+}
+
+inline put_in_slot() { slot[seat] = LENT }
+
+inline empty_slot() {
+    slot[seat] = OWN;
+    taken_slots = taken_slots & ~MY_SEAT;
+    cvec_drop_seat()
+}
+
+/* ---- the line */
+
+#define is_one_spare (seats + len(line) < SEATS)
 
 inline begin_line() {
     line!id;
     asking++
 }
 
+/* Who was called has come. */
+inline is_first() {
+    if
+    :: line?[eval(id)] ->
+        called = false;
+        when(owes_first, cvec_come_in_turn());
+        owes_first = false
+    :: else
+    fi
+}
+
 inline end_line() {
+    is_first();
     line??eval(id);
+    overdue = overdue & ~MINE;
     asking--
 }
 
-/* Who was called has come. */
-inline is_first() {
-    when(line?[eval(id)] && owes_first, owes_first = false; cvec_come_in_turn())
+/* ---- who has a seat next. LATE: there is none */
+
+inline find_own() {
+    atomic { answer = ((claimed && BUG != 48) || seats == SEATS -> LATE : DONE) };
+    if
+    :: answer == LATE && !claimed && BUG != 84 -> idle_slot(); atomic { when(answer == DONE, empty_slot()) }
+    :: else
+    fi;
+    when(answer == DONE, seat_of())
 }
 
-/* The first one looks besides each millisecond, which here is a wait that ends for nothing. */
-inline await_call() { wait(turn, timed) }
+inline find_borrowed() {
+    atomic { answer = LATE };
+    idle_slot();
+    if
+    :: atomic { answer == LATE && !claimed && seats < SEATS -> answer = DONE };
+       seat_of();
+       atomic {
+           if
+           :: answer == DONE -> put_in_slot()
+           :: answer != DONE && slot_seats > 0 -> answer = LATE
+           :: else
+           fi
+       }
+    :: else
+    fi;
+    atomic { when(answer == LATE && BUG != 85, lendable_slot()) }
+}
 
-inline await_turn() {
-    begin_line();
-    late = false;
+/* The first one looks besides each millisecond, and is overdue from then on. */
+inline await_call() {
+    was = looks > 0 && line?[eval(id)] && slot_seats > 0;
+    wait(turn, timed || was);
+    when(was && late, late = false; looks--; overdue = overdue | MINE);
+    was = false
+}
+
+inline find_seat(borrows) {
+    if
+    :: borrows -> find_borrowed()
+    :: !borrows -> find_own()
+    fi
+}
+
+inline await_turn(borrows) {
+    atomic { begin_line(); late = false };
     do
-    :: answer == DONE && (!(line?[eval(id)]) || claimed || seats == SEATS) ->
-        is_first();
-        let_pass();
-        if
-        :: late -> answer = LATE
-        :: else ->
-            await_call();
-#if BUG == 33
-            break
-#endif
-        fi
-    :: else -> break
+    :: atomic {
+           when(over && BUG != 86, answer = NOT_SO);
+           was = (answer == LATE && line?[eval(id)]);
+           when(was, is_first())
+       };
+       if
+       :: was -> was = false; find_seat(borrows)
+       :: else
+       fi;
+       atomic {
+           when(answer != LATE, break);
+           let_pass();
+           when(late, break);
+           await_call();
+           when(BUG == 33, break)
+       }
     od;
-    is_first();
-    end_line();
-    late = false
+    atomic { end_line(); late = false }
+}
+
+/* ---- seats of callers' own */
+
+inline cvec_vector_take_seat() {
+    atomic {
+        begin_call();
+        cvec_await_pause();
+        answer = NOT_SO;
+        was = (!over && (empty(line) || is_one_spare));
+        assert(was || over || seats - idle_slots + len(line) >= SEATS) /* a borrowed seat that is idle holds up no take */
+    };
+    if
+    :: was -> was = false; find_own()
+    :: else
+    fi;
+    atomic {
+        when(answer == LATE, answer = NOT_SO);
+        end_call()
+    }
 }
 
 inline cvec_vector_seat_within() {
     atomic {
         begin_call();
-        answer = DONE;
-        if
-        :: (!claimed || BUG == 48) && is_one_spare
-        :: else -> await_turn()
-        fi;
-        assert(answer != DONE || seats < SEATS); /* whose turn it is has a seat */
-        when(answer != DONE && BUG != 34, cvec_call_first())
+        answer = LATE;
+        was = (!over && is_one_spare)
     };
-    when(answer == DONE, seat_of());
-    atomic { end_call() }
+    if
+    :: was -> was = false; find_own()
+    :: else
+    fi;
+    if
+    :: answer == LATE -> await_turn(false)
+    :: else
+    fi;
+    atomic {
+        assert(answer != LATE || timed); /* who waits for a seat is late for a reason */
+        when(BUG != 34, cvec_call_first());
+        end_call()
+    }
+}
+
+/* ---- seats that are borrowed */
+
+inline borrow_in_turn() {
+    atomic { lock(); passing--; calls++; answer = LATE; was = (!over && empty(line)) };
+    if
+    :: was -> was = false; find_borrowed()
+    :: else
+    fi;
+    if
+    :: answer == LATE -> await_turn(true)
+    :: else
+    fi;
+    atomic {
+        assert(answer != LATE || timed); /* who waits to borrow is late for a reason */
+        when(BUG != 87, cvec_call_first());
+        end_call()
+    }
+}
+
+inline cvec_seat_borrow() {
+    atomic { begin_passing(); answer = LATE };
+    if
+    :: overdue == 0 || BUG == 88 -> idle_slot()
+    :: else
+    fi;
+    if
+    :: answer == LATE -> borrow_in_turn()
+    :: else -> passing--
+    fi
+}
+
+inline hand_back() {
+    atomic {
+        lock();
+        owner[seat] = NOBODY;
+        slot[seat] = LENDABLE;
+#if BUG != 89
+        broadcast(handed);
+#endif
+        when(BUG != 90, cvec_call_first());
+        unlock()
+    }
+}
+
+#if BUG == 91
+#define is_call_due (len(line) > 0 && overdue > 0)
+#else
+#define is_call_due (len(line) > 0 && !called)
+#endif
+
+inline make_idle() {
+#if BUG == 92
+    was = is_call_due;
+#endif
+    atomic { owner[seat] = NOBODY; slot[seat] = IDLE };
+    if
+    :: (BUG == 92 -> was : is_call_due) -> atomic { lock(); cvec_call_first(); unlock() }
+    :: else
+    fi;
+    was = false
+}
+
+inline cvec_seat_return() {
+    atomic { passing++; answer = DONE };
+#ifdef PUSHES
+    when(keeps_something && BUG != 93, enter_so(ASIDE); cvec_empty_seat(); leave_seat());
+#endif
+    assert(!keeps_something); /* a seat that is given back keeps nothing */
+    if
+    :: away[seat] != 0 && BUG != 94 -> hand_back()
+    :: else -> make_idle()
+    fi;
+    passing--
+}
+
+/* ---- a seat whose call waits */
+
+/* In `lends`: whether others may have it. */
+inline cvec_lend_on() {
+    if
+    :: slot[seat] != OWN && (!keeps_something || BUG == 95) ->
+        lends = true;
+        busy[seat] = FREE;
+        caller[seat] = NOBODY;
+        owner[seat] = NOBODY;
+        away[seat] = away[seat] | MINE;
+        slot[seat] = (BUG == 96 -> IDLE : LENDABLE);
+        when(BUG != 97, cvec_call_first())
+    :: else
+    fi
+}
+
+inline cvec_have_again() {
+    do
+    :: slot[seat] != LENDABLE && BUG != 98 -> wait(handed, false)
+    :: else -> break
+    od;
+    note_owner();
+    slot[seat] = LENT;
+    away[seat] = away[seat] & ~MINE;
+    busy[seat] = ASIDE;
+    caller[seat] = id;
+    lends = false
 }
 
 /* ---- holds */
 
 inline await_hold() {
     when(!yields, cvec_await_pause());
-    when(yields, broadcast(settled))
+    when(yields && BUG != 77, broadcast(settled))
 }
 
 inline cvec_vector_hold() {
@@ -792,8 +1127,8 @@ inline cvec_vector_hold() {
 #else
         await_hold();
 #endif
-        holds++;
-        holding = holding | MINE;
+        answer = (over -> NOT_SO : DONE);
+        when(answer == DONE, holds++; holding = holding | MINE);
         assert(!has_all); /* no call has all handles when a hold begins */
         end_call()
     }
@@ -884,6 +1219,14 @@ inline grow_by() {
     phase = 0
 }
 
+#ifdef SETTLES
+#define note_grown atomic { when(BUG != 99, grown_by[seat] = number + 1) }
+#define note_returned when(returned_growths <= number, returned_growths = number + 1)
+#else
+#define note_grown skip
+#define note_returned skip
+#endif
+
 inline grow_counted() {
     if
     :: broken -> answer = BROKEN
@@ -891,7 +1234,7 @@ inline grow_counted() {
         begun++;
         grow_by();
         if
-        :: answer == DONE -> number = number + base
+        :: answer == DONE -> number = number + base; note_grown
         :: else -> begun--
         fi
     fi
@@ -900,7 +1243,7 @@ inline grow_counted() {
 inline cvec_vector_grow_records() {
     enter();
     if
-    :: answer == DONE -> grow_counted(); leave_seat()
+    :: answer == DONE -> grow_counted(); leave_seat(); atomic { when(answer == DONE, note_returned) }
     :: else
     fi
 }
@@ -953,26 +1296,35 @@ inline lend_pieces() {
 
 /* ---- records that were pushed */
 
-#define is_waiting (pushes & MY_SEAT)
-
 /* What waits is fewer than are grown at once. */
-inline put_behind() { atomic { pushes = pushes | MY_SEAT; answer = DONE } }
+inline put_behind() { atomic { pushes = pushes | MY_SEAT; kept = kept | MY_SEAT; answer = DONE } }
 
 inline grow_waiting() {
     if
-    :: is_waiting -> grow_counted(); when(answer == DONE, pushes = pushes & ~MY_SEAT)
+    :: is_waiting -> grow_counted(); atomic { when(answer == DONE, pushes = pushes & ~MY_SEAT; kept = kept & ~MY_SEAT) }
     :: else
     fi
+}
+
+/* For a call that is aside. */
+inline cvec_empty_seat() {
+    when(is_waiting && BUG != 66, come_in(NO_PHASE));
+    when(answer == DONE || BUG == 67, grow_waiting());
+    atomic {
+#if BUG != 68
+        busy[seat] = ASIDE;
+#endif
+        assert(answer != DONE || !(kept & MY_SEAT)); /* what was pushed is kept until it is grown */
+        blocks = blocks & ~MY_SEAT;
+        pushes = pushes & ~MY_SEAT;
+        kept = kept & ~MY_SEAT
+    }
 }
 
 inline cvec_vector_close_seat() {
 #ifdef PUSHES
     enter_so(ASIDE);
-    when(is_waiting && BUG != 66, come_in(NO_PHASE));
-    when(answer == DONE || BUG == 67, grow_waiting());
-#if BUG != 68
-    busy[seat] = ASIDE;
-#endif
+    cvec_empty_seat();
 #endif
     atomic {
 #ifndef PUSHES
@@ -1017,7 +1369,7 @@ inline await_count(count) {
 #endif
            :: else
            fi;
-           when(unseated && BUG != 13, answer = OUT_OF_RANGE; break)
+           when((unseated || (alone && BUG != 100)) && BUG != 13, answer = OUT_OF_RANGE; break)
        };
        cvec_lead();
        atomic {
@@ -1045,10 +1397,12 @@ inline await_until(ahead) {
         if
         :: answer == DONE -> lock()
         :: else -> goto told_before
-        fi
+        fi;
+        when(durable < number + 1 + ahead, cvec_lend_on())
     };
     await_count(number + 1 + ahead);
     atomic {
+        when(lends, cvec_have_again());
         unlock();
         leave_seat();
 told_before:
@@ -1136,34 +1490,49 @@ inline cvec_vector_stop_flusher() {
     }
 }
 
-/* ---- seats that are borrowed: no scenario reaches these yet */
+/* ---- by no seat */
 
-inline borrow_in_turn() {
+#ifdef SETTLES
+inline all_grown() {
+    number = all_known;
+    when(number < grown_by[0], number = grown_by[0]);
+    when(number < grown_by[1], number = grown_by[1])
+}
+
+inline cvec_vector_settle() {
     atomic {
         begin_call();
-        answer = DONE;
-        when(seats == SEATS, await_turn());
+        asking = asking + (BUG != 101);
+        all_grown();
+        assert(over || number >= returned_growths); /* a settle is for each growth that had returned */
+        answer = (over -> NOT_SO : DONE)
+    };
+    if
+    :: answer == DONE -> await_count(number)
+    :: else
+    fi;
+    atomic {
+        assert(answer != DONE || number <= synced);  /* what a settle reports is durable */
+        assert(answer != OUT_OF_RANGE);              /* a growth that had returned is known */
+        assert(answer != LATE || timed);             /* a settle is late for a reason */
+        assert(answer != BROKEN || broken);          /* a settle is broken for a reason */
+        asking = asking - (BUG != 101);
         end_call()
     }
 }
 
-inline hand_back() { atomic { begin_call(); broadcast(handed); cvec_call_first(); end_call() } }
-
-inline make_idle() { atomic { begin_call(); cvec_call_first(); end_call() } }
-
-inline cvec_have_again() { wait(handed, false) }
-
-/* ---- by no seat: no scenario reaches these yet */
-
-inline cvec_vector_settle() {
-    atomic { begin_call(); asking++ };
-    await_count(begun);
-    atomic { asking--; end_call() }
+inline cvec_vector_settled() {
+    atomic {
+        begin_call();
+        assert(over || durable <= synced); /* what is told to be durable is synced */
+        answer = (over -> NOT_SO : DONE);
+        end_call()
+    }
 }
-
-inline cvec_vector_settled() { atomic { begin_call(); end_call() } }
+#endif
 
 inline run_own_flusher() {
+    atomic { lock(); calls++ };
     do
     :: !is_stopped && !broken -> flush_once(); atomic { rest() }
     :: else -> break
@@ -1171,22 +1540,12 @@ inline run_own_flusher() {
     atomic { leave_flushers() }
 }
 
-inline cvec_vector_start_flusher() { atomic { begin_call(); flushers++; end_call() } }
-
-inline await_calls() {
-    over = true;
-    do
-    :: asking > 0 || seats > 0 -> cvec_call_first(); unlock(); lock()
-    :: else -> break
-    od
-}
-
-inline cvec_vector_end() {
+/* The thread waits for the mutex, until which it is counted. */
+inline cvec_vector_start_flusher() {
     atomic {
-        lock();
-        answer = (holds > 0 -> IS_BUSY : DONE);
-        when(answer == DONE, await_calls(); cvec_end_flushers())
-    };
-    when(answer == DONE, commit_all());
-    atomic { unlock() }
+        begin_call();
+        answer = (over -> NOT_SO : (broken -> BROKEN : DONE));
+        when(answer == DONE, threads++; flushers++);
+        end_call()
+    }
 }

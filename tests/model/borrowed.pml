@@ -1,0 +1,198 @@
+/* Threads that borrow seats, grow and wait by them, and give them back; beside them threads that take seats of their own, calls of the
+ * whole vector, threads that settle by no seat, a flusher of the library's own, and a close, or an end before it (ENDS). With PUSHES
+ * who borrows pushes. */
+#include "vector.pml"
+
+#ifndef OWNERS
+#define OWNERS 0
+#endif
+#ifndef WHOLES
+#define WHOLES 0
+#endif
+#ifndef SETTLERS
+#define SETTLERS 0
+#endif
+#ifndef STARTS
+#define STARTS 0 /* 1: a flusher of the library's own is started */
+#endif
+#ifndef TURNS
+#define TURNS 1
+#endif
+#ifndef TIMED
+#define TIMED 1 /* 0: no deadline passes */
+#endif
+#define THREADS (BORROWERS + OWNERS + WHOLES + SETTLERS + STARTS + 1)
+
+byte ended; /* ghost */
+
+inline choose_deadline() {
+    if
+    :: timed = TIMED
+    :: timed = false
+    fi
+}
+
+/* What a thread does by its seat. */
+inline work() {
+#ifdef PUSHES
+    enter();
+    when(answer == DONE, put_behind(); leave_seat());
+#else
+    cvec_vector_grow_records();
+#ifndef NO_WAITS
+    if
+    :: answer == DONE -> atomic { choose_deadline() }; await_until(0)
+    :: true
+    fi;
+#endif
+#endif
+    atomic { answer = DONE; timed = false; number = 0 }
+}
+
+#if BORROWERS > 0
+proctype borrower(byte id) {
+    LOCALS;
+    byte turns;
+    do
+    :: turns < TURNS ->
+        turns++;
+        atomic { choose_deadline() };
+        cvec_seat_borrow();
+        atomic { timed = false };
+        if
+        :: answer == DONE -> work(); cvec_seat_return()
+        :: else
+        fi;
+        atomic { answer = DONE; seat = 0; number = 0 }
+    :: turns == TURNS -> break
+    od;
+gone:
+    atomic { answer = DONE; timed = false; turns = 0; seat = 0; ended++ }
+}
+#endif
+
+#if OWNERS > 0
+/* One that waits for a seat of its own as long as it takes, or takes one that there is. */
+proctype owns(byte id) {
+    LOCALS;
+    byte turns;
+    do
+    :: turns < TURNS ->
+        turns++;
+        if
+        :: cvec_vector_seat_within()
+        :: cvec_vector_take_seat()
+        fi;
+        if
+        :: answer == DONE -> cvec_vector_grow_records(); cvec_vector_close_seat()
+        :: else
+        fi;
+        atomic { answer = DONE; seat = 0; number = 0 }
+    :: turns == TURNS -> break
+    od;
+gone:
+    atomic { answer = DONE; turns = 0; seat = 0; ended++ }
+}
+#endif
+
+#if WHOLES > 0
+proctype whole(byte id) {
+    LOCALS;
+    byte turns;
+    do
+    :: turns < TURNS ->
+        turns++;
+        cvec_vector_change_records();
+        assert(answer != IS_BUSY) /* nobody holds the vector: no call of the whole vector is refused for that */
+    :: turns == TURNS -> break
+    od;
+gone:
+    atomic { answer = DONE; turns = 0; ended++ }
+}
+#endif
+
+#if SETTLERS > 0
+proctype settler(byte id) {
+    LOCALS;
+    byte turns;
+    do
+    :: turns < TURNS ->
+        turns++;
+        atomic { choose_deadline() };
+        cvec_vector_settle();
+        atomic { timed = false; number = 0 };
+        cvec_vector_settled()
+    :: turns == TURNS -> break
+    od;
+gone:
+    atomic { answer = DONE; timed = false; number = 0; growths = 0; turns = 0; ended++ }
+}
+#endif
+
+#if STARTS > 0
+proctype flusher_of_library(byte id) {
+    LOCALS;
+    if
+    :: threads > 0
+    :: ended == THREADS - 1 -> goto gone /* it was never started */
+    fi;
+    atomic { timed = TIMED };
+    run_own_flusher();
+    atomic { threads-- };
+gone:
+    atomic { answer = DONE; timed = false; growths = 0; ended++ }
+}
+#endif
+
+/* One that tries to end the vector, or to close it, until that is done. */
+proctype closer(byte id) {
+    LOCALS;
+#if STARTS > 0
+    cvec_vector_start_flusher();
+#endif
+#ifdef ENDS
+    do
+    :: !over -> cvec_vector_end(); over || (seats == slot_seats && holds == 0) /* before, it is as busy again */
+    :: over -> break
+    od;
+    ended == THREADS - 1 - STARTS; /* its caller waits for its threads */
+#endif
+    do
+    :: freed -> break
+    :: else -> cvec_vector_close(); freed || (seats == idle_slots && holds == 0 && asking == 0) /* before, it is as busy again */
+    od;
+gone:
+    atomic { answer = DONE; ended++ }
+}
+
+init {
+    byte id;
+    atomic {
+        run chance();
+        for (id : 0 .. THREADS - 1) {
+            if
+#if BORROWERS > 0
+            :: id < BORROWERS -> run borrower(id)
+#endif
+#if OWNERS > 0
+            :: id >= BORROWERS && id < BORROWERS + OWNERS -> run owns(id)
+#endif
+#if WHOLES > 0
+            :: id >= BORROWERS + OWNERS && id < BORROWERS + OWNERS + WHOLES -> run whole(id)
+#endif
+#if SETTLERS > 0
+            :: id >= THREADS - 1 - STARTS - SETTLERS && id < THREADS - 1 - STARTS -> run settler(id)
+#endif
+#if STARTS > 0
+            :: id == THREADS - 2 -> run flusher_of_library(id)
+#endif
+            :: id == THREADS - 1 -> run closer(id)
+            fi
+        };
+        id = 0
+    }
+}
+
+#ifdef FAIR
+ltl all_return { <> (ended == THREADS) }
+#endif
