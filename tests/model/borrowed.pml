@@ -21,6 +21,9 @@
 #ifndef TIMED
 #define TIMED 1 /* 0: no deadline passes */
 #endif
+#ifndef LOOPS
+#define LOOPS 0 /* 1: each that borrows but the first does nothing else, in a loop, until the first has ended */
+#endif
 #define THREADS (BORROWERS + OWNERS + WHOLES + SETTLERS + STARTS + 1)
 
 byte ended; /* ghost */
@@ -35,17 +38,16 @@ inline choose_deadline() {
 /* What a thread does by its seat. */
 inline work() {
 #ifdef PUSHES
-    enter();
-    when(answer == DONE, put_behind(); leave_seat());
-#else
+    if
+    :: enter(); when(answer == DONE, put_behind(); leave_seat())
+    :: true
+    fi;
+#endif
     cvec_vector_grow_records();
-#ifndef NO_WAITS
     if
     :: answer == DONE -> atomic { choose_deadline() }; await_until(0)
     :: true
     fi;
-#endif
-#endif
     atomic { answer = DONE; timed = false; number = 0 }
 }
 
@@ -54,17 +56,17 @@ proctype borrower(byte id) {
     LOCALS;
     byte turns;
     do
-    :: turns < TURNS ->
-        turns++;
+    :: (LOOPS && id > 0 -> ended == 0 : turns < TURNS) ->
+        turns = turns + !(LOOPS && id > 0);
         atomic { choose_deadline() };
         cvec_seat_borrow();
         atomic { timed = false };
         if
-        :: answer == DONE -> work(); cvec_seat_return()
+        :: answer == DONE -> when(!LOOPS || id == 0, work()); cvec_seat_return()
         :: else
         fi;
         atomic { answer = DONE; seat = 0; number = 0 }
-    :: turns == TURNS -> break
+    :: else -> break
     od;
 gone:
     atomic { answer = DONE; timed = false; turns = 0; seat = 0; ended++ }
@@ -150,6 +152,7 @@ proctype closer(byte id) {
 #if STARTS > 0
     cvec_vector_start_flusher();
 #endif
+    !LOOPS || ended == THREADS - 1;
 #ifdef ENDS
     do
     :: !over -> cvec_vector_end(); over || (seats == slot_seats && holds == 0) /* before, it is as busy again */

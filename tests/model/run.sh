@@ -58,13 +58,16 @@ borrow_three|borrowed.pml|-DSEATS=1 -DBORROWERS=3
 borrow_two|borrowed.pml|-DSEATS=2 -DBORROWERS=3 -DTIMED=0 -DSPURIOUS=0 -DREFUSALS=1 -DLOOKS=1
 borrow_own|borrowed.pml|-DSEATS=1 -DBORROWERS=1 -DOWNERS=1 -DTURNS=2 -DLIMIT=2
 borrow_whole|borrowed.pml|-DSEATS=1 -DLIMIT=1 -DBORROWERS=2 -DWHOLES=1 -DREFUSALS=1 -DTIMED=0
-borrow_push|borrowed.pml|-DSEATS=1 -DLIMIT=1 -DBORROWERS=2 -DTURNS=2 -DPUSHES -DREFUSALS=1 -DTIMED=0
+borrow_push|borrowed.pml|-DSEATS=1 -DBORROWERS=2 -DPUSHES -DREFUSALS=1 -DTIMED=0
 end|borrowed.pml|-DSEATS=1 -DBORROWERS=2 -DENDS -DTIMED=0 -DREFUSALS=1 -DFAILURES=1
 end_own|borrowed.pml|-DSEATS=1 -DBORROWERS=1 -DOWNERS=1 -DENDS -DTIMED=0 -DREFUSALS=1
 end_settle|borrowed.pml|-DSEATS=1 -DBORROWERS=1 -DSETTLERS=1 -DWHOLES=1 -DENDS -DTIMED=0 -DSETTLES
 settle|borrowed.pml|-DSEATS=1 -DBORROWERS=1 -DSETTLERS=1 -DTURNS=2 -DSETTLES -DREFUSALS=1 -DFAILURES=1
 settle_whole|borrowed.pml|-DSEATS=1 -DLIMIT=1 -DBORROWERS=1 -DWHOLES=1 -DSETTLERS=1 -DSETTLES -DREFUSALS=1 -DFAILURES=1
 own_flusher|borrowed.pml|-DSEATS=1 -DBORROWERS=1 -DSTARTS=1 -DREFUSALS=1 -DFAILURES=1 -DTURNS=2
+borrow_loop|borrowed.pml|-DSEATS=1 -DBORROWERS=3 -DLOOPS=1 -DFIFO -DTIMED=0 -DSPURIOUS=0
+whole_loop|seats.pml|-DSEATS=1 -DWORKERS=1 -DWHOLES=1 -DLOOPS=1 -DFIFO -DCOMPACTS -DNO_LINE -DTIMED=0 -DSPURIOUS=0
+whole_loop_line|seats.pml|-DSEATS=1 -DWORKERS=2 -DWHOLES=1 -DGROWTHS=0 -DLOOPS=1 -DFIFO -DCOMPACTS -DTIMED=0 -DSPURIOUS=0
 fork|fork.pml|
 TABLE
 }
@@ -87,6 +90,7 @@ line|all
 whole_flush|all
 whole_flush_sound|fair
 whole_two|all
+whole_loop|fair
 lend|all
 lend_compact|all
 hold|all
@@ -213,6 +217,37 @@ bugs() {
 70|flush_once|all|nobody is inside a vector that is closed
 71|fork|all|who has begun it isn't refused
 72|renew_refused|all|there is a vault to share
+73|push_whole|all|what was pushed is kept
+74|whole_loop_line|fair|cycle
+75|whole_loop|fair|cycle
+76|whole_two|all|deadlock
+77|whole_loop|fair|cycle
+78|borrow|all|a borrowed seat that is idle holds up no close
+79|own_flusher|all|a close leaves no thread
+80|borrow|all|the vector is there
+81|end|all|deadlock
+82|settle|all|a settle is for each growth
+83|borrow|all|no seat is lent to two
+84|borrow_own|all|deadlock
+85|borrow|all|who waits to borrow was called
+86|end|all|deadlock
+87|borrow_three|all|deadlock
+88|borrow|all|deadlock
+89|borrow|all|who wants it back was called
+90|borrow_three|all|who waits to borrow was called
+91|borrow|all|deadlock
+92|borrow|all|deadlock
+93|borrow_push|all|a seat that is given back keeps nothing
+94|borrow|all|deadlock
+95|borrow_push|all|a seat that is borrowed keeps nothing
+96|borrow|all|deadlock
+97|borrow|all|who waits to borrow was called
+98|borrow|all|no seat is lent to two
+99|settle|all|a settle is for each growth
+100|settle_whole|all|one thread at a time commits, by a committer
+101|settle|all|nobody is inside a vector that is closed
+102|end|all|nobody is inside a vector that is closed
+103|borrow_three|all|who wants it back was called
 TABLE
 }
 

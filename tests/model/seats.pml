@@ -24,6 +24,9 @@
 #ifndef TIMED
 #define TIMED 1 /* 0: no deadline passes */
 #endif
+#ifndef LOOPS
+#define LOOPS 0 /* 1: calls of the whole vector are made in a loop, until each worker has ended */
+#endif
 #define THREADS (WORKERS + HOLDERS + WHOLES + FLUSHERS + 1)
 
 byte ended; /* ghost */
@@ -168,14 +171,16 @@ proctype whole(byte id) {
     LOCALS;
     byte turns;
     do
-    :: turns < TURNS ->
-        turns++;
+    :: (LOOPS -> ended < WORKERS : turns < TURNS) ->
+        turns = turns + !LOOPS;
 #ifdef COMPACTS
         cvec_vector_compact()
 #else
         cvec_vector_change_records()
 #endif
-    :: turns == TURNS -> break
+        ;
+        assert(answer != IS_BUSY || HOLDERS > 0) /* it is refused only while somebody holds the vector */
+    :: else -> break
     od;
 gone:
     atomic { answer = DONE; turns = 0; ended++ }
@@ -198,6 +203,7 @@ gone:
 /* One that tries to close the vector until it is closed. */
 proctype closer(byte id) {
     LOCALS;
+    !LOOPS || ended == THREADS - 1;
     do
     :: freed -> break
     :: else -> cvec_vector_close(); freed || (seats == 0 && holds == 0 && asking == 0) /* before, it is as busy again */

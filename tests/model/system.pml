@@ -1,8 +1,21 @@
 /* What vector.pml takes of the system: the mutex, the conditions and the time; and what callers promise, or are promised. No name here
  * is one of the C's. */
 
+/* FIFO: who comes first to the mutex has it first; who is woken comes when it goes on. Else anyone has it. */
+#ifdef FIFO
+chan comers = [5] of { byte };
+#define come_to_mutex comers!id
+#define may_have_mutex (mutex == NOBODY && comers?[eval(id)])
+#define have_mutex comers?eval(id); mutex = id
+#else
+#define come_to_mutex skip
+#define may_have_mutex (mutex == NOBODY)
+#define have_mutex mutex = id
+#endif
+
 inline lock() {
-    mutex == NOBODY -> mutex = id;
+    come_to_mutex;
+    may_have_mutex -> have_mutex;
     assert(!freed) /* the vector is there */
 }
 
@@ -25,12 +38,19 @@ inline unlock() {
     mutex = NOBODY
 }
 
+#ifdef FIFO
+#define come_again(condition) !(condition & MINE) -> come_to_mutex
+#else
+#define come_again(condition) skip
+#endif
+
 /* In an atomic, from which others go on, until this thread was woken and has the mutex again. */
 inline wait(condition, is_timed) {
     condition = condition | MINE;
     deadlines = deadlines | ((is_timed) -> MINE : 0);
     unlock();
-    mutex == NOBODY && !(condition & MINE) -> mutex = id;
+    come_again(condition);
+    may_have_mutex && !(condition & MINE) -> have_mutex;
     assert(!freed); /* the vector is there when a wait ends */
     late = late || (expired & MINE);
     deadlines = deadlines & ~MINE;
@@ -89,8 +109,9 @@ inline let_pass() {
 
 /* Its caller sees to it that the vector is there, and that no close has begun. */
 inline begin_call() {
+    come_to_mutex;
     if
-    :: mutex == NOBODY && !closing && !freed -> mutex = id; calls++
+    :: may_have_mutex && !closing && !freed -> have_mutex; calls++
     :: freed -> goto gone
     fi
 }

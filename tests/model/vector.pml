@@ -536,7 +536,7 @@ inline await_handles() {
     asking = asking + (BUG != 23);
     do
     :: !is_held && claimed -> wait(released, false)
-    :: !is_held && !claimed && owed > 0 -> wait(came, false)
+    :: !is_held && !claimed && owed > 0 && BUG != 77 -> wait(came, false)
     :: BUG == 54 && holds > 0 -> wait(released, false)
     :: else -> break
     od;
@@ -711,7 +711,8 @@ inline is_idle() {
     when(answer == DONE,
         cvec_take_slots();
         when(!has_slots && BUG != 80, answer = IS_BUSY));
-    when(answer == IS_BUSY, cvec_give_slots_back())
+    when(answer == IS_BUSY, cvec_give_slots_back());
+    assert(answer == DONE || seats > idle_slots || holds > 0 || asking > 0) /* a borrowed seat that is idle holds up no close */
 }
 
 inline finish() {
@@ -752,10 +753,10 @@ inline await_calls() {
     over = true;
     do
     :: cvec_take_slots();
-       when(asking == 0 && !is_used && has_slots, break);
+       when(asking == 0 && !is_used && (has_slots || BUG == 102), break);
        when(BUG != 81, cvec_call_first());
        unlock();
-       mutex == NOBODY && (is_all_left || is_first_asleep) -> mutex = id
+       mutex == NOBODY && (is_all_left || (is_first_asleep && BUG != 81)) -> mutex = id
     od
 }
 
@@ -883,7 +884,7 @@ inline begin_line() {
 inline is_first() {
     if
     :: line?[eval(id)] ->
-        called = false;
+        called = (BUG == 88 && called);
         when(owes_first, cvec_come_in_turn());
         owes_first = false
     :: else
@@ -1027,13 +1028,14 @@ inline borrow_in_turn() {
 inline cvec_seat_borrow() {
     atomic { begin_passing(); answer = LATE };
     if
-    :: overdue == 0 || BUG == 88 -> idle_slot()
+    :: overdue == 0 -> idle_slot()
     :: else
     fi;
     if
     :: answer == LATE -> borrow_in_turn()
     :: else -> passing--
-    fi
+    fi;
+    assert(answer != DONE || !keeps_something) /* a seat that is borrowed keeps nothing */
 }
 
 inline hand_back() {
@@ -1092,6 +1094,7 @@ inline cvec_lend_on() {
         owner[seat] = NOBODY;
         away[seat] = away[seat] | MINE;
         slot[seat] = (BUG == 96 -> IDLE : LENDABLE);
+        when(BUG != 103, broadcast(handed));
         when(BUG != 97, cvec_call_first())
     :: else
     fi
@@ -1114,7 +1117,7 @@ inline cvec_have_again() {
 
 inline await_hold() {
     when(!yields, cvec_await_pause());
-    when(yields && BUG != 77, broadcast(settled))
+    when(yields, broadcast(settled))
 }
 
 inline cvec_vector_hold() {
