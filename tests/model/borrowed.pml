@@ -1,6 +1,6 @@
 /* Threads that borrow seats, grow and wait by them, and give them back; beside them threads that take seats of their own, calls of the
  * whole vector, threads that settle by no seat, a flusher of the library's own, and a close, or an end before it (ENDS). With PUSHES
- * who borrows pushes. */
+ * who borrows pushes, and with NO_WORK it does nothing else. */
 #include "vector.pml"
 
 #ifndef OWNERS
@@ -62,7 +62,11 @@ proctype borrower(byte id) {
         cvec_seat_borrow();
         atomic { timed = false };
         if
-        :: answer == DONE -> when(!LOOPS || id == 0, work()); cvec_seat_return()
+        :: answer == DONE ->
+#ifndef NO_WORK
+            when(!LOOPS || id == 0, work());
+#endif
+            cvec_seat_return()
         :: else
         fi;
         atomic { answer = DONE; seat = 0; number = 0 }

@@ -54,15 +54,19 @@ push_refused|seats.pml|-DSEATS=1 -DLIMIT=1 -DWORKERS=1 -DGROWTHS=3 -DREFUSALS=2 
 push_often|seats.pml|-DSEATS=2 -DLIMIT=1 -DWORKERS=2 -DGROWTHS=2 -DREFUSALS=1 -DPUSHES -DNO_LINE
 push_whole|seats.pml|-DSEATS=1 -DLIMIT=1 -DWORKERS=1 -DWHOLES=1 -DGROWTHS=2 -DREFUSALS=1 -DPUSHES -DNO_LINE
 borrow|borrowed.pml|-DSEATS=1 -DBORROWERS=2 -DTURNS=2 -DTIMED=0 -DSPURIOUS=0
-borrow_three|borrowed.pml|-DSEATS=1 -DBORROWERS=3
-borrow_two|borrowed.pml|-DSEATS=2 -DBORROWERS=3 -DTIMED=0 -DSPURIOUS=0 -DREFUSALS=1 -DLOOKS=1
+borrow_late|borrowed.pml|-DSEATS=1 -DBORROWERS=2
+borrow_three|borrowed.pml|-DSEATS=1 -DBORROWERS=3 -DNO_WORK -DREFUSALS=1 -DTIMED=0
+borrow_often|borrowed.pml|-DSEATS=1 -DBORROWERS=3 -DTIMED=0 -DSPURIOUS=0
+borrow_two|borrowed.pml|-DSEATS=2 -DBORROWERS=3 -DNO_WORK -DTIMED=0 -DLOOKS=1
 borrow_own|borrowed.pml|-DSEATS=1 -DBORROWERS=1 -DOWNERS=1 -DTURNS=2 -DLIMIT=2
-borrow_whole|borrowed.pml|-DSEATS=1 -DLIMIT=1 -DBORROWERS=2 -DWHOLES=1 -DREFUSALS=1 -DTIMED=0
+borrow_whole|borrowed.pml|-DSEATS=1 -DLIMIT=1 -DBORROWERS=1 -DWHOLES=1 -DREFUSALS=1 -DFAILURES=1
+borrow_all|borrowed.pml|-DSEATS=1 -DLIMIT=1 -DBORROWERS=2 -DWHOLES=1 -DTIMED=0 -DSPURIOUS=0
 borrow_push|borrowed.pml|-DSEATS=1 -DBORROWERS=2 -DPUSHES -DREFUSALS=1 -DTIMED=0
 end|borrowed.pml|-DSEATS=1 -DBORROWERS=2 -DENDS -DTIMED=0 -DREFUSALS=1 -DFAILURES=1
 end_own|borrowed.pml|-DSEATS=1 -DBORROWERS=1 -DOWNERS=1 -DENDS -DTIMED=0 -DREFUSALS=1
 end_settle|borrowed.pml|-DSEATS=1 -DBORROWERS=1 -DSETTLERS=1 -DWHOLES=1 -DENDS -DTIMED=0 -DSETTLES
 settle|borrowed.pml|-DSEATS=1 -DBORROWERS=1 -DSETTLERS=1 -DTURNS=2 -DSETTLES -DREFUSALS=1 -DFAILURES=1
+settle_own|borrowed.pml|-DSEATS=1 -DOWNERS=1 -DSETTLERS=1 -DTURNS=2 -DLIMIT=1 -DSETTLES -DREFUSALS=1
 settle_whole|borrowed.pml|-DSEATS=1 -DLIMIT=1 -DBORROWERS=1 -DWHOLES=1 -DSETTLERS=1 -DSETTLES -DREFUSALS=1 -DFAILURES=1
 own_flusher|borrowed.pml|-DSEATS=1 -DBORROWERS=1 -DSTARTS=1 -DREFUSALS=1 -DFAILURES=1 -DTURNS=2
 borrow_loop|borrowed.pml|-DSEATS=1 -DBORROWERS=3 -DLOOPS=1 -DFIFO -DTIMED=0 -DSPURIOUS=0
@@ -99,16 +103,18 @@ push|all
 push_refused|all
 push_whole|all
 borrow|all
+borrow_late|all
 borrow_three|all
 borrow_two|all
 borrow_own|all
 borrow_whole|all
+borrow_all|all
 borrow_push|all
 end|all
 end_own|all
 end_settle|all
 settle|all
-settle_whole|all
+settle_own|all
 own_flusher|all
 fork|all
 TABLE
@@ -139,6 +145,8 @@ hold_lend|all
 hold_by_two|all
 hold_by_two_whole|all
 push_often|all
+settle_whole|all
+whole_loop_line|fair
 TABLE
 }
 
@@ -225,16 +233,16 @@ bugs() {
 78|borrow|all|a borrowed seat that is idle holds up no close
 79|own_flusher|all|a close leaves no thread
 80|borrow|all|the vector is there
-81|end|all|deadlock
-82|settle|all|a settle is for each growth
+81|end|all|nothing
+82|settle_own|all|a settle is for each growth
 83|borrow|all|no seat is lent to two
 84|borrow_own|all|deadlock
 85|borrow|all|who waits to borrow was called
-86|end|all|deadlock
-87|borrow_three|all|deadlock
+86|end|all|the file is locked
+87|borrow_two|all|who is first in line was called where one is idle
 88|borrow|all|deadlock
 89|borrow|all|who wants it back was called
-90|borrow_three|all|who waits to borrow was called
+90|borrow_often|all|who waits to borrow was called
 91|borrow|all|deadlock
 92|borrow|all|deadlock
 93|borrow_push|all|a seat that is given back keeps nothing
@@ -247,7 +255,7 @@ bugs() {
 100|settle_whole|all|one thread at a time commits, by a committer
 101|settle|all|nobody is inside a vector that is closed
 102|end|all|nobody is inside a vector that is closed
-103|borrow_three|all|who wants it back was called
+103|borrow|all|who wants it back was called
 TABLE
 }
 

@@ -33,6 +33,7 @@ inline lock() {
 inline unlock() {
     assert(mutex == id);
     assert(claimed || seats == SEATS || !is_first_asleep || was_refused);    /* who is first in line was called where there is a seat */
+    assert(idle_slots == 0 || passing > 0 || claimed || !is_first_asleep);   /* who is first in line was called where one is idle */
     assert(!is_lendable || !is_first_asleep || !is_borrower_first);          /* who waits to borrow was called where a seat is lent on */
     assert(!(handed & away[0] && slot[0] == LENDABLE || handed & away[1] && slot[1] == LENDABLE)); /* who wants it back was called */
     mutex = NOBODY

@@ -787,9 +787,11 @@ inline list_seat() {
 }
 
 #ifdef SETTLES
-#define count_known when(all_known < grown_by[seat], all_known = grown_by[seat]); grown_by[seat] = 0
+#define count_known when(all_known < grown_by[seat], all_known = grown_by[seat])
+#define note_fresh grown_by[seat] = 0
 #else
 #define count_known skip
+#define note_fresh skip
 #endif
 
 inline cvec_drop_seat() {
@@ -813,6 +815,7 @@ inline fresh_seat() {
         seat = (at[0] == NONE -> 0 : 1);
         assert(at[seat] == NONE); /* no more seats are given than there are */
         at[seat] = FRESH;
+        note_fresh;
         cvec_phase_seat()
     };
     when(answer == NOT_SO, cvec_renew());
@@ -1498,8 +1501,8 @@ inline cvec_vector_stop_flusher() {
 #ifdef SETTLES
 inline all_grown() {
     number = all_known;
-    when(number < grown_by[0], number = grown_by[0]);
-    when(number < grown_by[1], number = grown_by[1])
+    when(at[0] == LISTED && number < grown_by[0], number = grown_by[0]);
+    when(at[1] == LISTED && number < grown_by[1], number = grown_by[1])
 }
 
 inline cvec_vector_settle() {
