@@ -3,18 +3,20 @@
 #define cvec_vector_read_records counted_read
 #define cvec_vector_size watched_size
 #define cvec_vector_await_for asked_await_for
+#define cvec_vector_settle asked_settle
 #define cvec_vector_resize_by refused_resize
 #define cvec_vector_change_records refused_change
 #define cvec_vector_fold refused_fold
-#define cvec_vector_take_seat careless_take_seat
+#define cvec_seat_borrow careless_borrow
 #include "told.hpp"
 #undef cvec_vector_read_records
 #undef cvec_vector_size
 #undef cvec_vector_await_for
+#undef cvec_vector_settle
 #undef cvec_vector_resize_by
 #undef cvec_vector_change_records
 #undef cvec_vector_fold
-#undef cvec_vector_take_seat
+#undef cvec_seat_borrow
 
 #include <algorithm>
 #include <csignal>
@@ -84,6 +86,13 @@ extern "C" std::uint32_t asked_await_for(cvec_vector_seat *seat, std::uint64_t n
     return answer == CVEC_DONE ? cvec_vector_await_for(seat, number, milliseconds) : answer;
 }
 
+extern "C" std::uint32_t cvec_vector_settle(cvec_vector *, std::uint64_t);
+extern "C" std::uint32_t asked_settle(cvec_vector *vector, std::uint64_t milliseconds) {
+    milliseconds_asked = milliseconds;
+    const std::uint32_t answer = answer_instead;
+    return answer == CVEC_DONE ? cvec_vector_settle(vector, milliseconds) : answer;
+}
+
 // So often a call of the whole vector is refused for want of memory before it has begun; and what is done before a change.
 static int refusals_to_come = 0;
 static std::function<void()> before_change;
@@ -113,10 +122,11 @@ extern "C" std::uint32_t refused_fold(cvec_vector *vector) {
 // Leaves any errno, as a call of the system may. So often a seat is refused for want of memory.
 static int seats_to_refuse = 0;
 
-extern "C" std::uint32_t cvec_vector_take_seat(cvec_vector *, cvec_vector_seat **);
-extern "C" std::uint32_t careless_take_seat(cvec_vector *vector, cvec_vector_seat **seat) {
+extern "C" std::uint32_t cvec_seat_borrow(cvec_vector *, std::uint64_t, cvec_vector_seat **);
+extern "C" std::uint32_t careless_borrow(cvec_vector *vector, std::uint64_t milliseconds, cvec_vector_seat **seat) {
     *seat = nullptr;
-    const std::uint32_t answer = seats_to_refuse > 0 ? std::uint32_t{CVEC_MEMORY} : cvec_vector_take_seat(vector, seat);
+    const std::uint32_t answer =
+        seats_to_refuse > 0 ? std::uint32_t{CVEC_MEMORY} : cvec_seat_borrow(vector, milliseconds, seat);
     if (seats_to_refuse > 0) --seats_to_refuse;
     errno = ENOENT;
     return answer;
@@ -451,14 +461,14 @@ static void beside_a_held_call(std::function<void()> &hook, const std::function<
     hook = nullptr;
 }
 
-// The time runs also while another call has the only seat, or the vector alone.
+// The time runs also while another call has the only seat. What is of all growths takes none, nor waits for a change that hasn't begun.
 static void deadlines_for_a_seat(const std::string &path) {
     using namespace std::chrono_literals;
     numbers vector(path, {cvec::opening::create, 1, 1}), wide(path + ".wide");
     const cvec::growth made = vector.append(std::uint64_t{4});
     const auto reads_it = [&] { static_cast<void>(vector.copy(0)); };
     beside_a_held_call(during_read, reads_it, [&](const std::atomic<bool> &is_held) {
-        HOLDS(!vector.settle_for(20ms) && !vector.settle_for(made, 0s) && is_held);
+        HOLDS(!vector.settle_for(made, 20ms) && !vector.settle_for(made, 0s) && vector.settle_for(20ms) && is_held);
     });
     // What is left of it is for the commit.
     beside_a_held_call(during_read, reads_it, [&](const std::atomic<bool> &) {
@@ -466,7 +476,7 @@ static void deadlines_for_a_seat(const std::string &path) {
     });
     wide.push_back(4);
     beside_a_held_call(before_change, [&] { wide.change(0, 5); }, [&](const std::atomic<bool> &is_held) {
-        HOLDS(!wide.settle_for(20ms) && is_held);
+        HOLDS(wide.settle_for(20ms) && is_held);
     });
     HOLDS(wide.settle_for(0s) && wide.copy(0) == 5);
 }
@@ -707,15 +717,15 @@ static std::string words_of(const std::function<void()> &call) {
     }
 }
 
-// What was done isn't refused where a seat is behind it: the file is closed then, and later calls are told why.
+// Where a seat is refused behind what was done, the next call is, and may be made again: the file stays open.
 static void changing_ends(const std::string &path) {
-    const std::string refusal = std::to_string(CVEC_NOT_SO) + " cvec: " + path + ": it was closed: memory was refused";
+    const std::string refusal = std::to_string(CVEC_MEMORY) + " cvec: " + path + ": memory was refused";
     const auto ends = [&](const std::function<void(numbers &)> &call, const list &rows) {
         numbers vector(path);
-        seats_to_refuse = 1;
-        HOLDS(status_of([&] { call(vector); }) == CVEC_DONE && seats_to_refuse == 0);
+        call(vector);
+        seats_to_refuse = 2;
         HOLDS(words_of([&] { static_cast<void>(vector.size()); }) == refusal && words_of([&] { vector.push_back(5); }) == refusal);
-        HOLDS(words_of([&] { vector.change(0, 5); }) == refusal && words_of([&] { vector.fold(); }) == refusal);
+        HOLDS(seats_to_refuse == 0 && rows_of(vector) == rows);
         vector.close();
         HOLDS(rows_of(numbers(path)) == rows);
     };
@@ -727,10 +737,10 @@ static void changing_ends(const std::string &path) {
     // What was refused for itself stays refused for that.
     numbers vector(path);
     vector.push_back(4);
-    refusals_to_come = seats_to_refuse = 1;
-    HOLDS(words_of([&] { vector.change(0, 5); }) == std::to_string(CVEC_MEMORY) + " cvec: " + path + ": memory was refused");
-    HOLDS(words_of([&] { vector.push_back(5); }) == refusal);
-    HOLDS(rows_of(numbers(path)) == list({4}));
+    refusals_to_come = 1;
+    HOLDS(words_of([&] { vector.change(0, 5); }) == refusal);
+    vector.push_back(5);
+    HOLDS(rows_of(vector) == list({4, 5}));
 }
 
 struct watch {
@@ -879,6 +889,7 @@ static void changing_breaks(const std::string &path) {
     fails(second, rows);
     HOLDS(status_of([&] { static_cast<void>(second.size()); }) == CVEC_BROKEN);
     HOLDS(status_of([&] { second.run_flusher(std::chrono::hours(1)); }) == CVEC_BROKEN);
+    HOLDS(status_of([&] { second.close(); }) == CVEC_BROKEN);
     HOLDS(rows_of(numbers(path)) == list({1, 2, 3}) && rows_of(numbers(path + ".second")) == list(400, 4));
     // Also where nothing was grown since it was opened.
     numbers third(path + ".second");

@@ -114,7 +114,7 @@ static void look_for_lock(void) {
     close(other);
 }
 
-static int fails(void) { return left >= 0 && left-- == 0; }
+static int fails(void) { return __atomic_load_n(&left, __ATOMIC_SEQ_CST) >= 0 && __atomic_fetch_sub(&left, 1, __ATOMIC_SEQ_CST) == 0; }
 
 static int is_interrupted(void) {
     errno = EINTR;

@@ -196,6 +196,11 @@ static void change_memory(const char *path) {
 
 /* ---- settling without a seat */
 
+static void *run_compact(void *answer) {
+    __atomic_store_n((uint32_t *)answer, cvec_vector_compact(vector), __ATOMIC_SEQ_CST);
+    return NULL;
+}
+
 /* Also of seats that are closed. It commits where nobody does; for others' commits it has a deadline. */
 static void settles(const char *path) {
     struct settling leader_of_all, late_one;
@@ -220,10 +225,22 @@ static void settles(const char *path) {
     HOLDS(leader_of_all.answer == CVEC_DONE && late_one.answer == CVEC_DONE && late_one.waited < 30000);
     HOLDS(cvec_vector_settled(vector, &count) == CVEC_DONE && count == 2);
     take(&seat);
+    /* Also while another call has the whole vector. */
+    pthread_t changer;
+    uint32_t answer = CVEC_BUSY;
+    const uint64_t zero = 0;
+    HOLDS(cvec_vector_change(vector, 0, &zero, 1) == CVEC_DONE && grow(2, &number) == CVEC_DONE);
+    shut_gate(1);
+    pthread_create(&changer, NULL, run_compact, &answer);
+    until_held();
+    HOLDS(cvec_vector_settle(vector, 20) == CVEC_LATE && seen(&answer) == CVEC_BUSY);
+    shut_gate(0);
+    pthread_join(changer, NULL);
+    HOLDS(answer == CVEC_DONE && cvec_vector_settled(vector, &count) == CVEC_DONE && count == 3);
     left = 0;
-    HOLDS(grow(2, &number) == CVEC_DONE && cvec_vector_settle(vector, CVEC_NO_LIMIT) == CVEC_DISK_WRITE);
+    HOLDS(grow(3, &number) == CVEC_DONE && cvec_vector_settle(vector, CVEC_NO_LIMIT) == CVEC_DISK_WRITE);
     HOLDS(cvec_vector_settle(vector, CVEC_NO_LIMIT) == CVEC_BROKEN && cvec_vector_settle(vector, 0) == CVEC_BROKEN);
-    HOLDS(cvec_vector_close_seat(seat) == CVEC_DONE && cvec_vector_close(vector) == CVEC_BROKEN && found(path) == 2);
+    HOLDS(cvec_vector_close_seat(seat) == CVEC_DONE && cvec_vector_close(vector) == CVEC_BROKEN && found(path) == 3);
 }
 
 /* ---- a thread of the library's own */
@@ -258,7 +275,7 @@ static void own_flusher(const char *path) {
     make((remove(path), path), 1);
     HOLDS(cvec_vector_start_flusher(vector, 1) == CVEC_DONE && grow(0, &number) == CVEC_DONE);
     until_settled(1);
-    left = 0;
+    __atomic_store_n(&left, 0, __ATOMIC_SEQ_CST); /* a flusher looks at it */
     HOLDS(grow(1, &number) == CVEC_DONE);
     while (!is_broken(vector)) nap();
     HOLDS(cvec_vector_start_flusher(vector, 1) == CVEC_BROKEN && cvec_vector_close_seat(seat) == CVEC_DONE);

@@ -194,7 +194,8 @@ uint32_t cvec_vector_await(cvec_vector_seat *seat, uint64_t number);
  * ends, and begins a further one only while there is time. So with 0 it commits where nobody does, and else only looks. */
 uint32_t cvec_vector_await_for(cvec_vector_seat *seat, uint64_t number, uint64_t milliseconds);
 
-/* Waits so long, by no seat, until each growth is durable that had returned when it was called, of whichever seat. */
+/* Waits so long, by no seat, until each growth is durable that had returned when it was called, of whichever seat. Once a write or a
+ * sync has failed it is CVEC_BROKEN, also where nothing was grown. */
 uint32_t cvec_vector_settle(cvec_vector *vector, uint64_t milliseconds);
 
 /* Begins a thread of the library's own that commits what was grown each so many milliseconds (at least 1), takes no signals, and which

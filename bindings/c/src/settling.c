@@ -72,12 +72,18 @@ static uint64_t all_grown(const cvec_vector *vector) {
     return most;
 }
 
+/* With the mutex. Of a broken vector it isn't known whether all is durable that was changed. */
+static uint32_t settle_all(cvec_vector *vector, const struct timespec *until) {
+    if (vector->over) return CVEC_NOT_SO;
+    return is_broken(vector) ? CVEC_BROKEN : await_count(vector, all_grown(vector), until);
+}
+
 uint32_t cvec_vector_settle(cvec_vector *vector, uint64_t milliseconds) {
     const struct timespec until = cvec_moment_in(milliseconds);
     if (!is_of_this_process(vector)) return CVEC_FORKED;
     pthread_mutex_lock(&vector->mutex);
     vector->asking++;
-    uint32_t answer = vector->over ? CVEC_NOT_SO : await_count(vector, all_grown(vector), milliseconds == CVEC_NO_LIMIT ? NULL : &until);
+    uint32_t answer = settle_all(vector, milliseconds == CVEC_NO_LIMIT ? NULL : &until);
     vector->asking--;
     pthread_mutex_unlock(&vector->mutex);
     return answer;
