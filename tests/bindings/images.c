@@ -172,9 +172,9 @@ static void try_records(void) {
 }
 
 static void try_file(const char *path) {
-    cvec_file file;
-    check(cvec_create(&file, path, CVEC_TYPE_COUNT) == CVEC_NOT_SO && access(path, F_OK) != 0, "no type", "a file");
-    cvec_close(&file);
+    cvec_file *file;
+    check(cvec_file_create(&file, path, CVEC_TYPE_COUNT, 1) == CVEC_NOT_SO && access(path, F_OK) != 0, "no type", "a file");
+    cvec_file_close(&file);
 }
 
 int main(int argc, char **argv) {

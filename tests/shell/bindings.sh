@@ -29,8 +29,8 @@ make_caller() {
 }
 
 make_c() {
-    [ -e "$built/c" ] || cc -std=c99 -O2 -Wall -Wextra -Werror "-I$c_headers" -o "$built/c" "$bindings/driver.c" \
-        "$built/cvec_file.o" "$c_library" "$kit_library"
+    [ -e "$built/c" ] || cc -std=c99 -O2 -Wall -Wextra -Werror "-I$c_headers" "-I$c_sources" -o "$built/c" "$bindings/driver.c" \
+        "$c_sources/system.c" "$c_sources/types.c" "$c_library" "$kit_library"
 }
 
 make_python() {

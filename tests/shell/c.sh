@@ -89,7 +89,8 @@ a_c_program_has_numbers_of_each_width() (
     did '-2.5\n5e-324\n'
 )
 
-# Each request for memory is refused in turn, until none is met: also that of the system for the path's real name.
+# Each request for memory is refused in turn, until none is met: also that of the system for the path's real name. Refused that of the
+# handle, nothing is made.
 a_creation_in_c_names_memory_that_was_refused() (
     has_c || exit $is_skipped
     make_c_library
@@ -103,6 +104,8 @@ a_creation_in_c_names_memory_that_was_refused() (
 #include <unistd.h>
 
 extern void *__libc_malloc(size_t), *__libc_calloc(size_t, size_t), *__libc_realloc(void *, size_t);
+
+enum { OF_HANDLE = 2 }; /* the handle, and what it has for its first frame */
 
 static unsigned seen, refused;
 
@@ -119,12 +122,14 @@ void *realloc(void *at, size_t len) { return is_refused() ? NULL : __libc_reallo
 int main(int argc, char **argv) {
     if (argc != 2) return 2;
     for (refused = 1;; refused++) {
-        cvec_file file;
+        cvec_file *file;
         seen = 0;
-        const uint32_t answer = cvec_create(&file, argv[1], CVEC_U64);
+        const cvec_status answer = cvec_file_create(&file, argv[1], CVEC_U64, 1);
         const unsigned met = seen;
-        if (answer == CVEC_DONE) cvec_close(&file);
-        if (met < refused) return answer == CVEC_DONE && refused > 1 ? 0 : 1;
+        if ((answer == CVEC_DONE) != (file != NULL)) return puts("a refusal that makes a handle"), 1;
+        if (refused <= OF_HANDLE && (answer != CVEC_MEMORY || access(argv[1], F_OK) == 0)) return puts("a file is made for no handle"), 1;
+        cvec_file_close(&file);
+        if (met < refused) return answer == CVEC_DONE && refused > OF_HANDLE ? 0 : 1;
         if (answer != CVEC_DONE && answer != CVEC_MEMORY) return printf("request %u: %u\n", refused, (unsigned)answer), 1;
         unlink(argv[1]);
     }

@@ -67,7 +67,7 @@ extern "C" {
     X(UNSETTLED, 70, "a growth isn't committed")
 
 #define CVEC_CODE(NAME, NUMBER, SENTENCE) CVEC_##NAME = NUMBER,
-enum cvec_status { CVEC_STATUSES(CVEC_CODE) };
+typedef enum cvec_status { CVEC_STATUSES(CVEC_CODE) } cvec_status;
 #undef CVEC_CODE
 
 /* Why an image is damaged, in the order in which docs/file/format.md looks for it. */
@@ -280,49 +280,58 @@ static inline uint32_t cvec_frame_at(const uint8_t *image, size_t len, uint64_t 
 CVEC_TYPES(CVEC_CALLS)
 #undef CVEC_CALLS
 
-/* ---- cvec_file.c, over system.c and types.c beside it: the calls of the system, not proved */
+/* ---- cvec_file.c, over system.c and types.c beside it: the calls of the system, not proved. A file is opened by one writer, by one
+ * thread at a time, or to be read alone. While it is open to be written it is locked (flock); where the process that opened it ends
+ * without a close, it is in use until each process that was forked from it has closed it, has ended or runs another program.
+ *
+ * Where a call is refused it has written nothing but *fault, and a handle that it was to make is NULL. A handle that is NULL is
+ * CVEC_NOT_SO. A pointer to no records may be NULL, and fault too. Records are of the type that the call names, and a file has the width
+ * of its records alone: a type of another width is CVEC_WIDTH, and one of i64 reads a file of u64. Standard streams that are closed get
+ * /dev/null, where to read and to print fails as before: else a file might have their numbers, and get what another thread prints. */
 
-/* A file that is open for reading and appending, by one thread at a time, in the process that opened it: one that is forked
- * can only close it. Where the one that opened it ends without a close, the file is in use until each of those has closed it, has
- * ended or runs another program. */
-typedef struct cvec_file {
-    int fd;
-    cvec_type type;
-    bool broken;
-    bool read_only;
-    uint64_t process; /* the one that opened it */
-    cvec_stat stat;   /* of one that is read only: what it held when it was last read */
-    uint8_t *bytes;   /* of the last append, to be used again */
-    size_t room;
-} cvec_file;
+typedef struct cvec_file cvec_file;
 
-/* Makes a file of version 1, and syncs its folder. What is there stays: CVEC_EXISTS; but for what a stopped creation of this
- * type leaves, at most CVEC_EMPTY_LEN bytes, each 0 or that of the empty file. Where it is refused *file is closed. By this and
- * the next two, standard streams that are closed get /dev/null, where to read and to print fails as before: else the file might
- * have their numbers, and get what another thread prints. */
-uint32_t cvec_create(cvec_file *file, const char *path, cvec_type type);
+/* Makes a file of version 1 or 2 (else CVEC_VERSION), and syncs its folder. What is there stays: CVEC_EXISTS; but for what a stopped
+ * creation of this type and version leaves, at most CVEC_EMPTY_LEN bytes, each 0 or that of the empty file. */
+cvec_status cvec_file_create(cvec_file **file, const char *path, cvec_type type, uint8_t version);
 
-/* Opens a file and checks it: CVEC_DONE, or why not, as cvec_check_TYPE and the system's calls answer. Nothing is
- * written. It takes memory for the bytes of the file and for its records, and gives it back. Where it is refused *file is
- * closed. */
-uint32_t cvec_open(cvec_file *file, const char *path, cvec_type type, cvec_fault *fault);
+/* Syncs what is there, reads and checks it: CVEC_DONE, or why not, as cvec_check_TYPE and the system's calls answer. It takes memory
+ * for the bytes of the file and for its records, and gives it back. */
+cvec_status cvec_file_open(cvec_file **file, const char *path, cvec_type type, cvec_fault *fault);
 
-/* Opens a file for reading alone, also while another process writes it, or has it locked: without a lock, and with no leave
- * to write. It reads and checks it as cvec_read does. Where it is refused *file is closed. */
-uint32_t cvec_open_to_read(cvec_file *file, const char *path, cvec_type type, cvec_fault *fault);
+/* To read alone, also while another process writes it, or has it locked: without a lock, and with no leave to write. It reads and checks
+ * it as cvec_file_read does. */
+cvec_status cvec_file_open_to_read(cvec_file **file, const char *path, cvec_type type, cvec_fault *fault);
 
 /* Appends the records as one growth: all of them or none. CVEC_DONE: they are durable. A refusal from CVEC_VERSION to
  * CVEC_NO_RECORD writes nothing. Behind CVEC_DISK_WRITE and CVEC_DISK_SYNC the file is broken: opened again, behind
- * CVEC_DISK_SYNC after a restart of the system, it has all of them or none. The records are of the file's type. */
-uint32_t cvec_append(cvec_file *file, const void *records, size_t count);
+ * CVEC_DISK_SYNC after a restart of the system, it has all of them or none. */
+cvec_status cvec_file_append(cvec_file *file, cvec_type type, const void *records, size_t count);
 
-/* Copies records out, as cvec_read_TYPE does. It takes as much memory as cvec_open. Of a file that is open to be read it
- * answers as cvec_look_TYPE: the vector of one moment of the call, synced before it is answered, and file->stat is what that
- * holds. Where file->stat.size > from + *count there were more records than room. Behind CVEC_DISK_SYNC that file is broken. */
-uint32_t cvec_read(cvec_file *file, uint64_t from, void *out, size_t room, uint64_t *count, cvec_fault *fault);
+/* Copies records from position `from` on, as many as there are and as fit; *count is how many. It takes as much memory as
+ * cvec_file_open. Of a file that is open to be read it answers as cvec_look_TYPE: the vector of one moment of the call, synced before
+ * it is answered. Behind CVEC_DISK_SYNC that file is broken. */
+cvec_status cvec_file_read(cvec_file *file, cvec_type type, uint64_t from, void *out, size_t room, uint64_t *count, cvec_fault *fault);
 
-/* Closes the file. What was appended stands. A file that is closed may be closed again. */
-void cvec_close(cvec_file *file);
+/* What it holds; one that is open to be read, what it held when it was last read: where stat->size > from + *count there were more
+ * records than room. Of a file that is broken, what it held before. */
+cvec_status cvec_file_stat(const cvec_file *file, cvec_stat *stat);
+
+/* Closes the file, and makes the handle NULL; of NULL it does nothing. What was appended stands. In a forked process, which can do
+ * nothing else, the parent's file stays locked. */
+void cvec_file_close(cvec_file **file);
+
+/* The calls that name records by their type: cvec_file_append_u64, cvec_file_read_pair .. */
+#define CVEC_TYPED(NAME, name, RECORD, WIDTH) \
+    static inline cvec_status cvec_file_append_##name(cvec_file *file, const RECORD *records, size_t count) { \
+        return cvec_file_append(file, CVEC_##NAME, records, count); \
+    } \
+    static inline cvec_status cvec_file_read_##name(cvec_file *file, uint64_t from, RECORD *out, size_t room, uint64_t *count, \
+                                                    cvec_fault *fault) { \
+        return cvec_file_read(file, CVEC_##NAME, from, out, room, count, fault); \
+    }
+CVEC_TYPES(CVEC_TYPED)
+#undef CVEC_TYPED
 
 /* A number of the calling process: that of none from which it was forked, though the system may give them one and the same, in
  * namespaces of their own. For who keeps beside a file or a vector what a forked process has copies of, as locks. */

@@ -21,14 +21,14 @@ enum { FIRST_ROOM = 4096, FIRST_PIECE = 65536 };
 
 uint32_t cvec_read_records(cvec_type type, const uint8_t *image, size_t len, uint64_t from, void *out, size_t room, uint64_t *count,
                            cvec_stat *stat, cvec_fault *fault) {
-    uint32_t answer = cvec_image_read(type, image, len, from, out, cvec_bytes_of(type, room), count, stat, fault);
+    cvec_status answer = cvec_image_read(type, image, len, from, out, cvec_bytes_of(type, room), count, stat, fault);
     if (answer == CVEC_DONE && type == CVEC_FLAGGED) cvec_unpack(out, (size_t)*count);
     return answer;
 }
 
 uint32_t cvec_look_records(cvec_type type, const uint8_t *bytes, size_t len, uint64_t from, void *out, size_t room, uint64_t *count,
                            cvec_stat *stat, cvec_fault *fault) {
-    uint32_t answer = cvec_image_look(type, bytes, len, from, out, cvec_bytes_of(type, room), count, stat, fault);
+    cvec_status answer = cvec_image_look(type, bytes, len, from, out, cvec_bytes_of(type, room), count, stat, fault);
     if (answer == CVEC_DONE && type == CVEC_FLAGGED) cvec_unpack(out, (size_t)*count);
     return answer;
 }
@@ -36,7 +36,7 @@ uint32_t cvec_look_records(cvec_type type, const uint8_t *bytes, size_t len, uin
 /* What is refused whatever the records are is so before they are packed: the library, told that there is no room, says it. */
 static uint32_t append_flagged(const cvec_stat *stat, const void *records, size_t count, uint8_t *out, size_t room, cvec_stat *next) {
     const size_t len = cvec_bytes_of(CVEC_FLAGGED, count);
-    uint32_t answer = cvec_image_append(CVEC_FLAGGED, stat, records, len, out, 0, next);
+    cvec_status answer = cvec_image_append(CVEC_FLAGGED, stat, records, len, out, 0, next);
     if (answer != CVEC_NO_ROOM || room < CVEC_APPEND_LEN(FLAGGED_LEN, count)) return answer;
     uint8_t *bytes = malloc(len);
     if (bytes == NULL) return CVEC_MEMORY;
@@ -54,40 +54,68 @@ uint32_t cvec_append_records(cvec_type type, const cvec_stat *stat, const void *
 
 /* ---- what is written, and read */
 
-static uint32_t write_synced(int fd, uint64_t at, const uint8_t *bytes, size_t len) {
-    uint32_t answer = cvec_system_write_at(fd, at, bytes, len);
+static cvec_status write_synced(int fd, uint64_t at, const uint8_t *bytes, size_t len) {
+    cvec_status answer = cvec_system_write_at(fd, at, bytes, len);
     return answer != CVEC_DONE ? answer : cvec_system_sync(fd);
 }
 
 /* Bytes that are written behind their gate, synced, and then appear by their gate, the first of them, synced too. A crash
  * leaves the gate shut, or all of them. */
-static uint32_t commit(int fd, uint64_t gate, const uint8_t *bytes, size_t len) {
-    uint32_t answer = write_synced(fd, gate + 1, bytes + 1, len - 1);
+static cvec_status commit(int fd, uint64_t gate, const uint8_t *bytes, size_t len) {
+    cvec_status answer = write_synced(fd, gate + 1, bytes + 1, len - 1);
     return answer != CVEC_DONE ? answer : write_synced(fd, gate, &open_gate, 1);
 }
 
-/* What is known of a file before it is opened. */
-static void begin(cvec_file *file, cvec_type type) {
-    memset(file, 0, sizeof *file);
-    file->fd = -1;
-    file->type = type;
-    file->process = cvec_process();
+struct cvec_file {
+    int fd;
+    bool is_broken;
+    bool is_to_read;
+    uint64_t process; /* the one that opened it */
+    cvec_stat stat;   /* of one that is open to be read: what it held when it was last read */
+    uint8_t *bytes;   /* of the last append, to be used again; of one that is open to be read NULL */
+    size_t room;
+};
+
+/* Takes memory for a file that isn't open yet, and for its frames. Refused, nothing has been made. */
+static cvec_status begin(cvec_file **file, bool is_to_read) {
+    cvec_file *made = calloc(1, sizeof *made);
+    *file = NULL;
+    if (made == NULL) return CVEC_MEMORY;
+    made->fd = -1;
+    made->is_to_read = is_to_read;
+    made->process = cvec_process();
+    if (!is_to_read) {
+        made->bytes = malloc(FIRST_ROOM);
+        made->room = FIRST_ROOM;
+    }
+    if (is_to_read || made->bytes != NULL) {
+        *file = made;
+        return CVEC_DONE;
+    }
+    free(made);
+    return CVEC_MEMORY;
 }
 
-/* Opens it for one process alone. */
-static uint32_t open_alone(cvec_file *file, const char *path, int flags) {
-    uint32_t answer = cvec_system_open_locked(path, flags, &file->fd);
-    if (answer != CVEC_DONE) return answer;
-    file->bytes = malloc(FIRST_ROOM);
-    if (file->bytes == NULL) return CVEC_MEMORY;
-    file->room = FIRST_ROOM;
-    return CVEC_DONE;
+/* What a call that makes a handle answers: refused, it makes none. */
+static cvec_status kept_where_done(cvec_file **file, cvec_status answer) {
+    if (answer != CVEC_DONE) cvec_file_close(file);
+    return answer;
 }
+
+static bool is_forked(const cvec_file *file) { return file->process != cvec_process(); }
 
 /* Why no call may be made on the file, if none may. The lock is that of a forked process too, so it stops neither. */
-static uint32_t refusal_of(const cvec_file *file) {
-    if (file->fd < 0 || file->broken) return CVEC_BROKEN;
-    return file->process == cvec_process() ? CVEC_DONE : CVEC_FORKED;
+static cvec_status refusal_of(const cvec_file *file) {
+    if (file == NULL) return CVEC_NOT_SO;
+    if (file->is_broken) return CVEC_BROKEN;
+    return is_forked(file) ? CVEC_FORKED : CVEC_DONE;
+}
+
+/* Where a fault is told that nobody asks for, and that there is none yet. */
+static cvec_fault *no_fault_yet(cvec_fault *fault, cvec_fault *unasked) {
+    if (fault == NULL) fault = unasked;
+    memset(fault, 0, sizeof *fault);
+    return fault;
 }
 
 /* The bytes of a file, read into memory: of a device that fails a map would end the process. */
@@ -96,9 +124,9 @@ struct image {
     size_t len;
 };
 
-static uint32_t load(int fd, struct image *image) {
+static cvec_status load(int fd, struct image *image) {
     uint64_t len = 0;
-    uint32_t answer = cvec_system_length(fd, &len);
+    cvec_status answer = cvec_system_length(fd, &len);
     if (answer != CVEC_DONE) return answer;
     if (len >= SIZE_MAX) return CVEC_MEMORY;
     image->len = (size_t)len;
@@ -109,7 +137,7 @@ static uint32_t load(int fd, struct image *image) {
     return answer;
 }
 
-static uint32_t take_more(struct image *image, size_t *room) {
+static cvec_status take_more(struct image *image, size_t *room) {
     size_t more = *room == 0 ? FIRST_PIECE : *room * 2;
     uint8_t *bytes = more > *room ? realloc(image->bytes, more) : NULL;
     if (bytes == NULL) return CVEC_MEMORY;
@@ -119,9 +147,9 @@ static uint32_t take_more(struct image *image, size_t *room) {
 }
 
 /* Of a file that another process may write. A length that was asked before would cut a frame whose gate is read open later. */
-static uint32_t load_in_turn(int fd, struct image *image) {
+static cvec_status load_in_turn(int fd, struct image *image) {
     size_t room = 0, count = 0;
-    uint32_t answer;
+    cvec_status answer;
     *image = (struct image){NULL, 0};
     do {
         answer = take_more(image, &room);
@@ -134,39 +162,37 @@ static uint32_t load_in_turn(int fd, struct image *image) {
 
 /* ---- a file that is made: a sync, a look what is there, its first byte shut, and a commit at place 0 */
 
-static uint32_t shut_first(int fd, const uint8_t *empty) {
+static cvec_status shut_first(int fd, const uint8_t *empty) {
     uint64_t len = 0;
-    uint32_t answer = cvec_system_vacant(fd, empty, &len);
+    cvec_status answer = cvec_system_vacant(fd, empty, &len);
     if (answer != CVEC_DONE) return answer;
     return len < 2 ? write_synced(fd, 0, &closed_gate, 1) : CVEC_DONE;
 }
 
-static uint32_t make(cvec_file *file, const char *path, cvec_type type) {
-    uint8_t bytes[CVEC_EMPTY_LEN];
-    cvec_stat empty;
-    begin(file, type);
-    uint32_t answer = cvec_image_empty(type, 1, bytes, sizeof bytes, &empty);
-    if (answer == CVEC_DONE) answer = open_alone(file, path, O_CREAT);
+static cvec_status make(cvec_file *file, const char *path, const uint8_t bytes[CVEC_EMPTY_LEN]) {
+    cvec_status answer = cvec_system_open_locked(path, O_CREAT, &file->fd);
     if (answer == CVEC_DONE) answer = cvec_system_sync_folder(path);
     if (answer == CVEC_DONE) answer = cvec_system_sync(file->fd);
     if (answer == CVEC_DONE) answer = shut_first(file->fd, bytes);
-    if (answer == CVEC_DONE) answer = commit(file->fd, 0, bytes, sizeof bytes);
-    if (answer == CVEC_DONE) file->stat = empty;
-    return answer;
+    return answer == CVEC_DONE ? commit(file->fd, 0, bytes, CVEC_EMPTY_LEN) : answer;
 }
 
-uint32_t cvec_create(cvec_file *file, const char *path, cvec_type type) {
-    uint32_t answer = make(file, path, type);
-    if (answer != CVEC_DONE) cvec_close(file);
-    return answer;
+cvec_status cvec_file_create(cvec_file **file, const char *path, cvec_type type, uint8_t version) {
+    uint8_t bytes[CVEC_EMPTY_LEN];
+    cvec_stat empty;
+    *file = NULL;
+    cvec_status answer = cvec_image_empty(type, version, bytes, sizeof bytes, &empty);
+    if (answer == CVEC_DONE) answer = begin(file, false);
+    if (answer != CVEC_DONE) return answer;
+    (*file)->stat = empty;
+    return kept_where_done(file, make(*file, path, bytes));
 }
 
 /* ---- a file that is opened: a sync, so that what is read is what a crash leaves, and a check of its bytes */
 
-static uint32_t look(cvec_file *file, const char *path, cvec_type type, cvec_fault *fault) {
+static cvec_status check(cvec_file *file, const char *path, cvec_type type, cvec_fault *fault) {
     struct image image;
-    begin(file, type);
-    uint32_t answer = open_alone(file, path, 0);
+    cvec_status answer = cvec_system_open_locked(path, 0, &file->fd);
     if (answer == CVEC_DONE) answer = cvec_system_sync(file->fd);
     if (answer == CVEC_DONE) answer = load(file->fd, &image);
     if (answer != CVEC_DONE) return answer;
@@ -175,42 +201,44 @@ static uint32_t look(cvec_file *file, const char *path, cvec_type type, cvec_fau
     return answer;
 }
 
-uint32_t cvec_open(cvec_file *file, const char *path, cvec_type type, cvec_fault *fault) {
-    memset(fault, 0, sizeof *fault);
-    uint32_t answer = look(file, path, type, fault);
-    if (answer != CVEC_DONE) cvec_close(file);
-    return answer;
+cvec_status cvec_file_open(cvec_file **file, const char *path, cvec_type type, cvec_fault *fault) {
+    cvec_fault unasked;
+    fault = no_fault_yet(fault, &unasked);
+    const cvec_status answer = begin(file, false);
+    return answer == CVEC_DONE ? kept_where_done(file, check(*file, path, type, fault)) : answer;
 }
 
 /* ---- a file that is read beside its writer: all bytes in turn, a sync, so that what was seen is on the device, and a look */
 
-static uint32_t read_beside(cvec_file *file, uint64_t from, void *out, size_t room, uint64_t *count, cvec_fault *fault) {
+static cvec_status look(cvec_file *file, cvec_type type, uint64_t from, void *out, size_t room, uint64_t *count, cvec_fault *fault) {
     struct image image;
-    uint32_t answer = load_in_turn(file->fd, &image);
+    cvec_status answer = load_in_turn(file->fd, &image);
     if (answer != CVEC_DONE) return answer;
     answer = cvec_system_sync_seen(file->fd);
     if (answer != CVEC_DONE)
-        file->broken = true;
+        file->is_broken = true;
     else
-        answer = cvec_look_records(file->type, image.bytes, image.len, from, out, room, count, &file->stat, fault);
+        answer = cvec_look_records(type, image.bytes, image.len, from, out, room, count, &file->stat, fault);
     free(image.bytes);
     return answer;
 }
 
-uint32_t cvec_open_to_read(cvec_file *file, const char *path, cvec_type type, cvec_fault *fault) {
+static cvec_status check_beside(cvec_file *file, const char *path, cvec_type type, cvec_fault *fault) {
     uint64_t count = 0;
-    memset(fault, 0, sizeof *fault);
-    begin(file, type);
-    file->read_only = true;
-    uint32_t answer = cvec_system_open(path, O_RDONLY, &file->fd);
-    if (answer == CVEC_DONE) answer = read_beside(file, 0, no_room, 0, &count, fault);
-    if (answer != CVEC_DONE) cvec_close(file);
-    return answer;
+    const cvec_status answer = cvec_system_open(path, O_RDONLY, &file->fd);
+    return answer == CVEC_DONE ? look(file, type, 0, no_room, 0, &count, fault) : answer;
+}
+
+cvec_status cvec_file_open_to_read(cvec_file **file, const char *path, cvec_type type, cvec_fault *fault) {
+    cvec_fault unasked;
+    fault = no_fault_yet(fault, &unasked);
+    const cvec_status answer = begin(file, true);
+    return answer == CVEC_DONE ? kept_where_done(file, check_beside(*file, path, type, fault)) : answer;
 }
 
 /* ---- records */
 
-static uint32_t take_room(cvec_file *file, size_t len) {
+static cvec_status take_room(cvec_file *file, size_t len) {
     uint8_t *bytes = realloc(file->bytes, len);
     if (bytes == NULL) return CVEC_MEMORY;
     file->bytes = bytes;
@@ -219,56 +247,64 @@ static uint32_t take_room(cvec_file *file, size_t len) {
 }
 
 /* The frame of the records, in the file's memory: of the library's tests that of the room comes last. */
-static uint32_t make_frame(cvec_file *file, const void *records, size_t count, cvec_stat *next) {
-    uint32_t answer = cvec_append_records(file->type, &file->stat, records, count, file->bytes, file->room, next);
+static cvec_status make_frame(cvec_file *file, cvec_type type, const void *records, size_t count, cvec_stat *next) {
+    cvec_status answer = cvec_append_records(type, &file->stat, records, count, file->bytes, file->room, next);
     if (answer != CVEC_NO_ROOM) return answer;
     answer = take_room(file, (size_t)CVEC_APPEND_LEN(file->stat.width, count));
     if (answer != CVEC_DONE) return answer;
-    return cvec_append_records(file->type, &file->stat, records, count, file->bytes, file->room, next);
+    return cvec_append_records(type, &file->stat, records, count, file->bytes, file->room, next);
 }
 
-uint32_t cvec_append(cvec_file *file, const void *records, size_t count) {
+cvec_status cvec_file_append(cvec_file *file, cvec_type type, const void *records, size_t count) {
     cvec_stat next;
-    uint32_t answer = refusal_of(file);
-    if (answer == CVEC_DONE && file->read_only) answer = CVEC_READ_ONLY;
-    if (answer != CVEC_DONE) return answer;
-    answer = make_frame(file, count > 0 ? records : no_records, count, &next);
+    cvec_status answer = refusal_of(file);
+    if (answer == CVEC_DONE && file->is_to_read) answer = CVEC_READ_ONLY;
+    if (answer == CVEC_DONE) answer = make_frame(file, type, count > 0 ? records : no_records, count, &next);
     if (answer != CVEC_DONE) return answer;
     answer = commit(file->fd, file->stat.gate, file->bytes, (size_t)(next.gate + 1 - file->stat.gate));
     if (answer != CVEC_DONE) {
-        file->broken = true;
+        file->is_broken = true;
         return answer;
     }
     file->stat = next;
     return CVEC_DONE;
 }
 
-uint32_t cvec_read(cvec_file *file, uint64_t from, void *out, size_t room, uint64_t *count, cvec_fault *fault) {
+/* Of a file that nobody else writes. */
+static cvec_status copy(const cvec_file *file, cvec_type type, uint64_t from, void *out, size_t room, uint64_t *count, cvec_fault *fault) {
     struct image image;
     cvec_stat stat;
-    memset(fault, 0, sizeof *fault);
-    if (room == 0) out = no_room;
-    uint32_t answer = refusal_of(file);
-    if (answer == CVEC_DONE && file->read_only) return read_beside(file, from, out, room, count, fault);
-    if (answer == CVEC_DONE) answer = load(file->fd, &image);
+    cvec_status answer = load(file->fd, &image);
     if (answer != CVEC_DONE) return answer;
-    answer = cvec_read_records(file->type, image.bytes, image.len, from, out, room, count, &stat, fault);
+    answer = cvec_read_records(type, image.bytes, image.len, from, out, room, count, &stat, fault);
     free(image.bytes);
     return answer;
 }
 
-/* A forked process leaves its parent the lock; who reads beside a writer has none. */
-static void let_go(const cvec_file *file) {
-    if (file->read_only || file->process != cvec_process())
-        cvec_system_close(file->fd);
-    else
-        cvec_system_close_unlocked(file->fd);
+cvec_status cvec_file_read(cvec_file *file, cvec_type type, uint64_t from, void *out, size_t room, uint64_t *count, cvec_fault *fault) {
+    cvec_fault unasked;
+    fault = no_fault_yet(fault, &unasked);
+    const cvec_status answer = refusal_of(file);
+    if (answer != CVEC_DONE) return answer;
+    if (room == 0) out = no_room;
+    return file->is_to_read ? look(file, type, from, out, room, count, fault) : copy(file, type, from, out, room, count, fault);
 }
 
-void cvec_close(cvec_file *file) {
-    if (file->fd >= 0) let_go(file);
-    free(file->bytes);
-    memset(file, 0, sizeof *file);
-    file->fd = -1;
-    file->broken = true;
+cvec_status cvec_file_stat(const cvec_file *file, cvec_stat *stat) {
+    if (file == NULL) return CVEC_NOT_SO;
+    *stat = file->stat;
+    return CVEC_DONE;
+}
+
+/* A forked process leaves its parent the lock, and the memory as it is: a thread that it doesn't have may have been at that. Who reads
+ * beside a writer has no lock. */
+void cvec_file_close(cvec_file **file) {
+    cvec_file *closed = *file;
+    *file = NULL;
+    if (closed == NULL) return;
+    const bool stays = is_forked(closed);
+    if (closed->fd >= 0) (stays || closed->is_to_read ? cvec_system_close : cvec_system_close_unlocked)(closed->fd);
+    if (stays) return;
+    free(closed->bytes);
+    free(closed);
 }
