@@ -370,7 +370,7 @@ def check_closing():
         held.clear()
         del seen
     for call in (lambda: file.append([1]), file.read, lambda: file.stat, lambda: len(file)):
-        assert refusal_of(call) == "every seat or block is taken, or there is no such block, hold, version or type"
+        assert refusal_of(call) == "every seat or block is taken, or there is no such handle, block, hold, version or type"
     if os.path.exists("/proc/self/maps"):
         with open("/proc/self/maps") as maps:
             assert PATH not in maps.read(), "a map is left"
@@ -519,7 +519,7 @@ def check_maps_that_are_closed():
 def check_versions():
     """A file is made of version 1 or 2, and of no other, of which nothing is made."""
     for version in (0, 3, -1, 257, 1.5, None):
-        assert refusal_of(cvec.create, PATH, "u64", version) == "the file's version isn't known", version
+        assert refusal_of(cvec.create, PATH, "u64", version) == "the version isn't known", version
         assert not os.path.exists(PATH)
     for words, version in (((), 1), ((1,), 1), ((2,), 2)):
         with cvec.create(PATH, "u64", *words) as file:

@@ -322,7 +322,7 @@ fn each_refusal(path: &Path) -> Result<(), Error> {
         assert_eq!(vector.seat()?.grow(&[3])?.number, number);
     }
     let other = vector.seat()?;
-    assert_eq!(refused(vector.seat(), "every seat or block is taken, or there is no such block, hold, version or type"), Error::NoSeat);
+    assert_eq!(refused(vector.seat(), "every seat or block is taken, or there is no such handle, block, hold, version or type"), Error::NoSeat);
     drop((seat, other));
     let seat = vector.seat()?;
     assert_eq!((seat.grow(&[3])?.number, seat.settled()?), (4, 1));

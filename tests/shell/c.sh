@@ -143,7 +143,7 @@ MEMORY
 # The sentence of C for this line of the program, which has names.
 in_sentences() {
     sed -e 's/^refused: unborn$/refused: no vector was begun in the file/' -e 's/^refused: not a segment$/refused: it is no segment file/' \
-        -e "s/^refused: version /refused: the file's version isn't known: /" -e 's/^refused: width /refused: the records have another width: /' \
+        -e "s/^refused: version /refused: the version isn't known: /" -e 's/^refused: width /refused: the records have another width: /' \
         -e 's/^refused: damaged at /refused: a frame of the file is damaged at /' "$1"
 }
 
@@ -287,9 +287,9 @@ the_header_has_numbers_of_each_type() (
         echo '#include "cvec.h"'
         for of in 'u8 uint8_t' 'u16 uint16_t' 'i32 int32_t' 'f32 float' 'f64 double'; do
             type=${of% *} record=${of#* }
-            echo "uint32_t (*read_$type)(const uint8_t *, size_t, uint64_t, $record *, size_t, uint64_t *, cvec_fault *) = cvec_read_$type;"
-            echo "uint32_t (*look_$type)(const uint8_t *, size_t, uint64_t, $record *, size_t, uint64_t *, cvec_stat *, cvec_fault *) = cvec_look_$type;"
-            echo "uint32_t (*append_$type)(const cvec_stat *, const $record *, size_t, uint8_t *, size_t, cvec_stat *) = cvec_append_$type;"
+            echo "cvec_status (*read_$type)(const uint8_t *, size_t, uint64_t, $record *, size_t, uint64_t *, cvec_fault *) = cvec_read_$type;"
+            echo "cvec_status (*look_$type)(const uint8_t *, size_t, uint64_t, $record *, size_t, uint64_t *, cvec_stat *, cvec_fault *) = cvec_look_$type;"
+            echo "cvec_status (*append_$type)(const cvec_stat *, const $record *, size_t, uint8_t *, size_t, cvec_stat *) = cvec_append_$type;"
         done
     } >"$work/use.cc"
     c++ -Wall -Wextra -Werror "-I$c_headers" -fsyntax-only "$work/use.cc"

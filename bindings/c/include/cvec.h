@@ -34,7 +34,7 @@ extern "C" {
     X(DONE, 0, "done") \
     X(UNBORN, 1, "no vector was begun in the file") /* at most one byte, or the first isn't 1 */ \
     X(NOT_SEGMENT, 2, "it is no segment file") /* by the bytes behind the first */ \
-    X(VERSION, 3, "the file's version isn't known") /* fault->found, or stat->version */ \
+    X(VERSION, 3, "the version isn't known") /* fault->found, or stat->version */ \
     X(WIDTH, 4, "the records have another width") /* fault->found, or stat->width */ \
     X(DAMAGED, 5, "a frame of the file is damaged") /* fault->at, fault->cause */ \
     X(MEMORY, 6, "memory was refused") \
@@ -58,7 +58,7 @@ extern "C" {
     X(FORKED, 40, "a forked process can only close it") /* the process from which this one was forked has opened it */ \
     X(NOT_FILE, 41, "a folder, a pipe or a device has this name") /* it wasn't opened */ \
     X(READ_ONLY, 42, "the file was opened to be read") \
-    X(NOT_SO, 64, "every seat or block is taken, or there is no such block, hold, version or type") \
+    X(NOT_SO, 64, "every seat or block is taken, or there is no such handle, block, hold, version or type") \
     X(AGAIN, 65, "another growth came first") \
     X(FULL, 66, "it takes no more growths while records are lent: compact it") \
     X(BUSY, 67, "another thread is inside a call, a seat isn't closed, or the vector is held") \
@@ -192,8 +192,8 @@ typedef enum cvec_type { CVEC_TYPES(CVEC_NUMBER) CVEC_TYPE_COUNT } cvec_type;
 /* Whether these bytes are a file with a vector of this type. CVEC_DONE: *stat says what it holds, and the bytes of its records from
  * position `from` on stand in front of `out`, of *count records, as many as there are and as fit. Or CVEC_UNBORN to CVEC_DAMAGED, the
  * first fault in the order of docs/file/format.md, with *fault; or CVEC_MEMORY. It takes memory for all records, and gives it back. */
-uint32_t cvec_image_read(uint32_t type, const uint8_t *image, size_t len, uint64_t from, uint8_t *out, size_t room, uint64_t *count,
-                         cvec_stat *stat, cvec_fault *fault);
+cvec_status cvec_image_read(uint32_t type, const uint8_t *image, size_t len, uint64_t from, uint8_t *out, size_t room, uint64_t *count,
+                            cvec_stat *stat, cvec_fault *fault);
 
 /* The same of bytes that were read while another process writes the file: from the first one on, none before one in front of it, up to
  * where a read finds none; a length that was asked before may cut a frame. Then the records and *stat are the vector of one moment of
@@ -201,20 +201,20 @@ uint32_t cvec_image_read(uint32_t type, const uint8_t *image, size_t len, uint64
  * answers what cvec_image_read does. Bytes that stop before the file are CVEC_UNBORN, CVEC_NOT_SEGMENT, or CVEC_DAMAGED by
  * CVEC_CAUSE_NO_GATE or CVEC_CAUSE_SHORT_FRAME: read on. What was seen is on the device once the file is synced behind the last read.
  * It also answers CVEC_NO_RECORD and CVEC_FILE_FULL, and takes twice as much memory. */
-uint32_t cvec_image_look(uint32_t type, const uint8_t *bytes, size_t len, uint64_t from, uint8_t *out, size_t room, uint64_t *count,
-                         cvec_stat *stat, cvec_fault *fault);
+cvec_status cvec_image_look(uint32_t type, const uint8_t *bytes, size_t len, uint64_t from, uint8_t *out, size_t room, uint64_t *count,
+                            cvec_stat *stat, cvec_fault *fault);
 
 /* Checks an image as cvec_image_read does, and writes the homes of the vector's positions over out[0 .. *count], each position in one,
  * in order. Where stat->changes <= stat->folded the vector's records are the ones that stand there, so who has mapped the file reads
  * them with no copy; else some have been changed since, and a read tells which records they are. CVEC_NO_ROOM: there are *count of
  * them, more than room. */
-uint32_t cvec_image_homes(uint32_t type, const uint8_t *image, size_t len, cvec_home *out, size_t room, uint64_t *count,
-                          cvec_stat *stat, cvec_fault *fault);
+cvec_status cvec_image_homes(uint32_t type, const uint8_t *image, size_t len, cvec_home *out, size_t room, uint64_t *count,
+                             cvec_stat *stat, cvec_fault *fault);
 
 /* Writes an empty file of this version over out[0 .. CVEC_EMPTY_LEN], and *stat is what it holds. On disk write all but the first byte
  * behind a first byte that isn't 1, sync, write the first, sync: whatever a crash leaves is then CVEC_UNBORN or the empty file.
  * Refused: CVEC_VERSION, CVEC_NO_ROOM. */
-uint32_t cvec_image_empty(uint32_t type, uint8_t version, uint8_t *out, size_t room, cvec_stat *stat);
+cvec_status cvec_image_empty(uint32_t type, uint8_t version, uint8_t *out, size_t room, cvec_stat *stat);
 
 /* Writes the frame of these records and the next gate over the first CVEC_APPEND_LEN bytes of out, and *next is what the file holds
  * with them, where *stat is what it holds without. On disk they belong to place stat->gate: write all but the first byte from
@@ -223,57 +223,57 @@ uint32_t cvec_image_empty(uint32_t type, uint8_t version, uint8_t *out, size_t r
  * Refused, in this order: CVEC_VERSION, CVEC_WIDTH, CVEC_EMPTY, CVEC_OUT_OF_RANGE, CVEC_TOO_LARGE, CVEC_FILE_FULL and CVEC_NO_ROOM,
  * which count as many records as are whole; then CVEC_NO_RECORD, for bytes of no whole records and for a flag that isn't 0 or 1, or
  * CVEC_MEMORY. */
-uint32_t cvec_image_append(uint32_t type, const cvec_stat *stat, const uint8_t *records, size_t len, uint8_t *out, size_t room,
-                           cvec_stat *next);
+cvec_status cvec_image_append(uint32_t type, const cvec_stat *stat, const uint8_t *records, size_t len, uint8_t *out, size_t room,
+                              cvec_stat *next);
 
 /* The frame whose gate stands at this place of the bytes of a file of this version and width: CVEC_DONE, and *frame says what it has.
  * CVEC_NO_FRAME: no whole open frame of a known kind and the right form begins there. The first gate is at CVEC_FIRST_GATE. */
-uint32_t cvec_image_frame(const uint8_t *image, size_t len, uint64_t at, uint8_t version, uint16_t width, cvec_frame *frame);
+cvec_status cvec_image_frame(const uint8_t *image, size_t len, uint64_t at, uint8_t version, uint16_t width, cvec_frame *frame);
 
 /* ---- the same of records as C has them, not proved: over libcvec_c.a, and over cvec_file.c where records are passed */
 
 /* `room` and `count` are of records, and *count too. */
-uint32_t cvec_read_records(cvec_type type, const uint8_t *image, size_t len, uint64_t from, void *out, size_t room, uint64_t *count,
-                           cvec_stat *stat, cvec_fault *fault);
-uint32_t cvec_look_records(cvec_type type, const uint8_t *bytes, size_t len, uint64_t from, void *out, size_t room, uint64_t *count,
-                           cvec_stat *stat, cvec_fault *fault);
-uint32_t cvec_append_records(cvec_type type, const cvec_stat *stat, const void *records, size_t count, uint8_t *out, size_t room,
-                             cvec_stat *next);
+cvec_status cvec_read_records(cvec_type type, const uint8_t *image, size_t len, uint64_t from, void *out, size_t room, uint64_t *count,
+                              cvec_stat *stat, cvec_fault *fault);
+cvec_status cvec_look_records(cvec_type type, const uint8_t *bytes, size_t len, uint64_t from, void *out, size_t room, uint64_t *count,
+                              cvec_stat *stat, cvec_fault *fault);
+cvec_status cvec_append_records(cvec_type type, const cvec_stat *stat, const void *records, size_t count, uint8_t *out, size_t room,
+                                cvec_stat *next);
 
 /* An image is checked by a read of no records. */
-static inline uint32_t cvec_check_image(cvec_type type, const uint8_t *image, size_t len, cvec_stat *stat, cvec_fault *fault) {
+static inline cvec_status cvec_check_image(cvec_type type, const uint8_t *image, size_t len, cvec_stat *stat, cvec_fault *fault) {
     uint8_t none[1];
     uint64_t count;
     return cvec_image_read((uint32_t)type, image, len, 0, none, 0, &count, stat, fault);
 }
 
-static inline uint32_t cvec_frame_at(const uint8_t *image, size_t len, uint64_t at, uint8_t version, uint16_t width, cvec_frame *frame) {
+static inline cvec_status cvec_frame_at(const uint8_t *image, size_t len, uint64_t at, uint8_t version, uint16_t width, cvec_frame *frame) {
     return cvec_image_frame(image, len, at, version, width, frame);
 }
 
 /* For each type of the table cvec_check_TYPE, cvec_read_TYPE, cvec_look_TYPE, cvec_homes_TYPE, cvec_empty_TYPE and cvec_append_TYPE.
  * No function looks at what the bits of a number stand for: any are kept, also those of each NaN. */
 #define CVEC_CALLS(NAME, name, RECORD, WIDTH) \
-    static inline uint32_t cvec_check_##name(const uint8_t *image, size_t len, cvec_stat *stat, cvec_fault *fault) { \
+    static inline cvec_status cvec_check_##name(const uint8_t *image, size_t len, cvec_stat *stat, cvec_fault *fault) { \
         return cvec_check_image(CVEC_##NAME, image, len, stat, fault); \
     } \
-    static inline uint32_t cvec_read_##name(const uint8_t *image, size_t len, uint64_t from, RECORD *out, size_t room, uint64_t *count, \
+    static inline cvec_status cvec_read_##name(const uint8_t *image, size_t len, uint64_t from, RECORD *out, size_t room, uint64_t *count, \
                                             cvec_fault *fault) { \
         cvec_stat stat; \
         return cvec_read_records(CVEC_##NAME, image, len, from, out, room, count, &stat, fault); \
     } \
-    static inline uint32_t cvec_look_##name(const uint8_t *bytes, size_t len, uint64_t from, RECORD *out, size_t room, uint64_t *count, \
+    static inline cvec_status cvec_look_##name(const uint8_t *bytes, size_t len, uint64_t from, RECORD *out, size_t room, uint64_t *count, \
                                             cvec_stat *stat, cvec_fault *fault) { \
         return cvec_look_records(CVEC_##NAME, bytes, len, from, out, room, count, stat, fault); \
     } \
-    static inline uint32_t cvec_homes_##name(const uint8_t *image, size_t len, cvec_home *out, size_t room, uint64_t *count, \
+    static inline cvec_status cvec_homes_##name(const uint8_t *image, size_t len, cvec_home *out, size_t room, uint64_t *count, \
                                              cvec_stat *stat, cvec_fault *fault) { \
         return cvec_image_homes(CVEC_##NAME, image, len, out, room, count, stat, fault); \
     } \
-    static inline uint32_t cvec_empty_##name(uint8_t version, uint8_t *out, size_t room, cvec_stat *stat) { \
+    static inline cvec_status cvec_empty_##name(uint8_t version, uint8_t *out, size_t room, cvec_stat *stat) { \
         return cvec_image_empty(CVEC_##NAME, version, out, room, stat); \
     } \
-    static inline uint32_t cvec_append_##name(const cvec_stat *stat, const RECORD *records, size_t count, uint8_t *out, size_t room, \
+    static inline cvec_status cvec_append_##name(const cvec_stat *stat, const RECORD *records, size_t count, uint8_t *out, size_t room, \
                                               cvec_stat *next) { \
         return cvec_append_records(CVEC_##NAME, stat, records, count, out, room, next); \
     }

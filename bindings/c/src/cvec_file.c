@@ -19,14 +19,14 @@ enum { FIRST_ROOM = 4096, FIRST_PIECE = 65536 };
 
 /* ---- records as C has them. Of each type but flagged these are the bytes of the file. */
 
-uint32_t cvec_read_records(cvec_type type, const uint8_t *image, size_t len, uint64_t from, void *out, size_t room, uint64_t *count,
+cvec_status cvec_read_records(cvec_type type, const uint8_t *image, size_t len, uint64_t from, void *out, size_t room, uint64_t *count,
                            cvec_stat *stat, cvec_fault *fault) {
     cvec_status answer = cvec_image_read(type, image, len, from, out, cvec_bytes_of(type, room), count, stat, fault);
     if (answer == CVEC_DONE && type == CVEC_FLAGGED) cvec_unpack(out, (size_t)*count);
     return answer;
 }
 
-uint32_t cvec_look_records(cvec_type type, const uint8_t *bytes, size_t len, uint64_t from, void *out, size_t room, uint64_t *count,
+cvec_status cvec_look_records(cvec_type type, const uint8_t *bytes, size_t len, uint64_t from, void *out, size_t room, uint64_t *count,
                            cvec_stat *stat, cvec_fault *fault) {
     cvec_status answer = cvec_image_look(type, bytes, len, from, out, cvec_bytes_of(type, room), count, stat, fault);
     if (answer == CVEC_DONE && type == CVEC_FLAGGED) cvec_unpack(out, (size_t)*count);
@@ -34,7 +34,7 @@ uint32_t cvec_look_records(cvec_type type, const uint8_t *bytes, size_t len, uin
 }
 
 /* What is refused whatever the records are is so before they are packed: the library, told that there is no room, says it. */
-static uint32_t append_flagged(const cvec_stat *stat, const void *records, size_t count, uint8_t *out, size_t room, cvec_stat *next) {
+static cvec_status append_flagged(const cvec_stat *stat, const void *records, size_t count, uint8_t *out, size_t room, cvec_stat *next) {
     const size_t len = cvec_bytes_of(CVEC_FLAGGED, count);
     cvec_status answer = cvec_image_append(CVEC_FLAGGED, stat, records, len, out, 0, next);
     if (answer != CVEC_NO_ROOM || room < CVEC_APPEND_LEN(FLAGGED_LEN, count)) return answer;
@@ -46,7 +46,7 @@ static uint32_t append_flagged(const cvec_stat *stat, const void *records, size_
     return answer;
 }
 
-uint32_t cvec_append_records(cvec_type type, const cvec_stat *stat, const void *records, size_t count, uint8_t *out, size_t room,
+cvec_status cvec_append_records(cvec_type type, const cvec_stat *stat, const void *records, size_t count, uint8_t *out, size_t room,
                              cvec_stat *next) {
     if (type == CVEC_FLAGGED) return append_flagged(stat, records, count, out, room, next);
     return cvec_image_append(type, stat, records, cvec_bytes_of(type, count), out, room, next);

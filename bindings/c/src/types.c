@@ -3,6 +3,9 @@
 
 #include <string.h>
 
+/* The proved libraries have both as numbers of 32 bits. */
+typedef char has_four_bytes[sizeof(cvec_status) == sizeof(uint32_t) && sizeof(cvec_type) == sizeof(uint32_t) ? 1 : -1];
+
 const cvec_type_of *cvec_types(size_t *count) {
     static const cvec_type_of types[] = {
 #define CVEC_LINE(NAME, name, RECORD, WIDTH) {#name, WIDTH, sizeof(RECORD)},
