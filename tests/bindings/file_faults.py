@@ -370,7 +370,7 @@ def check_closing():
         held.clear()
         del seen
     for call in (lambda: file.append([1]), file.read, lambda: file.stat, lambda: len(file)):
-        assert refusal_of(call) == "every seat or block is taken, or there is no such handle, block, hold, version or type"
+        assert refusal_of(call) == "every seat or block is taken, or there is no such handle, answer, block, hold, version or type"
     if os.path.exists("/proc/self/maps"):
         with open("/proc/self/maps") as maps:
             assert PATH not in maps.read(), "a map is left"

@@ -1955,7 +1955,7 @@ def each_refusal():
         refused.append(refusal(vector.settled))
 
     run_all([ask])
-    assert refused == [(Status.NOT_SO, "every seat or block is taken, or there is no such handle, block, hold, version or type")]
+    assert refused == [(Status.NOT_SO, "every seat or block is taken, or there is no such handle, answer, block, hold, version or type")]
     # Whoever closes one leaves it to another, and growths are counted on.
     for _ in range(3):
         vector.seat().close()
@@ -2183,7 +2183,7 @@ def a_seat_goes_to_the_next_thread():
             run_all([vector.settled])
             raise AssertionError("a third seat")
         except Error as fault:
-            assert fault.status == Status.NOT_SO and str(fault) == "every seat or block is taken, or there is no such handle, block, hold, version or type"
+            assert fault.status == Status.NOT_SO and str(fault) == "every seat or block is taken, or there is no such handle, answer, block, hold, version or type"
         goes_on.set()
         thread.join()
     assert sorted(records()) == list(range(41))

@@ -32,7 +32,7 @@ const IN_USE: &str = "the file is in use";
 const LATE: &str = "the time has passed: what was waited for may yet come";
 const UNFOLDED: &str = "a change isn't folded: fold first";
 const OUT_OF_RANGE: &str = "there is no such growth or position, or the vector would pass 2^32 records";
-const BUSY: &str = "another thread is inside a call, a seat isn't closed, or the vector is held";
+const BUSY: &str = "another thread is inside a call, a seat isn't closed, the vector is held, or answers of growths aren't taken";
 const FULL: &str = "it takes no more growths while records are lent: compact it";
 const BROKEN: &str = "a write or a sync has failed before: open the file again";
 
@@ -322,7 +322,7 @@ fn each_refusal(path: &Path) -> Result<(), Error> {
         assert_eq!(vector.seat()?.grow(&[3])?.number, number);
     }
     let other = vector.seat()?;
-    assert_eq!(refused(vector.seat(), "every seat or block is taken, or there is no such handle, block, hold, version or type"), Error::NoSeat);
+    assert_eq!(refused(vector.seat(), "every seat or block is taken, or there is no such handle, answer, block, hold, version or type"), Error::NoSeat);
     drop((seat, other));
     let seat = vector.seat()?;
     assert_eq!((seat.grow(&[3])?.number, seat.settled()?), (4, 1));

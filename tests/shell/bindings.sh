@@ -40,9 +40,8 @@ make_python() {
 
 make_client() {
     mkdir -p "$built"
-    [ -e "$built/cvec_client.o" ] || compile_c cvec_client "$built"
-    [ -e "$built/client_c" ] || cc -std=c99 -O2 -Wall -Wextra -Werror "-I$c_headers" -o "$built/client_c" "$bindings/client.c" \
-        "$built/cvec_client.o"
+    [ -e "$built/client_c" ] || cc -std=c99 -O2 -Wall -Wextra -Werror "-I$c_headers" "-I$c_sources" -o "$built/client_c" \
+        "$bindings/client.c" "$c_sources/system.c" "$c_sources/types.c"
 }
 
 # What tables and clients start: the program, and two programs in Python.
@@ -404,7 +403,8 @@ has_first() { has_records 0 $(($1 - 1)); }
 make_terminal() {
     make_client
     make_programs
-    cc -std=c99 -O2 -Wall -Wextra -Werror "-I$c_headers" -o "$built/waits" "$bindings/waits.c" "$built/cvec_client.o"
+    cc -std=c99 -O2 -Wall -Wextra -Werror "-I$c_headers" "-I$c_sources" -o "$built/waits" "$bindings/waits.c" "$c_sources/system.c" \
+        "$c_sources/types.c"
 }
 
 # Ctrl-C reaches the client alone: its growths are settled while it waits for that, or leaves.

@@ -129,13 +129,13 @@ a_server_of_few_addresses_takes_as_many_as_other_phases() (
     seq 0 1048567 | cmp - "$out"
 )
 
-# Its header may stand beside that of the library.
 the_client_in_c_is_one_for_cpp() (
     has c++ 'the client in C++' || exit $is_skipped
-    printf '#include "%s"\n' cvec.h cvec_client.h >"$work/use.cc"
-    printf 'int main() { cvec_server server; return cvec_server_wait(&server); }\n' >>"$work/use.cc"
+    printf '#include "cvec.h"\nint main() { cvec_server *server = nullptr; return cvec_server_wait(&server, nullptr, nullptr) == CVEC_NOT_SO ? 0 : 1; }\n' \
+        >"$work/use.cc"
     compile_c cvec_client "$work"
     c++ -Wall -Wextra -pedantic -Werror "-I$c_headers" "$work/use.cc" "$work/cvec_client.o" -o "$work/use"
+    "$work/use"
 )
 
 # The program of the examples appends a growth to a new file, and without a server says so, and ends with 1. The client in
@@ -154,7 +154,7 @@ the_client_that_is_shown_appends() (
     status=0
     ./use_server ./cvec numbers.cvec >/dev/null 2>"$err" || status=$?
     [ "$status" -eq 1 ]
-    tells "each growth that it hasn't told is settled stands in the file whole, or not at all"
+    tells "each growth that isn't settled stands in the file whole, or not at all"
 )
 
 the_client_in_python_that_is_shown_appends() (

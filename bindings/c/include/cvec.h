@@ -29,7 +29,7 @@ extern "C" {
 #endif
 
 /* What a function answers: the one list. X(NAME, number, a sentence for any caller to show, which cvec_status_text has). Those from 32
- * on are of cvec_file.c and cvec_vector.c alone, those from 64 on of cvec_vector.h, but for the type of no number (CVEC_NOT_SO). */
+ * on are of what makes the system's calls, those from 64 on of cvec_vector.h, but for CVEC_NOT_SO, those from 96 on of clients. */
 #define CVEC_STATUSES(X) \
     X(DONE, 0, "done") \
     X(UNBORN, 1, "no vector was begun in the file") /* at most one byte, or the first isn't 1 */ \
@@ -58,13 +58,29 @@ extern "C" {
     X(FORKED, 40, "a forked process can only close it") /* the process from which this one was forked has opened it */ \
     X(NOT_FILE, 41, "a folder, a pipe or a device has this name") /* it wasn't opened */ \
     X(READ_ONLY, 42, "the file was opened to be read") \
-    X(NOT_SO, 64, "every seat or block is taken, or there is no such handle, block, hold, version or type") \
+    X(NOT_SO, 64, "every seat or block is taken, or there is no such handle, answer, block, hold, version or type") \
     X(AGAIN, 65, "another growth came first") \
     X(FULL, 66, "it takes no more growths while records are lent: compact it") \
-    X(BUSY, 67, "another thread is inside a call, a seat isn't closed, or the vector is held") \
+    X(BUSY, 67, "another thread is inside a call, a seat isn't closed, the vector is held, or answers of growths aren't taken") \
     X(LATE, 68, "the time has passed: what was waited for may yet come") \
     X(UNFOLDED, 69, "a change isn't folded: fold first") \
-    X(UNSETTLED, 70, "a growth isn't committed")
+    X(UNSETTLED, 70, "a growth isn't committed") \
+    /* Those of a client: the numbers of docs/use/serve.md, and 96 more. Behind the first six it is over, and every call but its end is \
+       CVEC_GONE, unless the library has refused it before anything was asked */ \
+    X(GONE, 96, "the server has ended, or the client has: each growth that isn't settled stands in the file whole, or not at all") \
+    X(REFUSED_UNKNOWN_KIND, 97, "the server knows no such request") \
+    X(REFUSED_STRAY_NUMBER, 98, "the request has a number where none belongs") \
+    X(REFUSED_NO_RECORD, 99, "a request has at least one record") \
+    X(REFUSED_TOO_MANY, 100, "a request has at most 2^20 - 8 bytes of records") \
+    X(REFUSED_BAD_RECORD, 101, "a record is none of the server's type, and nothing was grown") \
+    X(REFUSED_NO_MEMORY, 102, "the server has no memory for the bytes of the growth") \
+    X(REFUSED_GROWTH_MEMORY, 103, "the server has no memory for the growth") \
+    X(REFUSED_CLOSED, 104, "the server takes no more growths") \
+    X(REFUSED_FULL, 105, "the server has taken all growths that it has room for: start it again") \
+    X(REFUSED_TOO_LONG, 106, "the vector would have more than 2^32 records") \
+    X(REFUSED_STRAYED, 107, "the growths don't follow one another: the server's memory is damaged") \
+    X(REFUSED_ENDED, 108, "it isn't settled, and the server has ended") \
+    X(REFUSED_BROKEN, 109, "it isn't known to be settled: the file refused, restart the system before it is opened again")
 
 #define CVEC_CODE(NAME, NUMBER, SENTENCE) CVEC_##NAME = NUMBER,
 typedef enum cvec_status { CVEC_STATUSES(CVEC_CODE) } cvec_status;
@@ -329,6 +345,85 @@ void cvec_file_close(cvec_file **file);
     static inline cvec_status cvec_file_read_##name(cvec_file *file, uint64_t from, RECORD *out, size_t room, uint64_t *count, \
                                                     cvec_fault *fault) { \
         return cvec_file_read(file, CVEC_##NAME, from, out, room, count, fault); \
+    }
+CVEC_TYPES(CVEC_TYPED)
+#undef CVEC_TYPED
+
+/* Where a growth stands. */
+typedef struct cvec_receipt {
+    uint64_t number; /* how many growths stand before it: since the vector was begun; of a client since its server was started; of the
+                        library's in this phase */
+    uint64_t start;  /* how many records stand before it */
+    uint64_t len;    /* how many it has */
+    uint64_t serial; /* how many growths of its seat stand before it */
+    uint16_t seat;   /* whose growth it is: how many seats were taken before that one, where they are fewer than 65,536 */
+} cvec_receipt;
+
+/* ---- cvec_client.c, over system.c and types.c beside it: a server (`cvec serve`) over a file that is there, and its clients, which grow
+ * and read its vector by pipes. Not proved; docs/use/serve.md tells the bytes.
+ *
+ * A client belongs to one thread at a time; those of a server may be in many. Its records are as C has them, of the type that the call
+ * names: another width is CVEC_WIDTH. Refused, a call has written nothing, but a read that the server's end cuts some of its records.
+ * Behind CVEC_GONE errno is EPIPE where the server has ended or the client is over, else the system's reason. A program that goes on
+ * behind a server's end ignores SIGPIPE. Standard streams that are closed get /dev/null, as by cvec_file_create. */
+
+typedef struct cvec_server cvec_server;
+typedef struct cvec_client cvec_client; /* a seat of a server */
+
+/* Starts `program serve type file --seats=count`, 1 to 64 (else CVEC_TOO_LARGE), with /dev/null as its standard input and output, in a
+ * session of its own: a terminal's Ctrl-C reaches the clients alone, and the server ends when its clients have ended. It is started for
+ * f32 as for u32, and for f64 as for u64: it keeps their bytes. A program that can't be run is one that has ended, with status 127.
+ * Where the system refuses pipes (CVEC_DISK_OPEN) or a process (CVEC_GONE) errno says why. */
+cvec_status cvec_server_start(cvec_server **server, const char *program, cvec_type type, const char *file, uint16_t count);
+
+/* The client of this number, from 0 on, which is the caller's from then on. CVEC_NOT_SO: there is none, or it was taken before. */
+cvec_status cvec_server_client(cvec_server *server, uint16_t number, cvec_client **client);
+
+/* Ends the clients that nobody has taken, and waits until the server has ended, which it does behind its last client. *exit_status is 0
+ * where all that was grown is durable, and -1 where the signal *signal has ended it, else that is 0; either pointer may be NULL. CVEC_GONE:
+ * it couldn't be waited for. CVEC_FORKED: another process has started it, so this one has closed its copies of those pipes alone.
+ * Whatever it answers, *server is NULL then. */
+cvec_status cvec_server_wait(cvec_server **server, int *exit_status, int *signal);
+
+/* A client of a server that another program started, by its descriptors here, which the end of the client closes. */
+cvec_status cvec_client_of(cvec_client **client, cvec_type type, int requests, int answers);
+
+/* Publishes these records as one growth: others read them from then on; durable they are once they are settled. receipt may be NULL. No
+ * record, and too many, are refused before anything is asked. */
+cvec_status cvec_client_grow(cvec_client *client, cvec_type type, const void *records, size_t count, cvec_receipt *receipt);
+
+/* The two halves of it, for growths that are sent before the answers of earlier ones are taken. A pipe holds few answers that nobody
+ * reads: some 2,700 on Linux. Until they are taken all but a send and the end is CVEC_BUSY, and to take one where none is left is
+ * CVEC_NOT_SO: nothing is sent or waited for then, and the client goes on. CVEC_MEMORY of a send: nothing was sent. */
+cvec_status cvec_client_send(cvec_client *client, cvec_type type, const void *records, size_t count);
+cvec_status cvec_client_take(cvec_client *client, cvec_receipt *receipt);
+
+/* Waits until all that this client grew is durable: so many growths of the server are. */
+cvec_status cvec_client_settle(cvec_client *client, uint64_t *settled);
+
+/* How many records the vector has, with those of other clients, and how many growths of the server are durable. */
+cvec_status cvec_client_look(cvec_client *client, uint64_t *size, uint64_t *settled);
+
+/* Copies records from position `from` on, at most room of them, as far as they stand in one piece: so many. None: the client knows none
+ * there. */
+cvec_status cvec_client_read(cvec_client *client, cvec_type type, uint64_t from, void *out, size_t room, size_t *count);
+
+/* Takes the answers that are left, ends the client, closes its pipes, and makes the handle NULL; of NULL it does nothing. It answers what
+ * the first of these growths was refused for, also where the end is well, and CVEC_GONE where some are never answered. Else CVEC_DONE also
+ * where it was over before. */
+cvec_status cvec_client_end(cvec_client **client);
+
+/* Closes its pipes alone, and makes the handle NULL: the server sees their end, where no other process has them. For a forked process,
+ * which has copies of all of its parent's. */
+void cvec_client_close(cvec_client **client);
+
+#define CVEC_TYPED(NAME, name, RECORD, WIDTH) \
+    static inline cvec_status cvec_client_grow_##name(cvec_client *client, const RECORD *records, size_t count, \
+                                                      cvec_receipt *receipt) { \
+        return cvec_client_grow(client, CVEC_##NAME, records, count, receipt); \
+    } \
+    static inline cvec_status cvec_client_read_##name(cvec_client *client, uint64_t from, RECORD *out, size_t room, size_t *count) { \
+        return cvec_client_read(client, CVEC_##NAME, from, out, room, count); \
     }
 CVEC_TYPES(CVEC_TYPED)
 #undef CVEC_TYPED
