@@ -274,10 +274,17 @@ a_c_program_has_images_of_each_type() (
     [ "$(cat "$out")" = '399 checks, 0 wrong' ]
 )
 
-the_header_is_cpp_too() (
-    has c++ 'the header in C++' || exit $is_skipped
-    printf '#include "cvec.h"\nint main() { return cvec_frame_at(nullptr, 0, 0, 1, 8, nullptr) ? 0 : 1; }\n' >"$work/use.cc"
-    c++ -Wall -Wextra -Werror "-I$c_headers" -fsyntax-only "$work/use.cc"
+# In C and in C++, each header alone and all of them, with what either finds to say.
+the_headers_are_c_and_cpp() (
+    has cc 'the headers in C' && has c++ 'the headers in C++' || exit $is_skipped
+    words='-Wall -Wextra -Wconversion -Werror -pedantic -fsyntax-only'
+    for headers in cvec.h cvec/proved.h cvec_vector.h 'cvec/proved.h cvec.h cvec_vector.h'; do
+        printf '#include "%s"\n' $headers >"$work/use.c"
+        echo 'cvec_status status_of(const char *path, cvec_file **file) { return cvec_file_open(file, path, CVEC_U64, NULL); }' >>"$work/use.c"
+        cc -std=c99 $words "-I$c_headers" "$work/use.c"
+        cp "$work/use.c" "$work/use.cc"
+        c++ -std=c++17 $words "-I$c_headers" "$work/use.cc"
+    done
 )
 
 # By what the header says. C++ takes no pointer to a record of another type.
@@ -285,11 +292,13 @@ the_header_has_numbers_of_each_type() (
     has c++ 'the header in C++' || exit $is_skipped
     {
         echo '#include "cvec.h"'
-        for of in 'u8 uint8_t' 'u16 uint16_t' 'i32 int32_t' 'f32 float' 'f64 double'; do
+        for of in 'u8 uint8_t' 'u16 uint16_t' 'i32 int32_t' 'f32 float' 'f64 double' 'pair cvec_pair' 'flagged cvec_flagged' \
+            'bytes24 cvec_bytes24'; do
             type=${of% *} record=${of#* }
-            echo "cvec_status (*read_$type)(const uint8_t *, size_t, uint64_t, $record *, size_t, uint64_t *, cvec_fault *) = cvec_read_$type;"
-            echo "cvec_status (*look_$type)(const uint8_t *, size_t, uint64_t, $record *, size_t, uint64_t *, cvec_stat *, cvec_fault *) = cvec_look_$type;"
-            echo "cvec_status (*append_$type)(const cvec_stat *, const $record *, size_t, uint8_t *, size_t, cvec_stat *) = cvec_append_$type;"
+            echo "cvec_status (*append_$type)(cvec_file *, const $record *, size_t) = cvec_file_append_$type;"
+            echo "cvec_status (*read_$type)(cvec_file *, uint64_t, $record *, size_t, uint64_t *, cvec_fault *) = cvec_file_read_$type;"
+            echo "cvec_status (*grow_$type)(cvec_client *, const $record *, size_t, cvec_receipt *) = cvec_client_grow_$type;"
+            echo "cvec_status (*ask_$type)(cvec_client *, uint64_t, $record *, size_t, size_t *) = cvec_client_read_$type;"
         done
     } >"$work/use.cc"
     c++ -Wall -Wextra -Werror "-I$c_headers" -fsyntax-only "$work/use.cc"

@@ -1,16 +1,20 @@
-/* Segment files of a durable vector, from C (C99) and C++.
+/* A durable vector in a file, from C (C99) and C++.
  *
- * The first part are the functions of libcvec_c.a, which is proved: what they answer, and what they write into the memory
- * that they are passed. They call nothing of the system but malloc, realloc and free. The second part is cvec_file.c,
- * which makes the system's calls in the order that the first part asks for; it is not proved. docs/use/c.md tells both.
+ *     cvec_file      one process appends, others read           docs/use/c.md
+ *     cvec_vector    threads of one process grow and read it    docs/use/threads.md, in cvec_vector.h
+ *     cvec_server    processes grow it by pipes                 docs/use/serve.md
  *
- * The types of records are those of CVEC_TYPES. A file has the width of its records and not their type: one of u64 is read as i64
- * too, one of pair as bytes16, and no function can tell (docs/file/format.md#records).
- * A function that answers another number than CVEC_DONE changes nothing but *fault (and *count, at CVEC_NO_ROOM).
+ * The functions here make the system's calls, around the proved ones of <cvec/proved.h>; they are tested and not proved.
  *
- * Pointers of the first part are never NULL, also where the length is 0, are aligned as their type, and memory that is
- * written overlaps no other. Any number of threads may call these functions at once, each on memory of its own. Bytes that
- * are read must not change meanwhile: also those of a file that is mapped. */
+ * A function that can be refused answers a cvec_status. Refused, it has written nothing but a *fault, and a handle that it was to make is
+ * NULL. Behind a status from CVEC_DISK_OPEN to CVEC_DISK_SYNC, and behind CVEC_GONE, errno says why. A pointer to no records may be NULL.
+ * A handle that is NULL is CVEC_NOT_SO; to close it does nothing.
+ *
+ * Records are of a type of CVEC_TYPES. Where a call names them it takes the type and a pointer to them as C has them; functions with a
+ * type's name are the same calls. A file has the width of its records and not their type (docs/file/format.md#records): a call with a
+ * type of another width is CVEC_WIDTH, and one of i64 reads a file of u64, one of bytes16 one of pair. No function looks at what the bits
+ * of a number stand for: any are kept, also those of each NaN. Standard streams that are closed get /dev/null by what opens a file or a
+ * pipe, where to read and to print fails as before: else these might have their numbers, and get what another thread prints. */
 #ifndef CVEC_H
 #define CVEC_H
 
@@ -86,11 +90,11 @@ extern "C" {
 typedef enum cvec_status { CVEC_STATUSES(CVEC_CODE) } cvec_status;
 #undef CVEC_CODE
 
-/* Why an image is damaged, in the order in which docs/file/format.md looks for it. */
+/* Why a file is damaged, in the order in which docs/file/format.md looks for it. */
 enum cvec_cause {
     CVEC_CAUSE_NONE = 0,
-    CVEC_CAUSE_NO_GATE = 1,      /* the image ends where a gate has to stand */
-    CVEC_CAUSE_SHORT_FRAME = 2,  /* the image ends inside a frame */
+    CVEC_CAUSE_NO_GATE = 1,      /* it ends where a gate has to stand */
+    CVEC_CAUSE_SHORT_FRAME = 2,  /* it ends inside a frame */
     CVEC_CAUSE_KIND = 3,         /* a kind of frame that isn't known: fault->found */
     CVEC_CAUSE_TOO_LARGE = 4,    /* a payload past the limit */
     CVEC_CAUSE_LAYOUT = 5,       /* a payload without the form of its kind */
@@ -102,17 +106,14 @@ enum cvec_cause {
     CVEC_CAUSE_BAD_RECORD = 11   /* bytes that are no record */
 };
 
-/* The kinds of frames. */
-enum cvec_kind { CVEC_GROUP = 1, CVEC_CHANGE = 2, CVEC_SHRINK = 3, CVEC_FOLD = 4 };
-
-/* Where and why an image has no vector. */
+/* Where and why a file has no vector. */
 typedef struct cvec_fault {
     uint64_t at;    /* the place of a damage, the position of a record that is none, 0 for another fault */
     uint32_t cause; /* an enum cvec_cause */
     uint32_t found; /* the version, the width or the kind that was found, else 0 */
 } cvec_fault;
 
-/* What an image with a vector holds. Who keeps it can append without reading the file again. */
+/* What a file with a vector holds. Who keeps it can append without reading the file again. */
 typedef struct cvec_stat {
     uint64_t size;    /* the records of the vector */
     uint64_t frames;  /* the frames before the closed gate */
@@ -122,24 +123,6 @@ typedef struct cvec_stat {
     uint16_t width;   /* the bytes of one record */
     uint8_t version;  /* 1 or 2 */
 } cvec_stat;
-
-/* One frame. Its records stand one behind the other from first_record on, each of them as in the file (little-endian,
- * with no gaps and no alignment). */
-typedef struct cvec_frame {
-    uint64_t first_record; /* of a frame without records it is next */
-    uint64_t next;         /* the place of the next gate */
-    uint32_t payload_len;  /* bytes */
-    uint32_t growths;      /* of a group; 0 of any other frame */
-    uint32_t records;
-    uint8_t kind; /* an enum cvec_kind */
-} cvec_frame;
-
-/* Consecutive positions of the vector, whose records the file's groups have one behind the other. */
-typedef struct cvec_home {
-    uint64_t position; /* the first */
-    uint64_t place;    /* of its first byte in the file */
-    uint64_t count;    /* how many positions */
-} cvec_home;
 
 /* The record types that are structs. In a file a flagged takes 9 bytes. */
 typedef struct cvec_pair {
@@ -195,123 +178,17 @@ typedef union cvec_bytes64 {
 typedef enum cvec_type { CVEC_TYPES(CVEC_NUMBER) CVEC_TYPE_COUNT } cvec_type;
 #undef CVEC_NUMBER
 
-/* The place of the first gate behind the header, and the bytes of an empty file. */
-#define CVEC_FIRST_GATE 11
-#define CVEC_EMPTY_LEN 12
-
-/* The bytes that cvec_image_append writes for so many records of this width. */
-#define CVEC_APPEND_LEN(width, records) (15 + (uint64_t)(width) * (records))
-
-/* ---- libcvec_c.a: proved. `type` is a number of enum cvec_type: another one is CVEC_NOT_SO. Records are their bytes as in a file:
- * one behind the other, the lowest byte first, with no gaps and of any alignment. */
-
-/* Whether these bytes are a file with a vector of this type. CVEC_DONE: *stat says what it holds, and the bytes of its records from
- * position `from` on stand in front of `out`, of *count records, as many as there are and as fit. Or CVEC_UNBORN to CVEC_DAMAGED, the
- * first fault in the order of docs/file/format.md, with *fault; or CVEC_MEMORY. It takes memory for all records, and gives it back. */
-cvec_status cvec_image_read(uint32_t type, const uint8_t *image, size_t len, uint64_t from, uint8_t *out, size_t room, uint64_t *count,
-                            cvec_stat *stat, cvec_fault *fault);
-
-/* The same of bytes that were read while another process writes the file: from the first one on, none before one in front of it, up to
- * where a read finds none; a length that was asked before may cut a frame. Then the records and *stat are the vector of one moment of
- * the reading, and such a file isn't called damaged, also where changes are folded meanwhile. Of a file at which nobody writes it
- * answers what cvec_image_read does. Bytes that stop before the file are CVEC_UNBORN, CVEC_NOT_SEGMENT, or CVEC_DAMAGED by
- * CVEC_CAUSE_NO_GATE or CVEC_CAUSE_SHORT_FRAME: read on. What was seen is on the device once the file is synced behind the last read.
- * It also answers CVEC_NO_RECORD and CVEC_FILE_FULL, and takes twice as much memory. */
-cvec_status cvec_image_look(uint32_t type, const uint8_t *bytes, size_t len, uint64_t from, uint8_t *out, size_t room, uint64_t *count,
-                            cvec_stat *stat, cvec_fault *fault);
-
-/* Checks an image as cvec_image_read does, and writes the homes of the vector's positions over out[0 .. *count], each position in one,
- * in order. Where stat->changes <= stat->folded the vector's records are the ones that stand there, so who has mapped the file reads
- * them with no copy; else some have been changed since, and a read tells which records they are. CVEC_NO_ROOM: there are *count of
- * them, more than room. */
-cvec_status cvec_image_homes(uint32_t type, const uint8_t *image, size_t len, cvec_home *out, size_t room, uint64_t *count,
-                             cvec_stat *stat, cvec_fault *fault);
-
-/* Writes an empty file of this version over out[0 .. CVEC_EMPTY_LEN], and *stat is what it holds. On disk write all but the first byte
- * behind a first byte that isn't 1, sync, write the first, sync: whatever a crash leaves is then CVEC_UNBORN or the empty file.
- * Refused: CVEC_VERSION, CVEC_NO_ROOM. */
-cvec_status cvec_image_empty(uint32_t type, uint8_t version, uint8_t *out, size_t room, cvec_stat *stat);
-
-/* Writes the frame of these records and the next gate over the first CVEC_APPEND_LEN bytes of out, and *next is what the file holds
- * with them, where *stat is what it holds without. On disk they belong to place stat->gate: write all but the first byte from
- * stat->gate + 1 on, sync, write the first byte at stat->gate, sync. Whatever a crash leaves is then the vector without these records,
- * or with all of them. It takes memory for the records and for the frame.
- * Refused, in this order: CVEC_VERSION, CVEC_WIDTH, CVEC_EMPTY, CVEC_OUT_OF_RANGE, CVEC_TOO_LARGE, CVEC_FILE_FULL and CVEC_NO_ROOM,
- * which count as many records as are whole; then CVEC_NO_RECORD, for bytes of no whole records and for a flag that isn't 0 or 1, or
- * CVEC_MEMORY. */
-cvec_status cvec_image_append(uint32_t type, const cvec_stat *stat, const uint8_t *records, size_t len, uint8_t *out, size_t room,
-                              cvec_stat *next);
-
-/* The frame whose gate stands at this place of the bytes of a file of this version and width: CVEC_DONE, and *frame says what it has.
- * CVEC_NO_FRAME: no whole open frame of a known kind and the right form begins there. The first gate is at CVEC_FIRST_GATE. */
-cvec_status cvec_image_frame(const uint8_t *image, size_t len, uint64_t at, uint8_t version, uint16_t width, cvec_frame *frame);
-
-/* ---- the same of records as C has them, not proved: over libcvec_c.a, and over cvec_file.c where records are passed */
-
-/* `room` and `count` are of records, and *count too. */
-cvec_status cvec_read_records(cvec_type type, const uint8_t *image, size_t len, uint64_t from, void *out, size_t room, uint64_t *count,
-                              cvec_stat *stat, cvec_fault *fault);
-cvec_status cvec_look_records(cvec_type type, const uint8_t *bytes, size_t len, uint64_t from, void *out, size_t room, uint64_t *count,
-                              cvec_stat *stat, cvec_fault *fault);
-cvec_status cvec_append_records(cvec_type type, const cvec_stat *stat, const void *records, size_t count, uint8_t *out, size_t room,
-                                cvec_stat *next);
-
-/* An image is checked by a read of no records. */
-static inline cvec_status cvec_check_image(cvec_type type, const uint8_t *image, size_t len, cvec_stat *stat, cvec_fault *fault) {
-    uint8_t none[1];
-    uint64_t count;
-    return cvec_image_read((uint32_t)type, image, len, 0, none, 0, &count, stat, fault);
-}
-
-static inline cvec_status cvec_frame_at(const uint8_t *image, size_t len, uint64_t at, uint8_t version, uint16_t width, cvec_frame *frame) {
-    return cvec_image_frame(image, len, at, version, width, frame);
-}
-
-/* For each type of the table cvec_check_TYPE, cvec_read_TYPE, cvec_look_TYPE, cvec_homes_TYPE, cvec_empty_TYPE and cvec_append_TYPE.
- * No function looks at what the bits of a number stand for: any are kept, also those of each NaN. */
-#define CVEC_CALLS(NAME, name, RECORD, WIDTH) \
-    static inline cvec_status cvec_check_##name(const uint8_t *image, size_t len, cvec_stat *stat, cvec_fault *fault) { \
-        return cvec_check_image(CVEC_##NAME, image, len, stat, fault); \
-    } \
-    static inline cvec_status cvec_read_##name(const uint8_t *image, size_t len, uint64_t from, RECORD *out, size_t room, uint64_t *count, \
-                                            cvec_fault *fault) { \
-        cvec_stat stat; \
-        return cvec_read_records(CVEC_##NAME, image, len, from, out, room, count, &stat, fault); \
-    } \
-    static inline cvec_status cvec_look_##name(const uint8_t *bytes, size_t len, uint64_t from, RECORD *out, size_t room, uint64_t *count, \
-                                            cvec_stat *stat, cvec_fault *fault) { \
-        return cvec_look_records(CVEC_##NAME, bytes, len, from, out, room, count, stat, fault); \
-    } \
-    static inline cvec_status cvec_homes_##name(const uint8_t *image, size_t len, cvec_home *out, size_t room, uint64_t *count, \
-                                             cvec_stat *stat, cvec_fault *fault) { \
-        return cvec_image_homes(CVEC_##NAME, image, len, out, room, count, stat, fault); \
-    } \
-    static inline cvec_status cvec_empty_##name(uint8_t version, uint8_t *out, size_t room, cvec_stat *stat) { \
-        return cvec_image_empty(CVEC_##NAME, version, out, room, stat); \
-    } \
-    static inline cvec_status cvec_append_##name(const cvec_stat *stat, const RECORD *records, size_t count, uint8_t *out, size_t room, \
-                                              cvec_stat *next) { \
-        return cvec_append_records(CVEC_##NAME, stat, records, count, out, room, next); \
-    }
-CVEC_TYPES(CVEC_CALLS)
-#undef CVEC_CALLS
-
-/* ---- cvec_file.c, over system.c and types.c beside it: the calls of the system, not proved. A file is opened by one writer, by one
- * thread at a time, or to be read alone. While it is open to be written it is locked (flock); where the process that opened it ends
- * without a close, it is in use until each process that was forked from it has closed it, has ended or runs another program.
- *
- * Where a call is refused it has written nothing but *fault, and a handle that it was to make is NULL. A handle that is NULL is
- * CVEC_NOT_SO. A pointer to no records may be NULL, and fault too. Records are of the type that the call names, and a file has the width
- * of its records alone: a type of another width is CVEC_WIDTH, and one of i64 reads a file of u64. Standard streams that are closed get
- * /dev/null, where to read and to print fails as before: else a file might have their numbers, and get what another thread prints. */
+/* ---- a file: one writer, by one thread at a time, or a reader. While it is open to be written it is locked (flock); where the process
+ * that opened it ends without a close, it is in use until each process that was forked from it has closed it, has ended or runs another
+ * program. fault may be NULL. By cvec_file.c, over system.c and types.c beside it. */
 
 typedef struct cvec_file cvec_file;
 
 /* Makes a file of version 1 or 2 (else CVEC_VERSION), and syncs its folder. What is there stays: CVEC_EXISTS; but for what a stopped
- * creation of this type and version leaves, at most CVEC_EMPTY_LEN bytes, each 0 or that of the empty file. */
+ * creation of this type and version leaves, at most 12 bytes, each 0 or that of the empty file. */
 cvec_status cvec_file_create(cvec_file **file, const char *path, cvec_type type, uint8_t version);
 
-/* Syncs what is there, reads and checks it: CVEC_DONE, or why not, as cvec_check_TYPE and the system's calls answer. It takes memory
+/* Syncs what is there, reads and checks it: CVEC_DONE, or why not, as cvec_image_read and the system's calls answer. It takes memory
  * for the bytes of the file and for its records, and gives it back. */
 cvec_status cvec_file_open(cvec_file **file, const char *path, cvec_type type, cvec_fault *fault);
 
@@ -325,7 +202,7 @@ cvec_status cvec_file_open_to_read(cvec_file **file, const char *path, cvec_type
 cvec_status cvec_file_append(cvec_file *file, cvec_type type, const void *records, size_t count);
 
 /* Copies records from position `from` on, as many as there are and as fit; *count is how many. It takes as much memory as
- * cvec_file_open. Of a file that is open to be read it answers as cvec_look_TYPE: the vector of one moment of the call, synced before
+ * cvec_file_open. Of a file that is open to be read it answers as cvec_image_look: the vector of one moment of the call, synced before
  * it is answered. Behind CVEC_DISK_SYNC that file is broken. */
 cvec_status cvec_file_read(cvec_file *file, cvec_type type, uint64_t from, void *out, size_t room, uint64_t *count, cvec_fault *fault);
 
@@ -359,13 +236,10 @@ typedef struct cvec_receipt {
     uint16_t seat;   /* whose growth it is: how many seats were taken before that one, where they are fewer than 65,536 */
 } cvec_receipt;
 
-/* ---- cvec_client.c, over system.c and types.c beside it: a server (`cvec serve`) over a file that is there, and its clients, which grow
- * and read its vector by pipes. Not proved; docs/use/serve.md tells the bytes.
- *
- * A client belongs to one thread at a time; those of a server may be in many. Its records are as C has them, of the type that the call
- * names: another width is CVEC_WIDTH. Refused, a call has written nothing, but a read that the server's end cuts some of its records.
- * Behind CVEC_GONE errno is EPIPE where the server has ended or the client is over, else the system's reason. A program that goes on
- * behind a server's end ignores SIGPIPE. Standard streams that are closed get /dev/null, as by cvec_file_create. */
+/* ---- a server (`cvec serve`) over a file that is there, and its clients, which grow and read its vector by pipes. A client belongs to
+ * one thread at a time; those of a server may be in many. Behind CVEC_GONE errno is EPIPE where the server has ended or the client is over,
+ * else the system's reason; a read that the server's end cuts may have written some records. A program that goes on behind a server's end
+ * ignores SIGPIPE. By cvec_client.c, over system.c and types.c beside it. */
 
 typedef struct cvec_server cvec_server;
 typedef struct cvec_client cvec_client; /* a seat of a server */

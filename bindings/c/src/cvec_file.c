@@ -19,17 +19,29 @@ enum { FIRST_ROOM = 4096, FIRST_PIECE = 65536 };
 
 /* ---- records as C has them. Of each type but flagged these are the bytes of the file. */
 
-cvec_status cvec_read_records(cvec_type type, const uint8_t *image, size_t len, uint64_t from, void *out, size_t room, uint64_t *count,
-                           cvec_stat *stat, cvec_fault *fault) {
-    cvec_status answer = cvec_image_read(type, image, len, from, out, cvec_bytes_of(type, room), count, stat, fault);
-    if (answer == CVEC_DONE && type == CVEC_FLAGGED) cvec_unpack(out, (size_t)*count);
-    return answer;
-}
+/* The bytes of a file, read into memory: of a device that fails a map would end the process. */
+struct image {
+    uint8_t *bytes;
+    size_t len;
+};
 
-cvec_status cvec_look_records(cvec_type type, const uint8_t *bytes, size_t len, uint64_t from, void *out, size_t room, uint64_t *count,
-                           cvec_stat *stat, cvec_fault *fault) {
-    cvec_status answer = cvec_image_look(type, bytes, len, from, out, cvec_bytes_of(type, room), count, stat, fault);
-    if (answer == CVEC_DONE && type == CVEC_FLAGGED) cvec_unpack(out, (size_t)*count);
+/* Either of the library's two reads of an image. */
+typedef cvec_status read_image(uint32_t type, const uint8_t *image, size_t len, uint64_t from, uint8_t *out, size_t room, uint64_t *count,
+                               cvec_stat *stat, cvec_fault *fault);
+
+/* What is asked of a file: records from position `from` on. */
+struct wanted {
+    cvec_type type;
+    uint64_t from;
+    void *out;
+    size_t room;
+    uint64_t *count;
+};
+
+static cvec_status read_records(read_image *read, const struct image *image, struct wanted of, cvec_stat *stat, cvec_fault *fault) {
+    const size_t room = cvec_bytes_of(of.type, of.room);
+    const cvec_status answer = read(of.type, image->bytes, image->len, of.from, of.out, room, of.count, stat, fault);
+    if (answer == CVEC_DONE && of.type == CVEC_FLAGGED) cvec_unpack(of.out, (size_t)*of.count);
     return answer;
 }
 
@@ -46,8 +58,8 @@ static cvec_status append_flagged(const cvec_stat *stat, const void *records, si
     return answer;
 }
 
-cvec_status cvec_append_records(cvec_type type, const cvec_stat *stat, const void *records, size_t count, uint8_t *out, size_t room,
-                             cvec_stat *next) {
+static cvec_status append_records(cvec_type type, const cvec_stat *stat, const void *records, size_t count, uint8_t *out, size_t room,
+                                  cvec_stat *next) {
     if (type == CVEC_FLAGGED) return append_flagged(stat, records, count, out, room, next);
     return cvec_image_append(type, stat, records, cvec_bytes_of(type, count), out, room, next);
 }
@@ -117,12 +129,6 @@ static cvec_fault *no_fault_yet(cvec_fault *fault, cvec_fault *unasked) {
     memset(fault, 0, sizeof *fault);
     return fault;
 }
-
-/* The bytes of a file, read into memory: of a device that fails a map would end the process. */
-struct image {
-    uint8_t *bytes;
-    size_t len;
-};
 
 static cvec_status load(int fd, struct image *image) {
     uint64_t len = 0;
@@ -196,7 +202,7 @@ static cvec_status check(cvec_file *file, const char *path, cvec_type type, cvec
     if (answer == CVEC_DONE) answer = cvec_system_sync(file->fd);
     if (answer == CVEC_DONE) answer = load(file->fd, &image);
     if (answer != CVEC_DONE) return answer;
-    answer = cvec_check_image(type, image.bytes, image.len, &file->stat, fault);
+    answer = cvec_image_check(type, image.bytes, image.len, &file->stat, fault);
     free(image.bytes);
     return answer;
 }
@@ -210,7 +216,7 @@ cvec_status cvec_file_open(cvec_file **file, const char *path, cvec_type type, c
 
 /* ---- a file that is read beside its writer: all bytes in turn, a sync, so that what was seen is on the device, and a look */
 
-static cvec_status look(cvec_file *file, cvec_type type, uint64_t from, void *out, size_t room, uint64_t *count, cvec_fault *fault) {
+static cvec_status look(cvec_file *file, struct wanted wanted, cvec_fault *fault) {
     struct image image;
     cvec_status answer = load_in_turn(file->fd, &image);
     if (answer != CVEC_DONE) return answer;
@@ -218,7 +224,7 @@ static cvec_status look(cvec_file *file, cvec_type type, uint64_t from, void *ou
     if (answer != CVEC_DONE)
         file->is_broken = true;
     else
-        answer = cvec_look_records(type, image.bytes, image.len, from, out, room, count, &file->stat, fault);
+        answer = read_records(cvec_image_look, &image, wanted, &file->stat, fault);
     free(image.bytes);
     return answer;
 }
@@ -226,7 +232,7 @@ static cvec_status look(cvec_file *file, cvec_type type, uint64_t from, void *ou
 static cvec_status check_beside(cvec_file *file, const char *path, cvec_type type, cvec_fault *fault) {
     uint64_t count = 0;
     const cvec_status answer = cvec_system_open(path, O_RDONLY, &file->fd);
-    return answer == CVEC_DONE ? look(file, type, 0, no_room, 0, &count, fault) : answer;
+    return answer == CVEC_DONE ? look(file, (struct wanted){type, 0, no_room, 0, &count}, fault) : answer;
 }
 
 cvec_status cvec_file_open_to_read(cvec_file **file, const char *path, cvec_type type, cvec_fault *fault) {
@@ -248,11 +254,11 @@ static cvec_status take_room(cvec_file *file, size_t len) {
 
 /* The frame of the records, in the file's memory: of the library's tests that of the room comes last. */
 static cvec_status make_frame(cvec_file *file, cvec_type type, const void *records, size_t count, cvec_stat *next) {
-    cvec_status answer = cvec_append_records(type, &file->stat, records, count, file->bytes, file->room, next);
+    cvec_status answer = append_records(type, &file->stat, records, count, file->bytes, file->room, next);
     if (answer != CVEC_NO_ROOM) return answer;
     answer = take_room(file, (size_t)CVEC_APPEND_LEN(file->stat.width, count));
     if (answer != CVEC_DONE) return answer;
-    return cvec_append_records(type, &file->stat, records, count, file->bytes, file->room, next);
+    return append_records(type, &file->stat, records, count, file->bytes, file->room, next);
 }
 
 cvec_status cvec_file_append(cvec_file *file, cvec_type type, const void *records, size_t count) {
@@ -271,12 +277,12 @@ cvec_status cvec_file_append(cvec_file *file, cvec_type type, const void *record
 }
 
 /* Of a file that nobody else writes. */
-static cvec_status copy(const cvec_file *file, cvec_type type, uint64_t from, void *out, size_t room, uint64_t *count, cvec_fault *fault) {
+static cvec_status copy(const cvec_file *file, struct wanted wanted, cvec_fault *fault) {
     struct image image;
     cvec_stat stat;
     cvec_status answer = load(file->fd, &image);
     if (answer != CVEC_DONE) return answer;
-    answer = cvec_read_records(type, image.bytes, image.len, from, out, room, count, &stat, fault);
+    answer = read_records(cvec_image_read, &image, wanted, &stat, fault);
     free(image.bytes);
     return answer;
 }
@@ -286,8 +292,8 @@ cvec_status cvec_file_read(cvec_file *file, cvec_type type, uint64_t from, void 
     fault = no_fault_yet(fault, &unasked);
     const cvec_status answer = refusal_of(file);
     if (answer != CVEC_DONE) return answer;
-    if (room == 0) out = no_room;
-    return file->is_to_read ? look(file, type, from, out, room, count, fault) : copy(file, type, from, out, room, count, fault);
+    const struct wanted wanted = {type, from, room == 0 ? no_room : out, room, count};
+    return file->is_to_read ? look(file, wanted, fault) : copy(file, wanted, fault);
 }
 
 cvec_status cvec_file_stat(const cvec_file *file, cvec_stat *stat) {

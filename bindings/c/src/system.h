@@ -8,7 +8,7 @@
 #ifndef CVEC_SYSTEM_H
 #define CVEC_SYSTEM_H
 
-#include "cvec.h"
+#include "cvec/proved.h"
 
 #pragma GCC visibility push(hidden)
 

@@ -40,6 +40,18 @@ size_t cvec_bytes_of(cvec_type type, size_t count) {
     return (count < most ? count : most) * of[type].width;
 }
 
+void cvec_pack_records(cvec_type type, const void *records, size_t count, uint8_t *out) {
+    if (type == CVEC_FLAGGED)
+        cvec_pack(records, count, out);
+    else if (count > 0)
+        memmove(out, records, cvec_bytes_of(type, count));
+}
+
+void cvec_unpack_records(cvec_type type, const uint8_t *bytes, size_t count, void *out) {
+    if (count > 0) memmove(out, bytes, cvec_bytes_of(type, count));
+    if (type == CVEC_FLAGGED) cvec_unpack(out, count);
+}
+
 enum { KEY_LEN = sizeof(uint64_t) };
 
 void cvec_pack(const void *records, size_t count, uint8_t *out) {
