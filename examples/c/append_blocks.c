@@ -8,7 +8,7 @@
  *
  * By hand, with two named pipes and a client that appends 8 blocks of 1,000 numbers:
  *
- *     cc -Ibindings/c/include -o append_blocks examples/c/append_blocks.c bindings/c/src/cvec_client.c bindings/c/src/system.c bindings/c/src/types.c
+ *     cc -Ibindings/c/include -o append_blocks examples/c/append_blocks.c bindings/c/src/client.c bindings/c/src/system.c bindings/c/src/types.c
  *     ./cvec create u64 numbers.cvec
  *     mkfifo requests answers
  *     (trap '' PIPE && exec ./cvec serve u64 numbers.cvec --seats=1) 3<requests 4>answers &

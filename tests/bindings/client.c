@@ -1,6 +1,6 @@
 /* Follows a table of cases by the clients of cvec.h: client FILE. As driver.c, it gives the table back where all is answered right. The
  * commands are told in clients.txt. */
-#include "cvec_client.c" /* a table looks at pipes and processes that no caller sees */
+#include <client.c> /* a table looks at pipes and processes that no caller sees */
 
 #include <inttypes.h>
 

@@ -30,7 +30,7 @@ static int test_open(const char *path, int flags, mode_t mode) {
 #undef pipe2
 #undef open
 #include "types.c"
-#include "cvec_client.c"
+#include <client.c>
 
 enum { SEATS = 3 };
 

@@ -1,7 +1,7 @@
 /* Follows a table of cases by cvec.h: driver FILE. It writes each line that begins no answer again, and behind each line
  * `> COMMAND` what the command answers, so a right answer gives the table back. The commands are told in cases.txt. */
 #define _DEFAULT_SOURCE 1
-#include "cvec_file.c" /* what `suppose` sets, no caller can */
+#include "file.c" /* what `suppose` sets, no caller can */
 
 #include <errno.h>
 #include <inttypes.h>

@@ -1,4 +1,4 @@
-/* A test of cvec_file.c: every call of the system fails once, and what the file has then is what it had before the function
+/* A test of file.c: every call of the system fails once, and what the file has then is what it had before the function
  * that was running, or what it has after; a forked process is refused, no file ever has the number of a standard stream, no write
  * past the limit of a file's size ends the process, what is opened has the name, signals cut short no wait for a lock, what is
  * closed is locked no more, no record has another flag than 0 or 1, or another width, and a handle of nothing is refused. Prints the calls of a run in which none fails:
@@ -112,7 +112,7 @@ static void counted_free(void *memory) {
 #define stat(path, found) faulty_stat(path, found) /* but not the type */
 #include "system.c"
 #include "types.c"
-#include "cvec_file.c"
+#include "file.c"
 #undef free
 #undef getpid
 #undef nanosleep

@@ -1,6 +1,6 @@
 /* A client at a terminal: waits PROGRAM FILE. It starts a server, grows by COUNT records, and writes `grown` and the server's
  * process. A SIGINT ends its pause: it waits until its growths are settled, and writes how many are, and how the server ended. */
-#include "cvec_client.c" /* which process it is, no caller sees */
+#include <client.c> /* which process it is, no caller sees */
 
 #include <inttypes.h>
 

@@ -21,9 +21,9 @@ has_caller() {
 make_caller() {
     kit_library=$(dirname "$(rt doc)")/c/liblibc_c.a
     mkdir -p "$built"
-    if [ ! -e "$built/cvec_file.o" ]; then
+    if [ ! -e "$built/file.o" ]; then
         make_c_library
-        cp "$work/cvec_file.o" "$built"
+        cp "$work/file.o" "$built"
     fi
     "make_$1"
 }
@@ -34,7 +34,7 @@ make_c() {
 }
 
 make_python() {
-    [ -e "$built/libcvec.so" ] || cc -shared -o "$built/libcvec.so" "$built/cvec_file.o" -Wl,--whole-archive "$c_library" \
+    [ -e "$built/libcvec.so" ] || cc -shared -o "$built/libcvec.so" "$built/file.o" -Wl,--whole-archive "$c_library" \
         -Wl,--no-whole-archive "$kit_library"
 }
 
@@ -66,7 +66,7 @@ make_rust() {
     [ -e "$built/rust" ] && return
     rustc --edition 2024 -D warnings --crate-type rlib --crate-name cvec -o "$built/libcvec.rlib" "$top/bindings/rust/src/lib.rs"
     rustc --edition 2024 -D warnings -o "$built/rust" "$bindings/driver.rs" --extern "cvec=$built/libcvec.rlib" \
-        -C "link-arg=$built/cvec_file.o" -C "link-arg=$c_library" -C "link-arg=$kit_library"
+        -C "link-arg=$built/file.o" -C "link-arg=$c_library" -C "link-arg=$kit_library"
 }
 
 # Stands between a caller and the system.

@@ -4,7 +4,7 @@
 
 # Compiles this example in C.
 compile() {
-    cc -std=c99 -O2 -Wall -Wextra -Werror -pedantic "-I$c_headers" -o "$work/$1" "$c/$1.c" "$work/cvec_file.o" "$c_library" "$kit_library"
+    cc -std=c99 -O2 -Wall -Wextra -Werror -pedantic "-I$c_headers" -o "$work/$1" "$c/$1.c" "$work/file.o" "$c_library" "$kit_library"
 }
 
 a_c_program_appends_and_reads() (
@@ -25,7 +25,7 @@ the_c_program_that_is_shown_appends_and_reads() (
     has_c || exit $is_skipped
     make_c_library
     shown_in use/c.md c >"$work/shown.c"
-    cc -std=c99 -O2 -Wall -Wextra -Werror -pedantic "-I$c_headers" -o "$work/shown" "$work/shown.c" "$work/cvec_file.o" \
+    cc -std=c99 -O2 -Wall -Wextra -Werror -pedantic "-I$c_headers" -o "$work/shown" "$work/shown.c" "$work/file.o" \
         "$c_library" "$kit_library"
     "$work/shown" "$work/file" >"$out"
     [ "$(tr '\n' ' ' <"$out")" = '5 7 11 ' ]
@@ -135,7 +135,7 @@ int main(int argc, char **argv) {
     }
 }
 MEMORY
-    cc -std=c99 -O2 -Wall -Wextra -Werror -pedantic "-I$c_headers" -o "$work/memory" "$work/memory.c" "$work/cvec_file.o" \
+    cc -std=c99 -O2 -Wall -Wextra -Werror -pedantic "-I$c_headers" -o "$work/memory" "$work/memory.c" "$work/file.o" \
         "$c_library" "$kit_library"
     "$work/memory" "$work/file"
 )
@@ -208,7 +208,7 @@ a_wait_of_the_library_for_c_is_as_long_as_it_says() (
 
 make_looks() {
     make_c_library
-    cc -std=c99 -O2 -Wall -Wextra -Werror "-I$c_headers" -o "$work/looks" "$top/tests/bindings/looks.c" "$work/cvec_file.o" \
+    cc -std=c99 -O2 -Wall -Wextra -Werror "-I$c_headers" -o "$work/looks" "$top/tests/bindings/looks.c" "$work/file.o" \
         "$c_library" "$kit_library"
 }
 
@@ -268,7 +268,7 @@ a_c_program_has_images_of_each_type() (
     has_c && has_sanitizer address || exit $is_skipped
     make_c_library
     cc -std=c99 -g -O1 -Wall -Wextra -Werror -pedantic -fsanitize=address,undefined -fno-sanitize-recover=all "-I$c_headers" \
-        -o "$work/images" "$top/tests/bindings/images.c" "$c_sources/cvec_file.c" "$c_sources/system.c" "$c_sources/types.c" \
+        -o "$work/images" "$top/tests/bindings/images.c" "$c_sources/file.c" "$c_sources/system.c" "$c_sources/types.c" \
         "$c_library" "$kit_library"
     "$work/images" "$work/none" >"$out" || { cat "$out" && exit 1; }
     [ "$(cat "$out")" = '399 checks, 0 wrong' ]

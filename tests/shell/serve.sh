@@ -6,8 +6,8 @@
 clients_of_a_server_find_what_they_were_told() (
     has python3 'the clients of a server' || exit $is_skipped
     if command -v cc >/dev/null; then
-        compile_c cvec_client "$work"
-        cc -std=c99 -Wall -Wextra -pedantic -Werror "-I$c_headers" "$c/append_blocks.c" "$work/cvec_client.o" -o "$work/append_blocks"
+        compile_c client "$work"
+        cc -std=c99 -Wall -Wextra -pedantic -Werror "-I$c_headers" "$c/append_blocks.c" "$work/client.o" -o "$work/append_blocks"
         set -- "$work/append_blocks"
     fi
     "$top/tests/serve.py" "$top/cvec" "$work" 1000000 "$@" >"$out"
@@ -133,8 +133,8 @@ the_client_in_c_is_one_for_cpp() (
     has c++ 'the client in C++' || exit $is_skipped
     printf '#include "cvec.h"\nint main() { cvec_server *server = nullptr; return cvec_server_wait(&server, nullptr, nullptr) == CVEC_NOT_SO ? 0 : 1; }\n' \
         >"$work/use.cc"
-    compile_c cvec_client "$work"
-    c++ -Wall -Wextra -pedantic -Werror "-I$c_headers" "$work/use.cc" "$work/cvec_client.o" -o "$work/use"
+    compile_c client "$work"
+    c++ -Wall -Wextra -pedantic -Werror "-I$c_headers" "$work/use.cc" "$work/client.o" -o "$work/use"
     "$work/use"
 )
 
@@ -142,8 +142,8 @@ the_client_in_c_is_one_for_cpp() (
 # Python that the README shows is run by the section blocks.
 the_client_that_is_shown_appends() (
     has cc 'the client that is shown' || exit $is_skipped
-    compile_c cvec_client "$work"
-    cc -std=c99 -Wall -Wextra -pedantic -Werror "-I$c_headers" "$c/use_server.c" "$work/cvec_client.o" -o "$work/use_server"
+    compile_c client "$work"
+    cc -std=c99 -Wall -Wextra -pedantic -Werror "-I$c_headers" "$c/use_server.c" "$work/client.o" -o "$work/use_server"
     ln -s "$top/cvec" "$work/cvec"
     cd "$work"
     run create u64 numbers.cvec

@@ -180,7 +180,7 @@ typedef enum cvec_type { CVEC_TYPES(CVEC_NUMBER) CVEC_TYPE_COUNT } cvec_type;
 
 /* ---- a file: one writer, by one thread at a time, or a reader. While it is open to be written it is locked (flock); where the process
  * that opened it ends without a close, it is in use until each process that was forked from it has closed it, has ended or runs another
- * program. fault may be NULL. By cvec_file.c, over system.c and types.c beside it. */
+ * program. fault may be NULL. By file.c, over system.c and types.c beside it. */
 
 typedef struct cvec_file cvec_file;
 
@@ -239,7 +239,7 @@ typedef struct cvec_receipt {
 /* ---- a server (`cvec serve`) over a file that is there, and its clients, which grow and read its vector by pipes. A client belongs to
  * one thread at a time; those of a server may be in many. Behind CVEC_GONE errno is EPIPE where the server has ended or the client is over,
  * else the system's reason; a read that the server's end cuts may have written some records. A program that goes on behind a server's end
- * ignores SIGPIPE. By cvec_client.c, over system.c and types.c beside it. */
+ * ignores SIGPIPE. By client.c, over system.c and types.c beside it. */
 
 typedef struct cvec_server cvec_server;
 typedef struct cvec_client cvec_client; /* a seat of a server */
