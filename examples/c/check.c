@@ -37,7 +37,7 @@ static void tell_fault(cvec_status status, const cvec_fault *fault) {
     printf("refused: %s", cvec_status_text(status));
     if (status == CVEC_VERSION || status == CVEC_WIDTH) printf(": %" PRIu32, fault->found);
     if (status == CVEC_DAMAGED) printf(" at %" PRIu64 ": %s", fault->at, cvec_cause_text(fault->cause));
-    if (status == CVEC_DAMAGED && fault->cause == CVEC_CAUSE_KIND) printf(" %" PRIu32, fault->found);
+    if (status == CVEC_DAMAGED && fault->cause == CVEC_CAUSE_KIND) printf(": %" PRIu32, fault->found);
     putchar('\n');
 }
 

@@ -465,7 +465,7 @@ def check_maps_that_grow():
     # A frame that is cut, and no writer beside it, is damaged still.
     for length in range(len(whole) - 22, len(whole)):
         told, _ = mapped_as_it_grows(whole[:length], b"", 0)
-        assert told == "a frame of the file is damaged at " + ("41: short frame" if length < 63 else "63: no gate"), (length, told)
+        assert told == "a frame of the file is damaged at " + ("41: the file ends inside a frame" if length < 63 else "63: the file ends where a gate has to stand"), (length, told)
     os.remove(PATH)
 
 

@@ -1,5 +1,5 @@
 """The numbers that the bindings for Python and plain Rust have in their sources are those of types.txt and statuses.txt, and the widths
-of Python's types are those of the former: tables.py"""
+of Python's types are those of the former. No two statuses and no two causes have one sentence: tables.py"""
 import ast
 import os
 import re
@@ -45,6 +45,9 @@ def upper(name):
 
 statuses = {name: int(number) for number, name, *_ in rows_of("statuses.txt")}
 types = {name: tuple(map(int, (number, width, size))) for number, name, width, size in rows_of("types.txt")}
+for name in ("statuses.txt", "causes.txt"):
+    sentences = [line.split(" ", 2)[2] for line in text_of(HERE, name).splitlines()]
+    assert len(set(sentences)) == len(sentences), name
 of_clients = {name: number for name, number in statuses.items() if number >= statuses["GONE"]}
 of_vectors = {name: number for name, number in statuses.items() if name not in OF_FILES | of_clients.keys()}
 

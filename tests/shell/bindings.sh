@@ -132,7 +132,7 @@ follows() {
 each_type_and_each_status_has_one_number() (
     for tool in cc python3; do has $tool 'the tables of the header' || exit $is_skipped; done
     cc -std=c99 -Wall -Wextra -Werror -pedantic "-I$c_headers" -o "$work/tables" "$bindings/tables.c" "$c_sources/types.c"
-    for name in types statuses; do
+    for name in types statuses causes; do
         "$work/tables" $name >"$out"
         diff "$bindings/$name.txt" "$out"
     done

@@ -144,7 +144,11 @@ MEMORY
 in_sentences() {
     sed -e 's/^refused: unborn$/refused: no vector was begun in the file/' -e 's/^refused: not a segment$/refused: it is no segment file/' \
         -e "s/^refused: version /refused: the version isn't known: /" -e 's/^refused: width /refused: the records have another width: /' \
-        -e 's/^refused: damaged at /refused: a frame of the file is damaged at /' "$1"
+        -e 's/^refused: damaged at /refused: a frame of the file is damaged at /' -e 's/: no gate$/: the file ends where a gate has to stand/' \
+        -e 's/: short frame$/: the file ends inside a frame/' -e "s/: kind \([0-9]*\)$/: a kind of frame that isn't known: \1/" \
+        -e 's/: too large$/: a payload past the limit/' -e 's/: layout$/: a payload without the form of its kind/' \
+        -e 's/: range$/: a change outside the vector, or a shrink to more than it has/' \
+        -e "s/: fold count$/: a fold's count that falls, or passes the changes so far/" "$1"
 }
 
 # Each front of a file, and a file with another byte at each place.

@@ -90,26 +90,29 @@ extern "C" {
 typedef enum cvec_status { CVEC_STATUSES(CVEC_CODE) } cvec_status;
 #undef CVEC_CODE
 
-/* Why a file is damaged, in the order in which docs/file/format.md looks for it. */
-enum cvec_cause {
-    CVEC_CAUSE_NONE = 0,
-    CVEC_CAUSE_NO_GATE = 1,      /* it ends where a gate has to stand */
-    CVEC_CAUSE_SHORT_FRAME = 2,  /* it ends inside a frame */
-    CVEC_CAUSE_KIND = 3,         /* a kind of frame that isn't known: fault->found */
-    CVEC_CAUSE_TOO_LARGE = 4,    /* a payload past the limit */
-    CVEC_CAUSE_LAYOUT = 5,       /* a payload without the form of its kind */
-    CVEC_CAUSE_RUNS = 6,         /* runs of a change that don't ascend, or overlap */
-    CVEC_CAUSE_RANGE = 7,        /* a change outside the vector, or a shrink to more than it has */
-    CVEC_CAUSE_UNFOLDED = 8,     /* a shrink while a change isn't folded */
-    CVEC_CAUSE_FOLD_COUNT = 9,   /* a fold's count that falls, or passes the changes so far */
-    CVEC_CAUSE_TOO_LONG = 10,    /* a group that brings the vector past 2^32 records */
-    CVEC_CAUSE_BAD_RECORD = 11   /* bytes that are no record */
-};
+/* Why a file is damaged, in the order in which docs/file/format.md looks for it. X(NAME, number, what cvec_cause_text has) */
+#define CVEC_CAUSES(X) \
+    X(NONE, 0, "none") \
+    X(NO_GATE, 1, "the file ends where a gate has to stand") \
+    X(SHORT_FRAME, 2, "the file ends inside a frame") \
+    X(KIND, 3, "a kind of frame that isn't known") /* fault->found */ \
+    X(TOO_LARGE, 4, "a payload past the limit") \
+    X(LAYOUT, 5, "a payload without the form of its kind") \
+    X(RUNS, 6, "runs of a change that don't ascend, or overlap") \
+    X(RANGE, 7, "a change outside the vector, or a shrink to more than it has") \
+    X(UNFOLDED, 8, "a shrink while a change isn't folded") \
+    X(FOLD_COUNT, 9, "a fold's count that falls, or passes the changes so far") \
+    X(TOO_LONG, 10, "a group that brings the vector past 2^32 records") \
+    X(BAD_RECORD, 11, "bytes that are no record")
+
+#define CVEC_CODE(NAME, NUMBER, SENTENCE) CVEC_CAUSE_##NAME = NUMBER,
+typedef enum cvec_cause { CVEC_CAUSES(CVEC_CODE) } cvec_cause;
+#undef CVEC_CODE
 
 /* Where and why a file has no vector. */
 typedef struct cvec_fault {
     uint64_t at;    /* the place of a damage, the position of a record that is none, 0 for another fault */
-    uint32_t cause; /* an enum cvec_cause */
+    uint32_t cause; /* a cvec_cause */
     uint32_t found; /* the version, the width or the kind that was found, else 0 */
 } cvec_fault;
 

@@ -16,21 +16,24 @@ const cvec_type_of *cvec_types(size_t *count) {
     return types;
 }
 
-const char *cvec_status_text(uint32_t status) {
-    switch (status) {
 #define CVEC_TEXT(NAME, NUMBER, SENTENCE) \
     case NUMBER: return SENTENCE;
+
+const char *cvec_status_text(uint32_t status) {
+    switch (status) {
         CVEC_STATUSES(CVEC_TEXT)
-#undef CVEC_TEXT
     default: return "an unknown status";
     }
 }
 
 const char *cvec_cause_text(uint32_t cause) {
-    static const char *const texts[] = {"none", "no gate", "short frame", "kind", "too large", "layout", "runs", "range",
-                                        "unfolded", "fold count", "too long", "bad record"};
-    return cause < sizeof texts / sizeof *texts ? texts[cause] : "unknown";
+    switch (cause) {
+        CVEC_CAUSES(CVEC_TEXT)
+    default: return "an unknown cause";
+    }
 }
+
+#undef CVEC_TEXT
 
 size_t cvec_bytes_of(cvec_type type, size_t count) {
     size_t types;
