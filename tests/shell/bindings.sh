@@ -300,6 +300,13 @@ a_table_holds_for_clients() (
     follows client_arrays client_python.txt
 )
 
+a_client_in_c_without_memory_loses_nothing() (
+    has cc 'clients of a server' || exit $is_skipped
+    cc -std=c99 -O2 -Wall -Wextra -Werror "-I$c_headers" -o "$work/faults" "$bindings/client_faults.c" "$c_sources/client.c" \
+        "$c_sources/system.c" "$c_sources/types.c"
+    timeout 60 "$work/faults"
+)
+
 # Also where each call is interrupted once, and does a part of what it is asked.
 growths_of_a_client_in_c_are_answered_in_turn() (
     has_tables || exit $is_skipped

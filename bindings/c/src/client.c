@@ -335,6 +335,7 @@ static void free_server(cvec_server **server) {
     *server = NULL;
 }
 
+/* Refused, it has as many of its clients as there was memory for. */
 static cvec_status new_server(cvec_server **server, size_t width, uint16_t count) {
     cvec_status status = CVEC_DONE;
     *server = calloc(1, sizeof **server);
@@ -342,7 +343,6 @@ static cvec_status new_server(cvec_server **server, size_t width, uint16_t count
     (*server)->process = cvec_process();
     (*server)->count = count;
     for (uint16_t k = 0; k < count && status == CVEC_DONE; k++) status = new_client(&(*server)->clients[k], width, k);
-    if (status != CVEC_DONE) free_server(server);
     return status;
 }
 
