@@ -7,14 +7,16 @@
  * The functions here make the system's calls, around the proved ones of <cvec/proved.h>; they are tested and not proved.
  *
  * A function that can be refused answers a cvec_status. Refused, it has written nothing but a *fault, and a handle that it was to make is
- * NULL. Behind a status from CVEC_DISK_OPEN to CVEC_DISK_SYNC, and behind CVEC_GONE, errno says why. A pointer to no records may be NULL.
+ * NULL. After a status from CVEC_DISK_OPEN to CVEC_DISK_SYNC, and after CVEC_GONE, errno says why. A pointer to no records may be NULL.
  * A handle that is NULL is CVEC_NOT_SO; to close it does nothing.
  *
- * Records are of a type of CVEC_TYPES. Where a call names them it takes the type and a pointer to them as C has them; functions with a
- * type's name are the same calls. A file has the width of its records and not their type (docs/file/format.md#records): a call with a
- * type of another width is CVEC_WIDTH, and one of i64 reads a file of u64, one of bytes16 one of pair. No function looks at what the bits
- * of a number stand for: any are kept, also those of each NaN. Standard streams that are closed get /dev/null by what opens a file or a
- * pipe, where to read and to print fails as before: else these might have their numbers, and get what another thread prints. */
+ * Records are of a type of CVEC_TYPES. A call that names them takes the type and a pointer to them as C has them; functions with a type's
+ * name are the same calls. A file has the width of its records and not their type (docs/file/format.md#records): a call with a type of
+ * another width is CVEC_WIDTH, and one of i64 reads a file of u64, one of bytes16 one of pair. No function looks at what the bits of a
+ * number stand for: any are kept, also those of each NaN.
+ *
+ * What opens a file or a pipe opens /dev/null first for standard streams that are closed, so that to read and to print fails as before.
+ * Else a file might have their numbers, and get what another thread prints. */
 #ifndef CVEC_H
 #define CVEC_H
 
@@ -69,8 +71,8 @@ extern "C" {
     X(LATE, 68, "the time has passed: what was waited for may yet come") \
     X(UNFOLDED, 69, "a change isn't folded: fold first") \
     X(UNSETTLED, 70, "a growth isn't committed") \
-    /* Those of a client: the numbers of docs/use/serve.md, and 96 more. Behind the first six it is over, and every call but its end is \
-       CVEC_GONE, unless the library has refused it before anything was asked */ \
+    /* Those of a client: the numbers of docs/use/serve.md, and 96 more. After the first six it is over, and every call but its end is \
+       CVEC_GONE, unless the library has refused them before anything was asked */ \
     X(GONE, 96, "the server has ended, or the client has: each growth that isn't settled stands in the file whole, or not at all") \
     X(REFUSED_UNKNOWN_KIND, 97, "the server knows no such request") \
     X(REFUSED_STRAY_NUMBER, 98, "the request has a number where none belongs") \
@@ -181,8 +183,8 @@ typedef union cvec_bytes64 {
 typedef enum cvec_type { CVEC_TYPES(CVEC_NUMBER) CVEC_TYPE_COUNT } cvec_type;
 #undef CVEC_NUMBER
 
-/* ---- a file: one writer, by one thread at a time, or a reader. While it is open to be written it is locked (flock); where the process
- * that opened it ends without a close, it is in use until each process that was forked from it has closed it, has ended or runs another
+/* ---- a file: one writer, by one thread at a time, or a reader. While it is open to be written it is locked (flock). If the process that
+ * opened it ends without a close, it is in use until each process that was forked from it has closed it, has ended or runs another
  * program. fault may be NULL. By file.c, over system.c and types.c beside it. */
 
 typedef struct cvec_file cvec_file;
@@ -199,18 +201,18 @@ cvec_status cvec_file_open(cvec_file **file, const char *path, cvec_type type, c
  * it as cvec_file_read does. */
 cvec_status cvec_file_open_to_read(cvec_file **file, const char *path, cvec_type type, cvec_fault *fault);
 
-/* Appends the records as one growth: all of them or none. CVEC_DONE: they are durable. A refusal from CVEC_VERSION to
- * CVEC_NO_RECORD writes nothing. Behind CVEC_DISK_WRITE and CVEC_DISK_SYNC the file is broken: opened again, behind
- * CVEC_DISK_SYNC after a restart of the system, it has all of them or none. */
+/* Appends the records as one growth: all of them or none. CVEC_DONE: they are durable. A refusal from CVEC_VERSION to CVEC_NO_RECORD
+ * writes nothing. After CVEC_DISK_WRITE and CVEC_DISK_SYNC the file is broken: it has all of them or none once it is opened again, after
+ * CVEC_DISK_SYNC once the system was restarted too. */
 cvec_status cvec_file_append(cvec_file *file, cvec_type type, const void *records, size_t count);
 
 /* Copies records from position `from` on, as many as there are and as fit; *count is how many. It takes as much memory as
  * cvec_file_open. Of a file that is open to be read it answers as cvec_image_look: the vector of one moment of the call, synced before
- * it is answered. Behind CVEC_DISK_SYNC that file is broken. */
+ * it is answered. After CVEC_DISK_SYNC that file is broken. */
 cvec_status cvec_file_read(cvec_file *file, cvec_type type, uint64_t from, void *out, size_t room, uint64_t *count, cvec_fault *fault);
 
-/* What it holds; one that is open to be read, what it held when it was last read: where stat->size > from + *count there were more
- * records than room. Of a file that is broken, what it held before. */
+/* What it holds; one that is open to be read, what it held when it was last read: if stat->size > from + *count there were more records
+ * than room. Of a file that is broken, what it held before. */
 cvec_status cvec_file_stat(const cvec_file *file, cvec_stat *stat);
 
 /* Closes the file, and makes the handle NULL; of NULL it does nothing. What was appended stands. In a forked process, which can do
@@ -236,12 +238,13 @@ typedef struct cvec_receipt {
     uint64_t start;  /* how many records stand before it */
     uint64_t len;    /* how many it has */
     uint64_t serial; /* how many growths of its seat stand before it */
-    uint16_t seat;   /* whose growth it is: how many seats were taken before that one, where they are fewer than 65,536 */
+    uint16_t seat;   /* whose growth it is: how many seats were taken before that one, if they are fewer than 65,536; of a client its
+                        number, and 0 of one by descriptors */
 } cvec_receipt;
 
-/* ---- a server (`cvec serve`) over a file that is there, and its clients, which grow and read its vector by pipes. A client belongs to
- * one thread at a time; those of a server may be in many. Behind CVEC_GONE errno is EPIPE where the server has ended or the client is over,
- * else the system's reason; a read that the server's end cuts may have written some records. A program that goes on behind a server's end
+/* ---- a server (`cvec serve`) over a file that is there, and its clients, which grow and read its vector by pipes. A server and a client
+ * belong to one thread at a time; the clients may be in many. After CVEC_GONE errno is EPIPE if the server has ended or the client is over,
+ * else the system's reason; a read that the server's end cuts may have written some records. A program that goes on after a server's end
  * ignores SIGPIPE. By client.c, over system.c and types.c beside it. */
 
 typedef struct cvec_server cvec_server;
@@ -250,16 +253,16 @@ typedef struct cvec_client cvec_client; /* a seat of a server */
 /* Starts `program serve type file --seats=count`, 1 to 64 (else CVEC_TOO_LARGE), with /dev/null as its standard input and output, in a
  * session of its own: a terminal's Ctrl-C reaches the clients alone, and the server ends when its clients have ended. It is started for
  * f32 as for u32, and for f64 as for u64: it keeps their bytes. A program that can't be run is one that has ended, with status 127.
- * Where the system refuses pipes (CVEC_DISK_OPEN) or a process (CVEC_GONE) errno says why. */
+ * If the system refuses pipes (CVEC_DISK_OPEN) or a process (CVEC_GONE), errno says why. */
 cvec_status cvec_server_start(cvec_server **server, const char *program, cvec_type type, const char *file, uint16_t count);
 
 /* The client of this number, from 0 on, which is the caller's from then on. CVEC_NOT_SO: there is none, or it was taken before. */
 cvec_status cvec_server_client(cvec_server *server, uint16_t number, cvec_client **client);
 
 /* Ends the clients that nobody has taken, and waits until the server has ended, which it does behind its last client. *exit_status is 0
- * where all that was grown is durable, and -1 where the signal *signal has ended it, else that is 0; either pointer may be NULL. CVEC_GONE:
- * it couldn't be waited for. CVEC_FORKED: another process has started it, so this one has closed its copies of those pipes alone.
- * Whatever it answers, *server is NULL then. */
+ * if all that was grown is durable, and -1 if the signal *signal has ended it, else that is 0; either pointer may be NULL. CVEC_GONE: it
+ * couldn't be waited for. CVEC_FORKED: another process has started it, so this one has closed its copies of those pipes alone. Whatever
+ * it answers, *server is NULL then. */
 cvec_status cvec_server_wait(cvec_server **server, int *exit_status, int *signal);
 
 /* A client of a server that another program started, by its descriptors here, which the end of the client closes. */
@@ -270,7 +273,7 @@ cvec_status cvec_client_of(cvec_client **client, cvec_type type, int requests, i
 cvec_status cvec_client_grow(cvec_client *client, cvec_type type, const void *records, size_t count, cvec_receipt *receipt);
 
 /* The two halves of it, for growths that are sent before the answers of earlier ones are taken. A pipe holds few answers that nobody
- * reads: some 2,700 on Linux. Until they are taken all but a send and the end is CVEC_BUSY, and to take one where none is left is
+ * reads: some 2,700 on Linux. Until they are taken all but a send and the end is CVEC_BUSY, and to take one if none is left is
  * CVEC_NOT_SO: nothing is sent or waited for then, and the client goes on. CVEC_MEMORY of a send: nothing was sent. */
 cvec_status cvec_client_send(cvec_client *client, cvec_type type, const void *records, size_t count);
 cvec_status cvec_client_take(cvec_client *client, cvec_receipt *receipt);
@@ -286,11 +289,11 @@ cvec_status cvec_client_look(cvec_client *client, uint64_t *size, uint64_t *sett
 cvec_status cvec_client_read(cvec_client *client, cvec_type type, uint64_t from, void *out, size_t room, size_t *count);
 
 /* Takes the answers that are left, ends the client, closes its pipes, and makes the handle NULL; of NULL it does nothing. It answers what
- * the first of these growths was refused for, also where the end is well, and CVEC_GONE where some are never answered. Else CVEC_DONE also
- * where it was over before. */
+ * the first of these growths was refused for, also if the end is well, and CVEC_GONE if some are never answered. Else CVEC_DONE, also if
+ * the client was over before. */
 cvec_status cvec_client_end(cvec_client **client);
 
-/* Closes its pipes alone, and makes the handle NULL: the server sees their end, where no other process has them. For a forked process,
+/* Closes its pipes alone, and makes the handle NULL: the server sees their end, if no other process has them. For a forked process,
  * which has copies of all of its parent's. */
 void cvec_client_close(cvec_client **client);
 

@@ -15,7 +15,7 @@
 enum { END = 0, GROW = 1, SETTLE = 2, LOOK = 3, READ = 4 };
 enum { REQUEST_LEN = 16, ANSWER_LEN = 24 };
 
-/* The refusals of a server have these numbers and more in the list of statuses. Behind one up to LAST_END it reads no more. */
+/* The refusals of a server have these numbers and more in the list of statuses. After one up to LAST_END it reads no more. */
 enum { FIRST_REFUSAL = CVEC_REFUSED_UNKNOWN_KIND - 1, LAST_END = CVEC_REFUSED_NO_MEMORY, LAST_REFUSAL = CVEC_REFUSED_BROKEN };
 
 enum { SEAT_LIMIT = 64 };

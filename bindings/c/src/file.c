@@ -108,7 +108,7 @@ static cvec_status begin(cvec_file **file, bool is_to_read) {
     return CVEC_MEMORY;
 }
 
-/* What a call that makes a handle answers: refused, it makes none. */
+/* What a call that makes a handle answers: if it is refused, it makes none. */
 static cvec_status kept_where_done(cvec_file **file, cvec_status answer) {
     if (answer != CVEC_DONE) cvec_file_close(file);
     return answer;
@@ -123,7 +123,7 @@ static cvec_status refusal_of(const cvec_file *file) {
     return is_forked(file) ? CVEC_FORKED : CVEC_DONE;
 }
 
-/* Where a fault is told that nobody asks for, and that there is none yet. */
+/* The fault, which is none yet: another one if nobody asks for it. */
 static cvec_fault *no_fault_yet(cvec_fault *fault, cvec_fault *unasked) {
     if (fault == NULL) fault = unasked;
     memset(fault, 0, sizeof *fault);
