@@ -291,6 +291,7 @@ static void follow(char *line) {
     errno = 0;
     if (!strcmp(word, "serve")) start_server(1);
     else if (!strcmp(word, "untaken")) start_server(0);
+    else if (!strcmp(word, "claim")) take_clients((uint16_t)number());
     else if (!strcmp(word, "grow")) grow(0);
     else if (!strcmp(word, "send")) grow(1);
     else if (!strcmp(word, "take")) take_growth();
