@@ -186,17 +186,13 @@ static void append(void) {
     tell(cvec_file_append(at->file, at->type, count > 0 ? &records : NULL, count), &none);
 }
 
-static cvec_stat stat_of(const struct handle *at) {
-    cvec_stat stat;
-    if (cvec_file_stat(at->file, &stat) != CVEC_DONE) exit(2);
-    return stat;
-}
-
 static void read_copy(void) {
     struct handle *at = handle();
-    uint64_t from = number(), count = 0, size = stat_of(at).size;
+    uint64_t from = number(), count = 0;
     char *most = next_word();
-    size_t left = size > from ? size - from : 0;
+    cvec_stat stat = {0, 0, 0, 0, 0, 0, 0};
+    cvec_file_stat(at->file, &stat); /* of no file it is nothing */
+    size_t left = stat.size > from ? stat.size - from : 0;
     size_t room = most ? strtoul(most, NULL, 10) : at->is_to_read ? MOST : left;
     cvec_fault fault;
     memset(&fault, guard, sizeof fault);
@@ -218,8 +214,11 @@ static void read_copy(void) {
 
 /* What it holds, as it is known. */
 static void tell_known(void) {
-    const cvec_stat stat = stat_of(handle());
-    tell_stat(&stat);
+    const cvec_fault none = {0, 0, 0};
+    cvec_stat stat;
+    const cvec_status status = cvec_file_stat(handle()->file, &stat);
+    if (status == CVEC_DONE) tell_stat(&stat);
+    else tell(status, &none);
 }
 
 /* All bytes of a file, in memory of their length alone, so that a tool sees a read past them. */

@@ -275,7 +275,7 @@ a_c_program_has_images_of_each_type() (
         -o "$work/images" "$top/tests/bindings/images.c" "$c_sources/file.c" "$c_sources/system.c" "$c_sources/types.c" \
         "$c_library" "$kit_library"
     "$work/images" "$work/none" >"$out" || { cat "$out" && exit 1; }
-    [ "$(cat "$out")" = '399 checks, 0 wrong' ]
+    [ "$(cat "$out")" = '413 checks, 0 wrong' ]
 )
 
 # In C and in C++, each header alone and all of them, with what either finds to say.
