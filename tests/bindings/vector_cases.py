@@ -1987,11 +1987,11 @@ def each_refusal():
 def each_status_has_the_sentence_of_c():
     with open(os.path.join(os.path.dirname(os.path.abspath(__file__)), "statuses.txt")) as lines:
         told = {int(number): text.rstrip("\n") for number, _, text in (line.split(" ", 2) for line in lines)}
-    assert {int(it) for it in Status} == told.keys() - {0, 11, 12, 13, 42, 65, 70}
+    assert {int(it) for it in Status} == {it for it in told if it < 96} - {0, 11, 12, 13, 42, 65, 70}
     for it in Status:
         assert str(Error(it)) == told[it] and str(Error(it, errno=2)) == told[it] + ": No such file or directory"
         assert Error(int(it)).status is it
-    assert str(Error(99)) == "an unknown status" and Error(99).status == 99
+    assert str(Error(999)) == "an unknown status" and Error(999).status == 999
 
 
 def what_the_system_refused_is_an_os_error():
