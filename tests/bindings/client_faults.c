@@ -1,5 +1,5 @@
-/* A test of servers and clients of cvec.h, with pipes in the place of a server: memory is refused request by request, and nothing is
- * made, sent or lost then; handles of nothing are refused; and each growth has its own receipt. It writes what is wrong. */
+/* A test of servers and clients of cvec.h, with pipes in the place of a server: memory is refused request by request, and a process
+ * or a pipe, and nothing is made, sent or lost then; handles of nothing are refused; and each growth has its own receipt. It writes what is wrong. */
 #define _GNU_SOURCE 1
 #include "cvec.h"
 
@@ -10,6 +10,7 @@
 #include <stdlib.h>
 #include <string.h>
 #include <sys/ioctl.h>
+#include <sys/resource.h>
 #include <sys/wait.h>
 #include <unistd.h>
 
@@ -26,6 +27,15 @@ static int is_refused(void) {
 void *malloc(size_t len) { return is_refused() ? NULL : __libc_malloc(len); }
 void *calloc(size_t count, size_t len) { return is_refused() ? NULL : __libc_calloc(count, len); }
 void *realloc(void *at, size_t len) { return is_refused() ? NULL : __libc_realloc(at, len); }
+
+extern pid_t __fork(void);
+static int is_process_refused;
+
+pid_t fork(void) {
+    if (!is_process_refused) return __fork();
+    errno = EAGAIN;
+    return -1;
+}
 
 static void check(int holds, const char *what) {
     if (!holds) wrong++, puts(what);
@@ -65,6 +75,30 @@ static void try_start(void) {
     check(seen == HANDLES, "a start takes other memory");
     check(cvec_server_wait(&server, &status, &ended_by) == CVEC_DONE && status == 0 && ended_by == 0, "it has ended otherwise");
     check(open_descriptors() == before, "its pipes are left");
+}
+
+/* There is no server, and no pipe is left, where the system refuses a process, or a pipe: the last of them, or one in the midst. */
+static void try_system(void) {
+    const int before = open_descriptors();
+    struct rlimit most, few;
+    cvec_server *server = (cvec_server *)&server;
+    is_process_refused = 1;
+    check(cvec_server_start(&server, "true", CVEC_U64, "none", CLIENTS) == CVEC_GONE && errno == EAGAIN && server == NULL, "a server of no process");
+    is_process_refused = 0;
+    int ends[4 * CLIENTS]; /* the numbers that pipes get */
+    for (int k = 0; k < 4 * CLIENTS; k++) ends[k] = dup(STDIN_FILENO);
+    for (int k = 0; k < 4 * CLIENTS; k++) close(ends[k]);
+    if (getrlimit(RLIMIT_NOFILE, &most) != 0) exit(2);
+    few = most;
+    for (int k = 0; k < 4 * CLIENTS; k++) {
+        server = (cvec_server *)&server;
+        few.rlim_cur = (rlim_t)ends[k];
+        setrlimit(RLIMIT_NOFILE, &few);
+        check(cvec_server_start(&server, "true", CVEC_U64, "none", CLIENTS) == CVEC_DISK_OPEN && errno == EMFILE && server == NULL,
+              "a server without pipes");
+        setrlimit(RLIMIT_NOFILE, &most);
+    }
+    check(open_descriptors() == before && waitpid(-1, NULL, WNOHANG) < 0 && errno == ECHILD, "a start that is refused leaves something");
 }
 
 /* An answer of a growth, as a server has it. */
@@ -145,6 +179,7 @@ static void try_nothing(void) {
 int main(void) {
     signal(SIGPIPE, SIG_IGN);
     try_start();
+    try_system();
     try_client();
     try_nothing();
     return wrong != 0;
