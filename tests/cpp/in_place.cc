@@ -1,8 +1,8 @@
 // Growth in place, each behaviour by its name: in_place NAME FILE. The status is 0 where it is as promised; else a line says what
 // isn't. The files that it leaves begin with that name.
-#define cvec_vector_block watched_block
+#define cvec_seat_block watched_block
 #include "told.hpp"
-#undef cvec_vector_block
+#undef cvec_seat_block
 
 #include <algorithm>
 #include <cstring>
@@ -18,10 +18,10 @@ using list = std::vector<std::uint64_t>;
 // What is done while the vector is asked for a block.
 static std::function<void()> during_block;
 
-extern "C" std::uint32_t cvec_vector_block(cvec_vector_seat *, std::size_t, void **);
-extern "C" std::uint32_t watched_block(cvec_vector_seat *seat, std::size_t count, void **records) {
+extern "C" cvec_status cvec_seat_block(cvec_seat *, std::size_t, void **);
+extern "C" cvec_status watched_block(cvec_seat *seat, std::size_t count, void **records) {
     if (during_block) std::exchange(during_block, nullptr)();
-    return cvec_vector_block(seat, count, records);
+    return cvec_seat_block(seat, count, records);
 }
 
 struct three {

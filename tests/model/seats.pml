@@ -49,7 +49,7 @@ inline choose_call() {
 #endif
 }
 
-/* Each call by the grower of a seat: cvec_vector_grow_records, _publish, _pieces, _block and _push. */
+/* Each call by the grower of a seat: cvec_seat_grow, _publish, _pieces, _block and _push. */
 inline call_by_seat() {
     enter();
     if
@@ -78,7 +78,7 @@ inline work() {
         grows++;
         choose_call();
         if
-        :: call == DROP -> cvec_vector_drop()
+        :: call == DROP -> cvec_seat_drop()
         :: else -> call_by_seat()
         fi;
 #ifndef LENDS
@@ -90,7 +90,7 @@ inline work() {
             :: true
             fi;
 #endif
-            await_until(ahead);
+            cvec_seat_settle(ahead);
             ahead = 0
         :: true
         fi
@@ -106,7 +106,7 @@ proctype worker(byte id) {
     :: turns < TURNS ->
         turns++;
         if
-        :: cvec_vector_take_seat()
+        :: cvec_seat_take()
 #ifndef NO_LINE
         :: atomic {
                if
@@ -114,7 +114,7 @@ proctype worker(byte id) {
                :: true
                fi
            };
-           cvec_vector_seat_within();
+           cvec_seat_take_within();
            timed = false
 #endif
         fi;
@@ -122,7 +122,7 @@ proctype worker(byte id) {
         :: answer == DONE ->
             work();
             atomic { grows = 0; call = GROW; stop_reading() };
-            cvec_vector_close_seat()
+            cvec_seat_close()
         :: else
         fi;
         atomic { answer = DONE; call = GROW; seat = 0; number = 0 }
@@ -141,12 +141,12 @@ proctype holder(byte id) {
     :: turns < TURNS ->
         turns++;
         cvec_vector_hold();
-        cvec_vector_take_seat();
+        cvec_seat_take();
         if
         :: answer == DONE ->
             enter();
             when(answer == DONE, lend_pieces(); leave_seat());
-            cvec_vector_close_seat()
+            cvec_seat_close()
         :: else
         fi;
         atomic { stop_reading(); answer = DONE; seat = 0 };
@@ -173,7 +173,7 @@ proctype whole(byte id) {
 #ifdef COMPACTS
         cvec_vector_compact()
 #else
-        cvec_vector_change_records()
+        cvec_vector_change()
 #endif
     :: turns == TURNS -> break
     od;

@@ -579,7 +579,7 @@ inline vault_change() {
 }
 
 /* So is each call of the whole vector that writes. */
-inline cvec_vector_change_records() {
+inline cvec_vector_change() {
     enter_alone();
     if
     :: answer == DONE -> atomic { vault_change() }; settle_alone()
@@ -710,7 +710,7 @@ inline seat_of() {
 
 #define is_one_spare (seats + len(line) < SEATS)
 
-inline cvec_vector_take_seat() {
+inline cvec_seat_take() {
     atomic {
         begin_call();
         cvec_await_pause();
@@ -760,7 +760,7 @@ inline await_turn() {
     late = false
 }
 
-inline cvec_vector_seat_within() {
+inline cvec_seat_take_within() {
     atomic {
         begin_call();
         answer = DONE;
@@ -897,7 +897,7 @@ inline grow_counted() {
     fi
 }
 
-inline cvec_vector_grow_records() {
+inline cvec_seat_grow() {
     enter();
     if
     :: answer == DONE -> grow_counted(); leave_seat()
@@ -936,7 +936,7 @@ inline publish() {
     fi
 }
 
-inline cvec_vector_drop() {
+inline cvec_seat_drop() {
     enter_so(ASIDE);
     blocks = blocks & ~MY_SEAT;
     leave_seat()
@@ -965,7 +965,7 @@ inline grow_waiting() {
     fi
 }
 
-inline cvec_vector_close_seat() {
+inline cvec_seat_close() {
 #ifdef PUSHES
     enter_so(ASIDE);
     when(is_waiting && BUG != 66, come_in(NO_PHASE));
@@ -1030,7 +1030,7 @@ next:  atomic { let_pass() }
 }
 
 /* `ahead`: for the growth behind that one, which may not be there. */
-inline await_until(ahead) {
+inline cvec_seat_settle(ahead) {
 #if BUG == 12
     was = committing;
 #endif

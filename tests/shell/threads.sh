@@ -452,7 +452,7 @@ a_seat_in_c_is_borrowed() (
 )
 
 more_threads_of_c_than_seats_borrow_them() (
-    behaves borrowed more_threads waits_in_line
+    behaves borrowed more_threads one_each waits_in_line
 )
 
 a_wait_in_c_for_the_device_keeps_no_borrowed_seat_from_others() (
@@ -478,7 +478,7 @@ behaves_under() {
         done
     done <<'BEHAVIOURS'
 pauses beside_seats waits_for_calls nobody_starves keeps holds_off settles own_flusher opens_or_creates
-borrowed beside_takes keeps_nothing more_threads waits_in_line detached settle_lends settle_keeps ends
+borrowed beside_takes keeps_nothing more_threads one_each waits_in_line detached settle_lends settle_keeps ends
 BEHAVIOURS
 }
 

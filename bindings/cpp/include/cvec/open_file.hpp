@@ -24,7 +24,7 @@ class open_file {
         if (is_forked()) refuse(CVEC_FORKED);
     }
 
-    [[noreturn]] void refuse(std::uint32_t status) const { refuse(status, cvec_vector_status_text(status)); }
+    [[noreturn]] void refuse(std::uint32_t status) const { refuse(status, cvec_status_text(status)); }
 
     [[noreturn]] void refuse(std::uint32_t status, const std::string &text) const {
         throw error(status, path_, text, is_of_the_system(status) ? errno : 0);
@@ -36,16 +36,16 @@ class open_file {
         if (status != CVEC_DONE) refuse(status);
     }
 
-    [[nodiscard]] bool is_forked() const noexcept { return process_ != cvec_vector_process(); }
+    [[nodiscard]] bool is_forked() const noexcept { return process_ != cvec_process(); }
 
     // Where it was closed another thread may be about to call it all the same: its handle stays until it has gone.
-    std::uint32_t borrow(std::uint64_t milliseconds, cvec_vector_seat **seat) const {
-        return is_closed() ? std::uint32_t{CVEC_NOT_SO} : cvec_seat_borrow(vector_, milliseconds, seat);
+    std::uint32_t borrow(std::uint64_t milliseconds, cvec_seat **seat) const {
+        return is_closed() ? CVEC_NOT_SO : cvec_seat_borrow(vector_, milliseconds, seat);
     }
 
   protected:
     open_file(const std::string &path, cvec_type type, const options &wanted)
-        : type_(type), limit_(wanted.seats), process_(cvec_vector_process()), path_(path) {
+        : type_(type), limit_(wanted.seats), process_(cvec_process()), path_(path) {
         if (path_.find('\0') != std::string::npos) refuse_path();
         if (limit_ == 0 || limit_ > most_seats) refuse(CVEC_NOT_SO, "a vector has 1 to 64 seats");
         if (wanted.version == 0) refuse(CVEC_NOT_SO);
@@ -53,7 +53,7 @@ class open_file {
     }
     // What a constructor behind this one throws leaves it to close the file.
     ~open_file() {
-        if (vector_ != nullptr) cvec_vector_close(vector_);
+        if (vector_ != nullptr) cvec_vector_close(&vector_);
     }
 
     [[nodiscard]] bool is_closed() const noexcept { return closed_.load(std::memory_order_acquire); }
@@ -78,13 +78,13 @@ class open_file {
   private:
     // To the system a path ends there: it would open the file of that name.
     [[noreturn]] void refuse_path() const {
-        const std::string text = cvec_vector_status_text(CVEC_DISK_OPEN);
+        const std::string text = cvec_status_text(CVEC_DISK_OPEN);
         throw error(CVEC_DISK_OPEN, path_.c_str(), text + ": its path goes on behind a zero byte", 0);
     }
 
     void begin(opening how, const cvec_options &wanted) {
-        const auto call = how == opening::open     ? cvec_vector_open_with
-                          : how == opening::create ? cvec_vector_create_with
+        const auto call = how == opening::open     ? cvec_vector_open
+                          : how == opening::create ? cvec_vector_create
                                                    : cvec_vector_open_or_create;
         const std::uint32_t status = call(&vector_, path_.c_str(), type_, &wanted);
         if (status == CVEC_WIDTH && type_ != CVEC_U64)

@@ -26,16 +26,16 @@ inline constexpr std::uint64_t most_records = std::uint64_t{1} << 32;
 class lease {
   public:
     explicit lease(const open_file &file) { file.require(file.borrow(CVEC_NO_LIMIT, &seat_)); }
-    explicit lease(cvec_vector_seat *borrowed) noexcept : seat_(borrowed) {}
+    explicit lease(cvec_seat *borrowed) noexcept : seat_(borrowed) {}
     lease(const lease &) = delete;
     lease &operator=(const lease &) = delete;
     ~lease() {
         if (seat_ != nullptr) cvec_seat_return(&seat_);
     }
-    [[nodiscard]] cvec_vector_seat *seat() const noexcept { return seat_; }
+    [[nodiscard]] cvec_seat *seat() const noexcept { return seat_; }
 
   private:
-    cvec_vector_seat *seat_ = nullptr;
+    cvec_seat *seat_ = nullptr;
 };
 
 class word_file final : public open_file, public std::enable_shared_from_this<word_file> {
@@ -60,25 +60,25 @@ class word_file final : public open_file, public std::enable_shared_from_this<wo
         const lease lent(*this);
         cvec_receipt receipt{};
         const unseen writes;
-        require(cvec_vector_grow_records(lent.seat(), words, count, &receipt));
+        require(cvec_seat_grow(lent.seat(), type_, words, count, &receipt));
         return receipt;
     }
 
     // Waits until the growth of this number, and each before it, is durable.
     void await(std::uint64_t number) {
         const lease lent(*this);
-        require(cvec_vector_await(lent.seat(), number));
+        require(cvec_seat_settle(lent.seat(), number, CVEC_NO_LIMIT));
     }
 
     // The same, for others, also for a seat, so many milliseconds at most: then false.
     bool await_for(std::uint64_t number, std::uint64_t milliseconds) {
         const auto begun = waiting_clock::now();
-        cvec_vector_seat *borrowed = nullptr;
+        cvec_seat *borrowed = nullptr;
         if (!is_in_time(borrow(milliseconds, &borrowed))) return false;
         const lease lent(borrowed);
         const auto waited = std::chrono::duration_cast<std::chrono::milliseconds>(waiting_clock::now() - begun).count();
         const std::uint64_t rest = milliseconds - std::min(milliseconds, static_cast<std::uint64_t>(waited));
-        return is_in_time(cvec_vector_await_for(lent.seat(), number, rest));
+        return is_in_time(cvec_seat_settle(lent.seat(), number, rest));
     }
 
     // Waits for all growths that have returned.
@@ -106,7 +106,7 @@ class word_file final : public open_file, public std::enable_shared_from_this<wo
     std::uint64_t size() const {
         const lease lent(*this);
         std::uint64_t count = 0;
-        require(cvec_vector_size(lent.seat(), &count));
+        require(cvec_seat_size(lent.seat(), &count));
         return count;
     }
 
@@ -114,7 +114,7 @@ class word_file final : public open_file, public std::enable_shared_from_this<wo
     std::size_t read(std::uint64_t from, void *out, std::size_t room) const {
         const lease lent(*this);
         std::uint64_t count = 0;
-        require(cvec_vector_read_records(lent.seat(), from, out, room, &count));
+        require(cvec_seat_read(lent.seat(), type_, from, out, room, &count));
         return static_cast<std::size_t>(count);
     }
 
@@ -131,7 +131,7 @@ class word_file final : public open_file, public std::enable_shared_from_this<wo
         std::size_t count = 0;
         do {
             const std::uint64_t from = std::uint64_t{index_.covered()} * row_words_;
-            require(cvec_vector_pieces(lent.seat(), from, pieces.data(), pieces.size(), &count));
+            require(cvec_seat_pieces(lent.seat(), from, pieces.data(), pieces.size(), &count));
             takes(this);
             for (std::size_t k = 0; k < count; ++k) add(pieces[k]);
             index_.publish();
@@ -174,7 +174,7 @@ class word_file final : public open_file, public std::enable_shared_from_this<wo
         block(word_file &file, std::size_t count) : file_(file), counted_(file), mine_(&file) {
             const lease lent(file);
             void *words = nullptr;
-            file.require(cvec_vector_block(lent.seat(), count, &words));
+            file.require(cvec_seat_block(lent.seat(), count, &words));
             file.require(cvec_seat_detach(lent.seat(), &block_));
         }
         block(const block &) = delete;
@@ -191,7 +191,7 @@ class word_file final : public open_file, public std::enable_shared_from_this<wo
             cvec_receipt receipt{};
             file_.require(cvec_seat_attach(lent.seat(), &block_));
             gives(&file_);
-            file_.require(cvec_vector_publish(lent.seat(), &receipt)); // refused, it goes with the seat
+            file_.require(cvec_seat_publish(lent.seat(), &receipt)); // refused, it goes with the seat
             return receipt;
         }
 
@@ -230,7 +230,7 @@ class word_file final : public open_file, public std::enable_shared_from_this<wo
         run_alone([&](bool &has_begun) -> std::uint32_t {
             const std::uint64_t all = size();
             is_there = has_begun = from <= all && count <= all - from;
-            return is_there ? cvec_vector_change_records(vector_, from, words, count) : std::uint32_t{CVEC_DONE};
+            return is_there ? cvec_vector_change(vector_, type_, from, words, count) : CVEC_DONE;
         });
         return is_there;
     }
@@ -298,10 +298,11 @@ class word_file final : public open_file, public std::enable_shared_from_this<wo
     // What was changed has to be folded before.
     std::uint32_t cut_alone(std::uint64_t length) {
         const cvec_pair unused{}; // as large as any record: the length doesn't rise
-        std::uint32_t status = cvec_vector_resize_by(vector_, length, &unused);
+        std::uint32_t status = cvec_vector_resize(vector_, type_, length, &unused);
         if (status != CVEC_UNFOLDED) return status;
         status = cvec_vector_fold(vector_);
-        return status == CVEC_DONE ? cvec_vector_resize_by(vector_, length, &unused) : status;
+        if (status == CVEC_DONE) status = cvec_vector_resize(vector_, type_, length, &unused);
+        return status;
     }
 
     // ---- ending
