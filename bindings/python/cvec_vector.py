@@ -1589,8 +1589,8 @@ class Vector(_Single):
             handle, self._handle = self._handle, None
             if handle is None:
                 return
-            closed = byref(handle)
             try:
+                closed = byref(handle)
                 self._places.wake_all()
                 self._end_loops()
                 _LIB.cvec_vector_stop_flusher(handle)

@@ -43,6 +43,7 @@ struct settling {
     pthread_t thread;
     cvec_seat *seat; /* or NULL: without one */
     uint64_t milliseconds, waited;
+    uint64_t number; /* of the growth that it waits for, by a seat */
     uint32_t answer;
 };
 
@@ -50,15 +51,19 @@ static void *run_settle(void *work) {
     struct settling *its = work;
     const uint64_t begun = milliseconds_now();
     const uint32_t answer =
-        its->seat == NULL ? cvec_vector_settle(vector, its->milliseconds) : cvec_seat_settle(its->seat, 0, its->milliseconds);
+        its->seat == NULL ? cvec_vector_settle(vector, its->milliseconds) : cvec_seat_settle(its->seat, its->number, its->milliseconds);
     its->waited = milliseconds_now() - begun;
     __atomic_store_n(&its->answer, answer, __ATOMIC_SEQ_CST);
     return NULL;
 }
 
-static void begin_settle(struct settling *its, cvec_seat *own, uint64_t milliseconds) {
+static void begin_settle_of(struct settling *its, cvec_seat *own, uint64_t number, uint64_t milliseconds) {
     its->seat = own;
+    its->number = number;
     its->milliseconds = milliseconds;
     its->answer = CVEC_BUSY;
     pthread_create(&its->thread, NULL, run_settle, its);
 }
+
+/* Of the first growth. */
+static void begin_settle(struct settling *its, cvec_seat *own, uint64_t milliseconds) { begin_settle_of(its, own, 0, milliseconds); }

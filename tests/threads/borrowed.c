@@ -32,6 +32,32 @@ static void beside_takes(const char *path) {
     HOLDS(cvec_vector_close(&vector) == CVEC_DONE);
 }
 
+static void *run_take(void *taken) {
+    HOLDS(cvec_seat_take_within(vector, 30000, taken) == CVEC_DONE);
+    return NULL;
+}
+
+/* Of two that are idle one is for who comes, though another is in line, and was called. */
+static void idle_beside_line(const char *path) {
+    pthread_t thread;
+    cvec_seat *one = NULL, *two = NULL, *waited = NULL;
+    make(path, 2);
+    HOLDS(cvec_seat_close(&seat) == CVEC_DONE);
+    borrow(&one);
+    borrow(&two);
+    __atomic_store_n(&is_drowsy, 1, __ATOMIC_SEQ_CST);
+    pthread_create(&thread, NULL, run_take, &waited);
+    while (__atomic_load_n(&vector->queued, __ATOMIC_SEQ_CST) == 0) nap();
+    pthread_mutex_lock(&vector->mutex); /* who is in line looks later */
+    __atomic_store_n(&one->slot->state, IDLE, __ATOMIC_SEQ_CST);
+    __atomic_store_n(&two->slot->state, IDLE, __ATOMIC_SEQ_CST);
+    HOLDS(is_one_spare(vector) && find_own(vector, &seat) == CVEC_DONE && !is_one_spare(vector));
+    pthread_mutex_unlock(&vector->mutex);
+    pthread_join(thread, NULL);
+    HOLDS(waited != NULL && cvec_seat_close(&waited) == CVEC_DONE && cvec_seat_close(&seat) == CVEC_DONE);
+    HOLDS(cvec_vector_close(&vector) == CVEC_DONE);
+}
+
 /* Given back it keeps nothing: what was pushed is grown, and its block is no more. */
 static void keeps_nothing(const char *path) {
     const uint64_t pushed[] = {0, 1, 2};
@@ -226,6 +252,36 @@ static void settle_lends(const char *path) {
     HOLDS(found(path) == 3);
 }
 
+/* Who has it meanwhile may wait too: who lent it first has it back then, before all who come. */
+static void settle_lends_twice(const char *path) {
+    struct settling first, second;
+    cvec_seat *one = NULL, *third = NULL, *none = NULL;
+    const uint64_t record = 5;
+    uint64_t count = 9;
+    make(path, 1);
+    HOLDS(cvec_seat_close(&seat) == CVEC_DONE);
+    borrow(&one);
+    HOLDS(cvec_seat_grow_u64(one, &record, 1, NULL) == CVEC_DONE);
+    shut_gate(1);
+    begin_settle(&first, one, CVEC_NO_LIMIT);
+    until_held();
+    borrow(&third);
+    HOLDS(third == one && cvec_seat_grow_u64(third, &record, 1, NULL) == CVEC_DONE);
+    shut_gate(0);
+    do HOLDS(cvec_vector_settled(vector, &count) == CVEC_DONE);
+    while (count == 0);
+    naps_for(5);
+    HOLDS(seen(&first.answer) == CVEC_BUSY);
+    shut_gate(1);
+    begin_settle_of(&second, third, 1, CVEC_NO_LIMIT);
+    pthread_join(first.thread, NULL); /* while the second one waits for the device */
+    HOLDS(first.answer == CVEC_DONE && seen(&second.answer) == CVEC_BUSY && cvec_seat_borrow(vector, 20, &none) == CVEC_LATE);
+    HOLDS(cvec_seat_return(&one) == CVEC_DONE);
+    shut_gate(0);
+    pthread_join(second.thread, NULL);
+    HOLDS(second.answer == CVEC_DONE && cvec_seat_return(&third) == CVEC_DONE && cvec_vector_close(&vector) == CVEC_DONE);
+}
+
 /* One that keeps something isn't lent. */
 static void settle_keeps(const char *path) {
     struct settling first;
@@ -261,6 +317,28 @@ static void *run_until_ended(void *count) {
     return NULL;
 }
 
+static void *run_end(void *answer) {
+    __atomic_store_n((uint32_t *)answer, cvec_vector_end(vector), __ATOMIC_SEQ_CST);
+    return NULL;
+}
+
+/* A close beside an end that waits for a seat is refused. */
+static void closes_beside_end(const char *path) {
+    pthread_t thread;
+    cvec_seat *own = NULL, *none = NULL;
+    uint32_t answer = CVEC_BUSY;
+    make(path, 2);
+    HOLDS(cvec_seat_close(&seat) == CVEC_DONE);
+    borrow(&own);
+    pthread_create(&thread, NULL, run_end, &answer);
+    while (cvec_seat_borrow(vector, 0, &none) != CVEC_NOT_SO) HOLDS(cvec_seat_return(&none) == CVEC_DONE);
+    HOLDS(cvec_vector_close(&vector) == CVEC_BUSY && vector != NULL && seen(&answer) == CVEC_BUSY);
+    if (vector == NULL) exit(1);
+    HOLDS(cvec_seat_return(&own) == CVEC_DONE);
+    pthread_join(thread, NULL);
+    HOLDS(answer == CVEC_DONE && cvec_vector_close(&vector) == CVEC_DONE);
+}
+
 /* It waits for seats that are borrowed, and all that was grown is durable. Later calls are refused; of the end, a seat of a caller's
  * own and a hold are. */
 static void ends(const char *path) {
@@ -281,7 +359,8 @@ static void ends(const char *path) {
     HOLDS(cvec_seat_borrow(vector, 20, &none) == CVEC_NOT_SO && cvec_vector_hold(vector) == CVEC_NOT_SO);
     HOLDS(cvec_vector_settle(vector, 0) == CVEC_NOT_SO && cvec_vector_settled(vector, &size) == CVEC_NOT_SO);
     HOLDS(cvec_vector_compact(vector) == CVEC_NOT_SO && cvec_vector_start_flusher(vector, 1) == CVEC_NOT_SO);
-    HOLDS(cvec_vector_run_flusher(vector, 1) == CVEC_DONE && cvec_vector_flush(vector) == CVEC_DONE);
+    HOLDS(cvec_vector_run_flusher(vector, 1) == CVEC_NOT_SO && cvec_vector_flush(vector) == CVEC_NOT_SO);
+    HOLDS(cvec_vector_stop_flusher(vector) == CVEC_NOT_SO);
     HOLDS(cvec_vector_close(&vector) == CVEC_DONE && cvec_vector_open(&vector, path, CVEC_U64, &(cvec_options){.seats = 1}) == CVEC_DONE);
     take(&seat);
     HOLDS(all > 0 && cvec_seat_size(seat, &size) == CVEC_DONE && size == all);
@@ -300,7 +379,10 @@ int main(int argc, char **argv) {
                       {"borrow_memory", borrow_memory},
                       {"detached", detached},
                       {"settle_lends", settle_lends},
+                      {"settle_lends_twice", settle_lends_twice},
                       {"settle_keeps", settle_keeps},
+                      {"idle_beside_line", idle_beside_line},
+                      {"closes_beside_end", closes_beside_end},
                       {"ends", ends}};
     if (argc != 3) return 2;
     for (size_t k = 0; k < sizeof behaviours / sizeof *behaviours; k++)

@@ -124,11 +124,11 @@ static struct slot *idle_slot(cvec_vector *vector) {
     return NULL;
 }
 
-/* With the mutex: one whose call waits, so that another may have its seat. */
+/* With the mutex: one whose call waits, so that another may have its seat, and that nobody wants back. */
 static struct slot *lendable_slot(cvec_vector *vector) {
     for (uint32_t k = 0; k < vector->slotted; k++) {
         struct slot *slot = &vector->slots[k];
-        if (state_of(slot) != LENDABLE) continue;
+        if (state_of(slot) != LENDABLE || slot->wanted > 0) continue;
         set_state(slot, LENT);
         return slot;
     }
@@ -223,8 +223,17 @@ static void end_line(cvec_vector *vector, struct in_line *mine) {
 
 /* ---- who has a seat next. Each may give up the mutex and have it again */
 
+/* With the mutex: so many slots are idle, whose seats are for who comes. */
+static uint32_t count_idle(const cvec_vector *vector) {
+    uint32_t count = 0;
+    for (uint32_t k = 0; k < vector->slotted; k++) count += state_of(&vector->slots[k]) == IDLE;
+    return count;
+}
+
 /* With the mutex: whether there is a seat for who hasn't waited for one. */
-static bool is_one_spare(const cvec_vector *vector) { return vector->seats + vector->queued < vector->most_seats; }
+static bool is_one_spare(const cvec_vector *vector) {
+    return vector->seats + vector->queued < vector->most_seats + count_idle(vector);
+}
 
 /* With the mutex, for who is the first: a seat of its own, also in place of one to be borrowed that is idle. CVEC_LATE: there is none. */
 static uint32_t find_own(cvec_vector *vector, cvec_seat **found) {
@@ -262,6 +271,7 @@ static bool is_before(const struct timespec *one, const struct timespec *other) 
 static void await_call(cvec_vector *vector, struct in_line *mine, const struct timespec *until) {
     const struct timespec look = cvec_moment_behind(0, PATIENCE);
     const bool looks = vector->line == mine && vector->slot_seats > 0 && is_before(&look, until);
+    if (vector->line == mine) __atomic_store_n(&vector->called, 0, __ATOMIC_RELAXED); /* as it looked it may have called itself */
     const bool is_called = pthread_cond_timedwait(&mine->turn, &vector->mutex, looks ? &look : until) == 0;
     if (is_called || !looks || mine->is_overdue) return;
     mine->is_overdue = true;
@@ -291,7 +301,7 @@ cvec_status cvec_seat_take(cvec_vector *vector, cvec_seat **taken) {
     if (refusal_of(vector) != CVEC_DONE) return refusal_of(vector);
     pthread_mutex_lock(&vector->mutex);
     cvec_await_pause(vector);
-    if (!vector->over && (vector->queued == 0 || is_one_spare(vector))) answer = find_own(vector, taken);
+    if (!vector->over && is_one_spare(vector)) answer = find_own(vector, taken);
     pthread_mutex_unlock(&vector->mutex);
     return answer == CVEC_LATE ? CVEC_NOT_SO : answer;
 }
@@ -390,15 +400,17 @@ bool cvec_lend_on(cvec_seat *seat) {
     struct slot *slot = seat->slot;
     if (slot == NULL || keeps_something(seat)) return false;
     leave_seat(seat);
-    slot->away++;
     set_state(slot, LENDABLE);
+    if (slot->away++ > 0) pthread_cond_broadcast(&seat->vector->handed); /* one who wants it back may have it */
     cvec_call_first(seat->vector);
     return true;
 }
 
 void cvec_have_again(cvec_seat *seat) {
     struct slot *slot = seat->slot;
+    slot->wanted++;
     while (state_of(slot) != LENDABLE) pthread_cond_wait(&seat->vector->handed, &seat->vector->mutex);
+    slot->wanted--;
     set_state(slot, LENT);
     slot->away--;
     set_busy(seat, ASIDE);

@@ -135,10 +135,16 @@ static void rest(cvec_vector *vector, struct timespec until) {
     while (!vector->stopped && !cvec_has_passed(&until)) pthread_cond_timedwait(&vector->flushing, &vector->mutex, &until);
 }
 
-/* A close waits until it has left. */
-static void enter_flushers(cvec_vector *vector) {
+/* A close waits until it has left. It has the mutex where it answers CVEC_DONE. */
+static uint32_t enter_flushers(cvec_vector *vector) {
+    if (refusal_of(vector) != CVEC_DONE) return refusal_of(vector);
     pthread_mutex_lock(&vector->mutex);
-    vector->flushers++;
+    if (!vector->over) {
+        vector->flushers++;
+        return CVEC_DONE;
+    }
+    pthread_mutex_unlock(&vector->mutex);
+    return CVEC_NOT_SO;
 }
 
 static void leave_flushers(cvec_vector *vector) {
@@ -153,9 +159,8 @@ static uint32_t flush_once(cvec_vector *vector) { return is_broken(vector) ? CVE
 static struct timespec end_of_rest(uint64_t milliseconds) { return cvec_moment_in(milliseconds > 0 ? milliseconds : 1); }
 
 cvec_status cvec_vector_run_flusher(cvec_vector *vector, uint64_t every_milliseconds) {
-    uint32_t answer = CVEC_DONE;
-    if (refusal_of(vector) != CVEC_DONE) return refusal_of(vector);
-    enter_flushers(vector);
+    uint32_t answer = enter_flushers(vector);
+    if (answer != CVEC_DONE) return answer;
     while (answer == CVEC_DONE && !vector->stopped) {
         answer = flush_once(vector);
         if (answer == CVEC_DONE) rest(vector, end_of_rest(every_milliseconds));
@@ -165,20 +170,19 @@ cvec_status cvec_vector_run_flusher(cvec_vector *vector, uint64_t every_millisec
 }
 
 cvec_status cvec_vector_flush(cvec_vector *vector) {
-    if (refusal_of(vector) != CVEC_DONE) return refusal_of(vector);
-    enter_flushers(vector);
-    uint32_t answer = flush_once(vector);
+    uint32_t answer = enter_flushers(vector);
+    if (answer != CVEC_DONE) return answer;
+    answer = flush_once(vector);
     leave_flushers(vector);
     return answer;
 }
 
 cvec_status cvec_vector_stop_flusher(cvec_vector *vector) {
-    if (refusal_of(vector) != CVEC_DONE) return refusal_of(vector);
-    pthread_mutex_lock(&vector->mutex);
+    const uint32_t answer = enter_flushers(vector);
+    if (answer != CVEC_DONE) return answer;
     vector->stopped = true;
-    pthread_cond_broadcast(&vector->flushing);
-    pthread_mutex_unlock(&vector->mutex);
-    return CVEC_DONE;
+    leave_flushers(vector);
+    return answer;
 }
 
 void cvec_end_flushers(cvec_vector *vector) {

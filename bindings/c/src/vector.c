@@ -241,7 +241,7 @@ cvec_status cvec_vector_close(cvec_vector **closed) {
         return leave(vector);
     }
     pthread_mutex_lock(&vector->mutex);
-    const bool was_ended = vector->over, busy = !was_ended && !is_idle(vector);
+    const bool was_ended = vector->ended, busy = !was_ended && (vector->over || !is_idle(vector));
     uint32_t answer = busy ? CVEC_BUSY : was_ended ? CVEC_DONE : finish(vector);
     pthread_mutex_unlock(&vector->mutex);
     if (busy) return answer;
@@ -273,6 +273,7 @@ cvec_status cvec_vector_end(cvec_vector *vector) {
         await_calls(vector);
         answer = finish(vector);
         give_up_file(vector);
+        vector->ended = true;
     }
     pthread_mutex_unlock(&vector->mutex);
     return answer;

@@ -59,7 +59,8 @@ struct cvec_vector {
     size_t pushes;    /* so many records that were pushed are grown at once, where a seat says nothing else */
     uint64_t growths; /* for so many a phase has room, where the system gives the addresses */
     bool committing, stopped; /* stopped: no loop of a flusher goes on */
-    bool over;       /* it was ended: each later call is refused */
+    bool over;       /* it is ended: each later call is refused */
+    bool ended;      /* it was: nothing is left but to give it up */
     bool claimed;    /* one call has all handles, those of the seats too, or waits for them: it commits then */
     bool yields;     /* that one waits for a commit, and gives up where somebody holds the vector */
     uint32_t shut;   /* by __atomic: it is claimed or unseated */
@@ -233,8 +234,9 @@ struct slot {
     uint32_t state; /* by __atomic */
     uint32_t away;  /* who has it writes: so many calls that wait have lent it on, and want it back */
     cvec_seat *seat;
-    uint32_t ended; /* 1: who ends the vector has it */
-    uint8_t apart[APART - 3 * sizeof(uint32_t) - sizeof(void *)];
+    uint32_t wanted; /* with the mutex: so many of those wait for it: nobody else has it then */
+    uint32_t ended;  /* 1: who ends the vector has it */
+    uint8_t apart[APART - 4 * sizeof(uint32_t) - sizeof(void *)];
 };
 
 /* With the mutex: who came first to wait for a seat looks again. */

@@ -88,12 +88,12 @@ class word_file final : public open_file, public std::enable_shared_from_this<wo
     // Commits what was grown, and so again and again behind such a pause, until stop_flusher or the close.
     void run_flusher(std::uint64_t milliseconds) {
         refuse_forked();
-        require(cvec_vector_run_flusher(vector_, milliseconds));
+        require_unless_closed(cvec_vector_run_flusher(vector_, milliseconds));
     }
 
     void stop_flusher() {
         refuse_forked();
-        require(cvec_vector_stop_flusher(vector_));
+        require_unless_closed(cvec_vector_stop_flusher(vector_));
     }
 
     std::uint64_t settled() const {
@@ -255,6 +255,11 @@ class word_file final : public open_file, public std::enable_shared_from_this<wo
     [[nodiscard]] std::uint32_t settle(std::uint64_t milliseconds) const {
         refuse_ended();
         return cvec_vector_settle(vector_, milliseconds);
+    }
+
+    // The close has ended all loops of flushers, also one that comes behind it.
+    void require_unless_closed(std::uint32_t status) const {
+        if (status != CVEC_NOT_SO) require(status);
     }
 
     [[nodiscard]] bool is_in_time(std::uint32_t status) const {
