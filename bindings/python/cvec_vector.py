@@ -101,48 +101,52 @@ def _library() -> ctypes.CDLL:
     beside = os.path.join(os.path.dirname(os.path.abspath(__file__)), "libcvec.so")
     lib = ctypes.CDLL(os.environ.get("CVEC_VECTOR_LIBRARY", beside), use_errno=True)
     answers = {
-        "create_with": [POINTER(c_void_p), ctypes.c_char_p, c_uint32, POINTER(_Options)],
-        "open_with": [POINTER(c_void_p), ctypes.c_char_p, c_uint32, POINTER(_Options)],
-        "close": [c_void_p],
-        "take_seat": [c_void_p, POINTER(c_void_p)],
-        "close_seat": [c_void_p],
-        "grow_records": [c_void_p, c_void_p, c_size_t, POINTER(_Receipt)],
-        "await": [c_void_p, c_uint64],
-        "await_for": [c_void_p, c_uint64, c_uint64],
-        "flush": [c_void_p],
-        "stop_flusher": [c_void_p],
-        "size": [c_void_p, POINTER(c_uint64)],
-        "read_records": [c_void_p, c_uint64, c_void_p, c_size_t, POINTER(c_uint64)],
-        "pieces": [c_void_p, c_uint64, POINTER(_Piece), c_size_t, POINTER(c_size_t)],
-        "block": [c_void_p, c_size_t, POINTER(c_void_p)],
-        "publish": [c_void_p, POINTER(_Receipt)],
-        "drop": [c_void_p],
-        "compact": [c_void_p],
-        "change_records": [c_void_p, c_uint64, c_void_p, c_size_t],
-        "resize_by": [c_void_p, c_uint64, ctypes.c_char_p],
-        "clear": [c_void_p],
-        "fold": [c_void_p],
-        "count_record": [c_void_p, ctypes.c_char_p, POINTER(c_uint64)],
-        "find_record": [c_void_p, ctypes.c_char_p, c_uint64, POINTER(c_uint64)],
+        "vector_create": [POINTER(c_void_p), ctypes.c_char_p, c_uint32, POINTER(_Options)],
+        "vector_open": [POINTER(c_void_p), ctypes.c_char_p, c_uint32, POINTER(_Options)],
+        "vector_close": [POINTER(c_void_p)],
+        "vector_flush": [c_void_p],
+        "vector_stop_flusher": [c_void_p],
+        "vector_compact": [c_void_p],
+        "vector_change": [c_void_p, c_uint32, c_uint64, c_void_p, c_size_t],
+        "vector_resize": [c_void_p, c_uint32, c_uint64, ctypes.c_char_p],
+        "vector_clear": [c_void_p],
+        "vector_fold": [c_void_p],
+        "seat_take": [c_void_p, POINTER(c_void_p)],
+        "seat_close": [POINTER(c_void_p)],
+        "seat_grow": [c_void_p, c_uint32, c_void_p, c_size_t, POINTER(_Receipt)],
+        "seat_settle": [c_void_p, c_uint64, c_uint64],
+        "seat_settled": [c_void_p, POINTER(c_uint64)],
+        "seat_size": [c_void_p, POINTER(c_uint64)],
+        "seat_read": [c_void_p, c_uint32, c_uint64, c_void_p, c_size_t, POINTER(c_uint64)],
+        "seat_pieces": [c_void_p, c_uint64, POINTER(_Piece), c_size_t, POINTER(c_size_t)],
+        "seat_block": [c_void_p, c_size_t, POINTER(c_void_p)],
+        "seat_publish": [c_void_p, POINTER(_Receipt)],
+        "seat_drop": [c_void_p],
+        "seat_count": [c_void_p, c_uint32, ctypes.c_char_p, POINTER(c_uint64)],
+        "seat_find": [c_void_p, c_uint32, ctypes.c_char_p, c_uint64, POINTER(c_uint64)],
     }
     for name, words in answers.items():
-        call = getattr(lib, "cvec_vector_" + name)
+        call = getattr(lib, "cvec_" + name)
         call.argtypes, call.restype = words, c_uint32
-    lib.cvec_seat_settled.argtypes, lib.cvec_seat_settled.restype = [c_void_p, POINTER(c_uint64)], c_uint32
-    lib.cvec_vector_process.argtypes, lib.cvec_vector_process.restype = [], c_uint64
-    lib.cvec_vector_status_text.argtypes, lib.cvec_vector_status_text.restype = [c_uint32], ctypes.c_char_p
+    lib.cvec_process.argtypes, lib.cvec_process.restype = [], c_uint64
+    lib.cvec_status_text.argtypes, lib.cvec_status_text.restype = [c_uint32], ctypes.c_char_p
     return lib
 
 
 _LIB = _library()
-_AWAIT, _AWAIT_FOR = getattr(_LIB, "cvec_vector_await"), _LIB.cvec_vector_await_for
+# Of a wait: as long as it takes.
+_NO_LIMIT = _GREATEST
+
+
+def _close_at(call: Any, address: int) -> None:
+    call(byref(c_void_p(address)))
 
 
 class Error(Exception):
     """A refusal: its `status`, and the `errno` of the system's call that failed, else 0. Nothing was grown."""
 
     def __init__(self, status: int, text: str = "", errno: int = 0) -> None:
-        text = text or _LIB.cvec_vector_status_text(status).decode()
+        text = text or _LIB.cvec_status_text(status).decode()
         super().__init__(f"{text}: {os.strerror(errno)}" if errno else text)
         self.status, self.errno = Status._value2member_map_.get(status, status), errno
 
@@ -613,7 +617,7 @@ class Seat(_Single):
 
     def _grow_by(self, handle: c_void_p, at: int, count: int, receipt: _Receipt) -> int:
         try:
-            return _LIB.cvec_vector_grow_records(handle, at, count, byref(receipt))
+            return _LIB.cvec_seat_grow(handle, self._form.number, at, count, byref(receipt))
         finally:
             # An interrupt may come as soon as it has grown.
             if receipt.len > 0:
@@ -649,22 +653,22 @@ class Seat(_Single):
     def _told(self, receipt: _Receipt) -> Receipt:
         return Receipt(receipt.number, receipt.start // self._form.words, receipt.len // self._form.words)
 
-    def _await_by(self, handle: c_void_p, number: int, *limit: int) -> int:
+    def _await_by(self, handle: c_void_p, number: int, limit: int) -> int:
         if not 0 <= number <= _GREATEST:
             return Status.OUT_OF_RANGE
-        return (_AWAIT_FOR if limit else _AWAIT)(handle, number, *limit)
+        return _LIB.cvec_seat_settle(handle, number, limit)
 
     def settle(self, receipt: Receipt | None = None, timeout: float | None = None) -> None:
         """Waits until this growth and each before it is durable; without one, all that this seat grew. Who finds that nobody
         commits commits for all that wait. `timeout`: how many seconds it waits for others; then Error LATE, and the growth may
         yet become durable. Error OUT_OF_RANGE: there is no such growth; DISK_WRITE, DISK_SYNC: the file refused it, and from
         then on all is BROKEN."""
-        limit = () if timeout is None else (_milliseconds(timeout),)
+        limit = _NO_LIMIT if timeout is None else _milliseconds(timeout)
         number = self._last if receipt is None else receipt.number
         if receipt is None and number < 0:
             self.settled()
         else:
-            self._call(self._await_by, number, *limit)
+            self._call(self._await_by, number, limit)
 
     def settled(self) -> int:
         """How many growths are durable: those with a lower number are. It doesn't wait."""
@@ -674,7 +678,7 @@ class Seat(_Single):
 
     def _words(self) -> int:
         size = c_uint64()
-        self._call(_LIB.cvec_vector_size, byref(size))
+        self._call(_LIB.cvec_seat_size, byref(size))
         return size.value
 
     def size(self) -> int:
@@ -688,18 +692,18 @@ class Seat(_Single):
         words, done = self._form.words, c_uint64()
         room = self._form.room(max(0, min(stop, self.size()) - start))
         if len(room) > 0:
-            self._call(_LIB.cvec_vector_read_records, start * words, _address_of(room), len(room) * words, byref(done))
+            self._call(_LIB.cvec_seat_read, self._form.number, start * words, _address_of(room), len(room) * words, byref(done))
         return room[:done.value // words]
 
     def _size_by(self, handle: c_void_p) -> int:
         size = c_uint64()
-        _pass(_LIB.cvec_vector_size(handle, byref(size)), self._vector)
+        _pass(_LIB.cvec_seat_size(handle, byref(size)), self._vector)
         return size.value // self._form.words
 
     def _read_by(self, handle: c_void_p, start: int, room: Any) -> None:
         """Copies the records from there on, of which there are as many as these."""
         words, done = self._form.words, c_uint64()
-        _pass(_LIB.cvec_vector_read_records(handle, start * words, _address_of(room), len(room) * words, byref(done)), self._vector)
+        _pass(_LIB.cvec_seat_read(handle, self._form.number, start * words, _address_of(room), len(room) * words, byref(done)), self._vector)
 
     def _one_by(self, handle: c_void_p, key: int) -> Any:
         size, room = self._size_by(handle), self._form.room(1)
@@ -760,7 +764,7 @@ class Seat(_Single):
             return views
         asked = max(1, min(_ASKED, _COPIED // positions.step))
         pieces, count = (_Piece * asked)(), c_size_t()
-        _pass(_LIB.cvec_vector_pieces(handle, start, pieces, asked, byref(count)), self._vector)
+        _pass(_LIB.cvec_seat_pieces(handle, start, pieces, asked, byref(count)), self._vector)
         last = pieces[count.value - 1]
         if (min(last.start + last.len, stop) - start) * width >= count.value * _SHORT:
             self._see(pieces[:count.value], stop, self._vector._lender.lend(), views)
@@ -777,7 +781,7 @@ class Seat(_Single):
         """Lends the words from `start` to before `stop`."""
         pieces, count, loan = (_Piece * _PIECES)(), c_size_t(), self._vector._lender.lend()
         while start < stop:
-            status = _LIB.cvec_vector_pieces(handle, start, pieces, _PIECES, byref(count))
+            status = _LIB.cvec_seat_pieces(handle, start, pieces, _PIECES, byref(count))
             if status != 0 or count.value == 0:
                 return status
             start = self._see(pieces[:count.value], stop, loan, views)
@@ -814,10 +818,10 @@ class Seat(_Single):
         if self._block is not None:
             if self._block() is not None:
                 return 0
-            _LIB.cvec_vector_drop(handle)
+            _LIB.cvec_seat_drop(handle)
         at, loan = c_void_p(), self._vector._lender.lend()
         self._block = weakref.ref(loan)
-        status = _LIB.cvec_vector_block(handle, words, byref(at))
+        status = _LIB.cvec_seat_block(handle, words, byref(at))
         if status == 0:
             block._at, block._loan = at.value, loan
         else:
@@ -826,7 +830,7 @@ class Seat(_Single):
 
     def _publish_by(self, handle: c_void_p, receipt: _Receipt) -> int:
         try:
-            return _LIB.cvec_vector_publish(handle, byref(receipt))
+            return _LIB.cvec_seat_publish(handle, byref(receipt))
         finally:
             # An interrupt may come as soon as it has grown.
             if receipt.len > 0:
@@ -842,7 +846,7 @@ class Seat(_Single):
         words = len(sought)
         room = numpy.empty((_PIECE, words), dtype=numpy.uint64)
         while True:
-            status = _LIB.cvec_vector_read_records(handle, start * words, _address_of(room), _PIECE * words, byref(done))
+            status = _LIB.cvec_seat_read(handle, self._form.number, start * words, _address_of(room), _PIECE * words, byref(done))
             count = done.value // words
             if status != 0 or count == 0 or ends(start + numpy.flatnonzero((room[:count] == sought).all(axis=1))):
                 return status
@@ -851,16 +855,17 @@ class Seat(_Single):
     def _find_by(self, handle: c_void_p, record: bytes, start: int, found: list[int]) -> int:
         """Where C finds none it answers how many there are then: no fewer than before."""
         place, size = c_uint64(), c_uint64()
-        status = _LIB.cvec_vector_size(handle, byref(size)) or _LIB.cvec_vector_find_record(handle, record, start, byref(place))
+        status = _LIB.cvec_seat_size(handle, byref(size)) or _LIB.cvec_seat_find(handle, self._form.number, record, start, byref(place))
         if status == 0 and place.value < size.value:
             found.append(place.value)
         return status
 
     def _close_handle(self) -> None:
         """For who has the gate, and knows that nothing is made of its block."""
-        handle, self._handle, self._block = self._handle, None, None
-        if handle:
-            _LIB.cvec_vector_close_seat(handle)
+        if self._handle:
+            # C makes it NULL: an interrupt loses no seat.
+            _LIB.cvec_seat_close(byref(self._handle))
+        self._handle, self._block = None, None
 
     def close(self) -> None:
         """Gives it up when the call that is under way has ended: what it grew stays, and another thread may have its place."""
@@ -1122,7 +1127,7 @@ class Flusher(_Single):
     def __exit__(self, kind: Any, *_: Any) -> None:
         self._loop.end()
         # In a forked process there is no such thread.
-        if self._vector._process != _LIB.cvec_vector_process():
+        if self._vector._process != _LIB.cvec_process():
             return
         self._thread.join()
         try:
@@ -1150,7 +1155,7 @@ class Vector(_Single):
 
     def __init__(self, handle: c_void_p, path: Any, form: _Records | _Rows, limit: int) -> None:
         """Not to be called: `create` and `open` do."""
-        self._handle, self._form, self._limit, self._process = handle, form, limit, _LIB.cvec_vector_process()
+        self._handle, self._form, self._limit, self._process = handle, form, limit, _LIB.cvec_process()
         self._path = os.fspath(path)
         self._lock, self._local = threading.Lock(), threading.local()
         # The loops of flushers, and whether none goes on. Who commits in one has a lock of its own.
@@ -1174,13 +1179,13 @@ class Vector(_Single):
         there, and stays."""
         if version not in (1, 2):
             raise ValueError("a file has version 1 or 2")
-        return cls._begin(_LIB.cvec_vector_create_with, path, seats, dtype, type, growths, version)
+        return cls._begin(_LIB.cvec_vector_create, path, seats, dtype, type, growths, version)
 
     @classmethod
     def open(cls, path: Any, seats: int = MOST_SEATS, dtype: Any = None, type: str = "u64", *, growths: int | None = None) -> Vector:
         """Opens a file that is there, and reads it. Error IN_USE: it is open, here or elsewhere; UNBORN, NOT_SEGMENT, VERSION,
         WIDTH or DAMAGED: it has no vector of such records. ValueError: its words are no whole records of that dtype."""
-        vector = cls._begin(_LIB.cvec_vector_open_with, path, seats, dtype, type, growths)
+        vector = cls._begin(_LIB.cvec_vector_open, path, seats, dtype, type, growths)
         try:
             seat = Seat(vector)
             vector._seats.append(seat)
@@ -1222,7 +1227,7 @@ class Vector(_Single):
         if dtype is not None and type != "u64":
             raise ValueError("records of a dtype are rows of u64")
         form = _Records(type) if dtype is None else _Rows(dtype)
-        vector, options = cls(c_void_p(), path, form, seats), _Options(version, seats, growths or 0)
+        vector, options = cls(c_void_p(), path, form, seats), _Options(version, seats, 0, growths or 0)
         try:
             _pass(call(byref(vector._handle), _name_of(path), form.number, byref(options)), vector)
             return vector
@@ -1265,7 +1270,7 @@ class Vector(_Single):
 
     def _check_process(self) -> None:
         """A thread that had a lock when this process was forked never lets go of it here."""
-        if self._process != _LIB.cvec_vector_process():
+        if self._process != _LIB.cvec_process():
             raise Error(Status.FORKED)
 
     def seat(self, timeout: float | None = None) -> Seat:
@@ -1308,7 +1313,7 @@ class Vector(_Single):
     def _take_handle(self, seat: Seat) -> None:
         """With the gate of this seat: it has one of C's, from when C has given it on."""
         seat._handle = c_void_p()
-        _pass(_LIB.cvec_vector_take_seat(self._handle, byref(seat._handle)), self)
+        _pass(_LIB.cvec_seat_take(self._handle, byref(seat._handle)), self)
 
     # ---- the whole vector
 
@@ -1366,7 +1371,7 @@ class Vector(_Single):
         self._check_lent()
         handles = [seat._handle for seat in self._seats if seat._handle]
         if handles and self._last() >= 0:
-            _pass(_AWAIT(handles[0], self._last()), self)
+            _pass(_LIB.cvec_seat_settle(handles[0], self._last(), _NO_LIMIT), self)
         for seat in self._seats:
             seat._close_handle()
 
@@ -1390,7 +1395,7 @@ class Vector(_Single):
         are records of the vector. Error OUT_OF_RANGE: it doesn't reach so far; TOO_LARGE: more than a frame has."""
         held, at, count = self._form.lend(records)
         try:
-            self._whole(_LIB.cvec_vector_change_records, self._words_before(start), at, count)
+            self._whole(_LIB.cvec_vector_change, self._form.number, self._words_before(start), at, count)
         finally:
             del held
 
@@ -1402,7 +1407,7 @@ class Vector(_Single):
         word = len(row) // self._form.words
         if row != row[:word] * self._form.words:
             raise ValueError("no copies of a record whose words differ: grow by them")
-        self._whole(_LIB.cvec_vector_resize_by, self._words_before(size), row)
+        self._whole(_LIB.cvec_vector_resize, self._form.number, self._words_before(size), row)
 
     def clear(self) -> None:
         """Takes all records away. Error UNFOLDED: a change isn't folded."""
@@ -1426,7 +1431,7 @@ class Vector(_Single):
         """How many records have the bytes of this one. ValueError: it is no record of the vector."""
         row, count, found = self._form.bytes_of(record), c_uint64(), []
         if self._form.words == 1:
-            self.seat()._call(_LIB.cvec_vector_count_record, row, byref(count))
+            self.seat()._call(_LIB.cvec_seat_count, self._form.number, row, byref(count))
             return count.value
         self._search(row, 0, lambda places: found.append(len(places)))
         return sum(found)
@@ -1572,9 +1577,10 @@ class Vector(_Single):
         go of the file alone, and what was lent to it stays."""
         if not self._handle:
             return
-        if self._process != _LIB.cvec_vector_process():
-            handle, self._handle = self._handle, None
-            _LIB.cvec_vector_close(handle)
+        if self._process != _LIB.cvec_process():
+            closed = byref(self._handle)
+            self._handle = None
+            _LIB.cvec_vector_close(closed)
             return
         for seat in list(self._seats):
             seat._check_thread()
@@ -1584,6 +1590,7 @@ class Vector(_Single):
             if handle is None:
                 return
             try:
+                closed = byref(handle)
                 self._places.wake_all()
                 self._end_loops()
                 _LIB.cvec_vector_stop_flusher(handle)
@@ -1594,7 +1601,7 @@ class Vector(_Single):
                 # As Ctrl-C: nothing is closed yet, and another call closes it.
                 self._handle = handle
                 raise
-            _pass(_LIB.cvec_vector_close(handle), self)
+            _pass(_LIB.cvec_vector_close(closed), self)
 
     def __del__(self) -> None:
         """Who is inside a call has the vector, so none is here. But what is lent may live: C's is closed with the last of that."""
@@ -1603,7 +1610,7 @@ class Vector(_Single):
         except BufferError:
             handle, self._handle = self._handle, None
             # By their addresses: an object of the cycle would stay, and before Python 3.9 all of that.
-            closes = [functools.partial(_LIB.cvec_vector_close_seat, seat._handle.value) for seat in self._seats if seat._handle]
+            closes = [functools.partial(_close_at, _LIB.cvec_seat_close, seat._handle.value) for seat in self._seats if seat._handle]
             for seat in self._seats:
                 seat._ends, seat._handle = True, None
-            self._lender.leave(*closes, functools.partial(_LIB.cvec_vector_close, handle.value))
+            self._lender.leave(*closes, functools.partial(_close_at, _LIB.cvec_vector_close, handle.value))

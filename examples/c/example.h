@@ -18,26 +18,26 @@ static inline void fail(const char *why, const char *reason) {
 
 static inline void require(uint32_t status) {
     const bool is_of_system = status >= CVEC_DISK_OPEN && status <= CVEC_DISK_SYNC;
-    if (status != CVEC_DONE) fail(cvec_vector_status_text(status), is_of_system ? strerror(errno) : "");
+    if (status != CVEC_DONE) fail(cvec_status_text(status), is_of_system ? strerror(errno) : "");
 }
 
 static inline cvec_vector *open_or_create(const char *path, cvec_type type, uint16_t seats) {
+    const cvec_options options = {.seats = seats};
     cvec_vector *vector;
-    const uint32_t status = cvec_vector_create_as(&vector, path, type, 1, seats);
-    require(status == CVEC_EXISTS ? cvec_vector_open_as(&vector, path, type, seats) : status);
+    require(cvec_vector_open_or_create(&vector, path, type, &options));
     return vector;
 }
 
 /* A copy of all records, each of so many bytes, which the caller frees. */
-static inline void *read_all(cvec_vector *vector, size_t width, uint64_t *count) {
-    cvec_vector_seat *seat;
+static inline void *read_all(cvec_vector *vector, cvec_type type, size_t width, uint64_t *count) {
+    cvec_seat *seat;
     uint64_t size;
-    require(cvec_vector_take_seat(vector, &seat));
-    require(cvec_vector_size(seat, &size));
+    require(cvec_seat_take(vector, &seat));
+    require(cvec_seat_size(seat, &size));
     void *records = malloc((size_t)size * width + 1); /* of 0 it may be NULL */
     if (records == NULL) require(CVEC_MEMORY);
-    require(cvec_vector_read_records(seat, 0, records, (size_t)size, count));
-    require(cvec_vector_close_seat(seat));
+    require(cvec_seat_read(seat, type, 0, records, (size_t)size, count));
+    require(cvec_seat_close(&seat));
     return records;
 }
 

@@ -32,22 +32,22 @@ static uint64_t take_number(struct pool *pool) {
 static void *work(void *shared) {
     struct pool *pool = shared;
     uint64_t mine = 0, number;
-    cvec_vector_seat *seat;
+    cvec_seat *seat;
     cvec_receipt receipt;
-    require(cvec_vector_take_seat(pool->results, &seat));
+    require(cvec_seat_take(pool->results, &seat));
     while ((number = take_number(pool)) <= pool->last) {
         const cvec_pair result = {number, steps_of(number)};
-        require(cvec_vector_grow_records(seat, &result, 1, &receipt));
-        if (++mine % 100 == 0) require(cvec_vector_await(seat, receipt.number));
+        require(cvec_seat_grow_pair(seat, &result, 1, &receipt));
+        if (++mine % 100 == 0) require(cvec_seat_settle(seat, receipt.number, CVEC_NO_LIMIT));
     }
-    require(cvec_vector_close_seat(seat));
+    require(cvec_seat_close(&seat));
     return NULL;
 }
 
 /* Notes which numbers are done, and answers how many results there are. */
 static uint64_t find_done(struct pool *pool) {
     uint64_t count;
-    cvec_pair *found = read_all(pool->results, sizeof *found, &count);
+    cvec_pair *found = read_all(pool->results, CVEC_PAIR, sizeof *found, &count);
     pool->done = calloc((size_t)pool->last + 1, sizeof *pool->done);
     if (pool->done == NULL) require(CVEC_MEMORY);
     for (uint64_t k = 0; k < count; k++)
@@ -67,8 +67,8 @@ int main(int argc, char **argv) {
     fflush(stdout);
     for (int k = 0; k < THREADS; k++) begin(&threads[k], work, &pool);
     for (int k = 0; k < THREADS; k++) pthread_join(threads[k], NULL);
-    cvec_pair *all = read_all(results, sizeof *all, &count);
-    require(cvec_vector_close(results)); /* commits what nobody has awaited */
+    cvec_pair *all = read_all(results, CVEC_PAIR, sizeof *all, &count);
+    require(cvec_vector_close(&results)); /* commits what nobody has awaited */
     for (uint64_t k = 0; k < count; k++) sum += all[k].value;
     printf("%" PRIu64 " results, %" PRId64 " steps in all\n", count, sum);
     free(all);

@@ -24,14 +24,14 @@ struct sensor {
 static void *measure(void *work) {
     struct sensor *sensor = work;
     struct sample block[BLOCK];
-    cvec_vector_seat *seat;
+    cvec_seat *seat;
     cvec_receipt receipt;
-    require(cvec_vector_take_seat(sensor->samples, &seat));
+    require(cvec_seat_take(sensor->samples, &seat));
     for (;;) {
         for (int k = 0; k < BLOCK; k++, sensor->next++)
             block[k] = (struct sample){sensor->name, sensor->next, sin((double)sensor->next)};
-        require(cvec_vector_grow_records(seat, block, BLOCK * WORDS, &receipt));
-        require(cvec_vector_await(seat, receipt.number));
+        require(cvec_seat_grow(seat, CVEC_U64, block, BLOCK * WORDS, &receipt));
+        require(cvec_seat_settle(seat, receipt.number, CVEC_NO_LIMIT));
     }
     return NULL;
 }
@@ -39,7 +39,7 @@ static void *measure(void *work) {
 /* Finds the next sample of each sensor, and answers how many samples there are. */
 static uint64_t find_next(cvec_vector *samples, struct sensor *sensors) {
     uint64_t words;
-    struct sample *found = read_all(samples, sizeof(uint64_t), &words);
+    struct sample *found = read_all(samples, CVEC_U64, sizeof(uint64_t), &words);
     if (words % WORDS != 0) require(CVEC_WIDTH);
     for (uint64_t k = 0; k < words / WORDS; k++) {
         if (found[k].sensor >= SENSORS) fail("the file has other records", "");

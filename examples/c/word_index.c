@@ -34,7 +34,7 @@ static int by_place(const void *one, const void *other) {
 /* All entries by their places. */
 static struct entry *read_index(cvec_vector *index, size_t *count) {
     uint64_t words;
-    struct entry *all = read_all(index, sizeof(uint64_t), &words);
+    struct entry *all = read_all(index, CVEC_U64, sizeof(uint64_t), &words);
     if (words % WORDS != 0) require(CVEC_WIDTH);
     *count = (size_t)words / WORDS;
     qsort(all, *count, sizeof *all, by_place);
@@ -56,20 +56,20 @@ static size_t make_entries(struct entry **entries, const char *line, size_t len,
 }
 
 /* Each twenty lines of a thread are made durable. */
-static void grow(struct indexer *own, cvec_vector_seat *seat, const char *line, size_t len, uint64_t place) {
+static void grow(struct indexer *own, cvec_seat *seat, const char *line, size_t len, uint64_t place) {
     cvec_receipt receipt;
     const size_t count = make_entries(&own->entries, line, len, place);
     if (count == 0) return;
-    require(cvec_vector_grow_records(seat, own->entries, count * WORDS, &receipt));
-    if (++own->grown % 20 == 0) require(cvec_vector_await(seat, receipt.number));
+    require(cvec_seat_grow(seat, CVEC_U64, own->entries, count * WORDS, &receipt));
+    if (++own->grown % 20 == 0) require(cvec_seat_settle(seat, receipt.number, CVEC_NO_LIMIT));
 }
 
 static void *run(void *work) {
     struct indexer *own = work;
     char *line = NULL;
     size_t room = 0;
-    cvec_vector_seat *seat;
-    require(cvec_vector_take_seat(own->index, &seat));
+    cvec_seat *seat;
+    require(cvec_seat_take(own->index, &seat));
     for (uint64_t text = 0; own->texts[text] != NULL; text++) {
         FILE *lines = fopen(own->texts[text], "r");
         if (lines == NULL) fail(own->texts[text], strerror(errno));
@@ -80,7 +80,7 @@ static void *run(void *work) {
         if (!feof(lines)) fail(own->texts[text], strerror(errno));
         fclose(lines);
     }
-    require(cvec_vector_close_seat(seat));
+    require(cvec_seat_close(&seat));
     free(own->entries);
     free(line);
     return NULL;
@@ -103,7 +103,7 @@ int main(int argc, char **argv) {
     }
     for (int k = 0; k < THREADS; k++) pthread_join(threads[k], NULL);
     all = read_index(index, &count);
-    require(cvec_vector_close(index)); /* commits what nobody has awaited */
+    require(cvec_vector_close(&index)); /* commits what nobody has awaited */
     for (struct entry *one = all; one < all + count; one++) {
         if (memcmp(one->word, wanted->word, sizeof one->word) != 0 || one->place == last) continue;
         last = one->place;

@@ -154,7 +154,7 @@ def indices_and_slices():
 def a_slice_beside_a_shrink():
     """Or a position: that of the vector of one moment. The vector is to become shorter once its size was asked for."""
     library, row = cvec_vector._LIB, list(range(100))
-    size = library.cvec_vector_size
+    size = library.cvec_seat_size
     for at in (slice(-1, -60, -3), slice(None, None, -3), slice(80, 10, -7), slice(-1, -60, -1), slice(-60, None, 3), slice(None), -1, -30, 99):
         with Vector.create(PATH, seats=2) as vector:
             vector.grow(row)
@@ -162,12 +162,12 @@ def a_slice_beside_a_shrink():
 
             def size_before(*words):
                 status = size(*words)
-                library.cvec_vector_size = size
+                library.cvec_seat_size = size
                 shrinks.start()
                 shrinks.join(0.05)
                 return status
 
-            library.cvec_vector_size = size_before
+            library.cvec_seat_size = size_before
             found = vector[at]
             shrinks.join()
             assert (list(found) if isinstance(at, slice) else found) == row[at], at
@@ -468,7 +468,7 @@ def appenders():
 def growths_are_interrupted():
     """Ctrl-C comes before C has grown, and as soon as it has: an appender grows by nothing twice, and growths are counted on."""
     library, moments = cvec_vector._LIB, []
-    grow = library.cvec_vector_grow_records
+    grow = library.cvec_seat_grow
 
     def grow_interrupted(*words):
         moment = moments.pop() if moments else None
@@ -479,7 +479,7 @@ def growths_are_interrupted():
             raise KeyboardInterrupt
         return status
 
-    library.cvec_vector_grow_records = grow_interrupted
+    library.cvec_seat_grow = grow_interrupted
     with Vector.create(PATH, seats=1) as vector:
         out = vector.appender(3)
         for it in range(3):
@@ -547,8 +547,8 @@ def interrupted(library, name):
 def an_interrupt_comes_as_soon_as_c_has_begun():
     """The file is let go of at once, also while a traceback has what was begun. A seat of C isn't lost."""
     library = cvec_vector._LIB
-    for name, call in (("create_with", Vector.create), ("open_with", Vector.open), ("take_seat", Vector.open), ("size", Vector.open)):
-        interrupted(library, "cvec_vector_" + name)
+    for name, call in (("vector_create", Vector.create), ("vector_open", Vector.open), ("seat_take", Vector.open), ("seat_size", Vector.open)):
+        interrupted(library, "cvec_" + name)
         try:
             call(PATH, seats=1)
         except KeyboardInterrupt:
@@ -558,7 +558,7 @@ def an_interrupt_comes_as_soon_as_c_has_begun():
     with Vector.open(PATH, seats=1) as vector:
         for number in range(3):
             vector.fold()
-            interrupted(library, "cvec_vector_take_seat")
+            interrupted(library, "cvec_seat_take")
             has_no(KeyboardInterrupt, vector.grow, [number])
             # How many growths C counts is asked for then, also by a call of the whole vector.
             if number == 2:
@@ -627,10 +627,10 @@ def a_close_is_interrupted_at_any_moment():
     signal.alarm(100)
 
     def interrupt_c(close):
-        interrupted(cvec_vector._LIB, "cvec_vector_" + name)
+        interrupted(cvec_vector._LIB, "cvec_" + name)
         has_no(KeyboardInterrupt, close)
 
-    for name in ("close_seat", "stop_flusher", "close"):
+    for name in ("seat_close", "vector_stop_flusher", "vector_close"):
         is_closed_behind(interrupt_c)
     moments = 0
     while is_closed_behind(lambda close: is_interrupted(close, moments)):
@@ -777,8 +777,8 @@ def rows_of_the_whole_vector():
 def refused_memory_loses_nothing():
     """A call of the whole vector that C refuses before it has done anything: growths are counted on."""
     library, refused = cvec_vector._LIB, [Status.MEMORY]
-    resize = library.cvec_vector_resize_by
-    library.cvec_vector_resize_by = lambda *words: refused.pop() if refused else resize(*words)
+    resize = library.cvec_vector_resize
+    library.cvec_vector_resize = lambda *words: refused.pop() if refused else resize(*words)
     with Vector.create(PATH, seats=2) as vector:
         first = vector.grow([5, 7])
         assert refusal(vector.resize, 1) == (Status.MEMORY, "memory was refused")
@@ -798,7 +798,7 @@ def a_call_is_interrupted_while_seats_are_closed():
     library = cvec_vector._LIB
     with Vector.create(PATH, seats=1) as vector:
         assert vector.grow([5]) == (0, 0, 1)
-        interrupted(library, "cvec_vector_close_seat")
+        interrupted(library, "cvec_seat_close")
         has_no(KeyboardInterrupt, vector.fold)
         assert vector.grow([7]) == (1, 1, 1) and vector.settled() == 1
         vector.settle()
@@ -824,7 +824,7 @@ def a_call_is_interrupted_while_seats_are_closed():
             thread.start()
             has_grown.wait()
             has_grown.clear()
-            interrupted(library, "cvec_vector_close_seat")
+            interrupted(library, "cvec_seat_close")
             has_no(KeyboardInterrupt, vector.fold)
             if seats == 2:
                 assert len(vector) == 2
@@ -905,16 +905,16 @@ def the_whole_vector_beside_threads():
 def a_call_within_a_call_is_refused():
     """As one from a signal's handler, which would wait for itself."""
     library = cvec_vector._LIB
-    size, told = library.cvec_vector_size, []
+    size, told = library.cvec_seat_size, []
 
     def look(*words):
         told.extend(refusal(call)[0] for call in (vector.clear, vector.seat().close, vector.close, vector.seat().settled))
         return size(*words)
 
-    library.cvec_vector_size = look
+    library.cvec_seat_size = look
     with Vector.create(PATH) as vector:
         assert len(vector) == 0 and told == [Status.BUSY] * 4
-        library.cvec_vector_size = size
+        library.cvec_seat_size = size
         vector.grow([5])
         vector.change(0, [6])
     assert records() == [6]
@@ -1066,7 +1066,7 @@ def count_and_find_need_nobody_out():
     """Neither a call that another thread is in, nor what it lends, keeps them; what is grown meanwhile isn't found in place of none."""
     signal.alarm(60)
     library = cvec_vector._LIB
-    find = library.cvec_vector_find_record
+    find = library.cvec_seat_find
     with Vector.create(PATH, seats=2) as vector:
         vector.grow([5, 7, 5])
         seats = []
@@ -1083,9 +1083,9 @@ def count_and_find_need_nobody_out():
             seats[0].grow([9])
             return status
 
-        library.cvec_vector_find_record = find_late
+        library.cvec_seat_find = find_late
         assert vector.find(8) is None and vector.find(7) == 1 and len(vector) == 5
-        library.cvec_vector_find_record = find
+        library.cvec_seat_find = find
         goes_on.set()
         holder.join()
         # As `==` has it, also of what is no record.
@@ -1110,7 +1110,7 @@ def calls_of_c(names):
         return run
 
     for name in names:
-        setattr(library, "cvec_vector_" + name, counted(name, getattr(library, "cvec_vector_" + name)))
+        setattr(library, "cvec_seat_" + name, counted(name, getattr(library, "cvec_seat_" + name)))
     return counts
 
 
@@ -1118,7 +1118,7 @@ def no_call_is_made_for_each_record():
     """200,000 records are read by a few calls, whichever way: but in a row, and where a growth is short, C copies none. None of these
     holds any: a phase goes on."""
     row = [7 * it % 2 ** 32 for it in range(200000)]
-    counts = calls_of_c(("read_records", "size", "pieces", "at", "find_record"))
+    counts = calls_of_c(("read", "size", "pieces", "at", "find"))
     with Vector.create(PATH, growths=8) as vector:
         for at in range(0, 200000, 50000):
             vector.grow(row[at:at + 50000])
@@ -1140,9 +1140,9 @@ def no_call_is_made_for_each_record():
             assert sum(counts.values()) <= 12, (name, counts)
             # What is left at the end may be short.
             is_copied = name in ("a slice", "all", "backwards", "numpy", "one", "few") or name.startswith("the loop")
-            assert counts["read_records"] == is_copied, (name, counts)
+            assert counts["read"] == is_copied, (name, counts)
         counts.clear()
-        assert row[-1] in vector and 1 not in vector and counts["find_record"] == 2 and counts["read_records"] == 0
+        assert row[-1] in vector and 1 not in vector and counts["find"] == 2 and counts["read"] == 0
         # What a slice has is the caller's own.
         for it in (vector[:5], vector[::100], vector[4:0:-1]):
             it[0] = 1
@@ -1199,7 +1199,7 @@ def passes_go_over_any_growths():
 
 def short_growths_are_copied_by_c():
     """By a few calls: an array for each growth would take longer."""
-    counts = calls_of_c(("read_records", "size", "pieces", "at", "find_record"))
+    counts = calls_of_c(("read", "size", "pieces", "at", "find"))
     with Vector.create(PATH) as vector:
         for at in range(5000):
             vector.grow([at])
@@ -1217,16 +1217,16 @@ def what_equals_is_found():
         def __eq__(self, other):
             return other == 99999
 
-    counts = calls_of_c(("read_records", "pieces", "find_record"))
+    counts = calls_of_c(("read", "pieces", "find"))
     with Vector.create(PATH) as vector:
         vector.grow(range(100000))
         if numpy is not None:
             for record, is_there in ((numpy.float64(99999), True), (numpy.float32(0.5), False), (numpy.float64("inf"), False), (numpy.int8(-1), False)):
-                assert (record in vector) == is_there and counts["pieces"] == counts["read_records"] == 0, record
+                assert (record in vector) == is_there and counts["pieces"] == counts["read"] == 0, record
         for record, is_there in ((99999, True), (99999.0, True), (fractions.Fraction(99999), True), (True, True), (99999.5, False), (fractions.Fraction(1, 2), False),
                                  (-1, False), (2 ** 64, False), (1e300, False), (math.inf, False), (-math.inf, False), (math.nan, False)):
             counts.clear()
-            assert (record in vector) == is_there and counts["pieces"] == counts["read_records"] == 0, record
+            assert (record in vector) == is_there and counts["pieces"] == counts["read"] == 0, record
         for record, is_there in ((decimal.Decimal(99999), True), (99999 + 0j, True), (Like(), True), (None, False), ("99999", False), ((99999,), False), (b"9", False)):
             assert (record in vector) == is_there, record
 
@@ -1771,7 +1771,7 @@ def blocks_are_interrupted():
     with Vector.create(PATH, seats=1) as vector:
         for name in ("block", "publish"):
             def interrupt_c(fill):
-                interrupted(library, "cvec_vector_" + name)
+                interrupted(library, "cvec_seat_" + name)
                 has_no(KeyboardInterrupt, fill)
                 return True
 
@@ -1784,7 +1784,7 @@ def blocks_are_interrupted():
             with vector.grow_into(1) as rows:
                 raise KeyError
         rows = None
-        interrupted(library, "cvec_vector_drop")
+        interrupted(library, "cvec_seat_drop")
         has_no(KeyboardInterrupt, vector.grow_into(1).__enter__)
         assert is_a_growth_or_none(vector, lambda fill: fill()) is None
         vector.fold()
@@ -1824,7 +1824,7 @@ MOST_GROWTHS = 1048568
 def grow_often(seat, first, count):
     """So many growths by the seat, of one record each, made by a loop in C (tests/bindings/often.c)."""
     often = ctypes.CDLL(os.environ["OFTEN"])
-    status = often.grow_often(cvec_vector._LIB.cvec_vector_grow_records, seat._handle, ctypes.c_uint64(first), ctypes.c_uint64(count))
+    status = often.grow_often(cvec_vector._LIB.cvec_seat_grow, seat._handle, ctypes.c_uint64(first), ctypes.c_uint64(count))
     assert status == 0
 
 
@@ -1955,7 +1955,7 @@ def each_refusal():
         refused.append(refusal(vector.settled))
 
     run_all([ask])
-    assert refused == [(Status.NOT_SO, "every seat or block is taken, or there is no such block, hold, version or type")]
+    assert refused == [(Status.NOT_SO, "every seat or block is taken, or there is no such handle, answer, block, hold, version or type")]
     # Whoever closes one leaves it to another, and growths are counted on.
     for _ in range(3):
         vector.seat().close()
@@ -1987,11 +1987,11 @@ def each_refusal():
 def each_status_has_the_sentence_of_c():
     with open(os.path.join(os.path.dirname(os.path.abspath(__file__)), "statuses.txt")) as lines:
         told = {int(number): text.rstrip("\n") for number, _, text in (line.split(" ", 2) for line in lines)}
-    assert {int(it) for it in Status} == told.keys() - {0, 11, 12, 13, 42, 65, 70}
+    assert {int(it) for it in Status} == {it for it in told if it < 96} - {0, 11, 12, 13, 42, 65, 70}
     for it in Status:
         assert str(Error(it)) == told[it] and str(Error(it, errno=2)) == told[it] + ": No such file or directory"
         assert Error(int(it)).status is it
-    assert str(Error(99)) == "an unknown status" and Error(99).status == 99
+    assert str(Error(999)) == "an unknown status" and Error(999).status == 999
 
 
 def what_the_system_refused_is_an_os_error():
@@ -2017,15 +2017,15 @@ def what_the_system_refused_is_an_os_error():
             raise AssertionError("not refused")
     # As a user who isn't root has it.
     library = cvec_vector._LIB
-    begin = library.cvec_vector_open_with
+    begin = library.cvec_vector_open
 
     def open_denied(*words):
         ctypes.set_errno(errno.EACCES)
         return Status.DISK_OPEN
 
-    library.cvec_vector_open_with = open_denied
+    library.cvec_vector_open = open_denied
     has_no(PermissionError, Vector.open, missing)
-    library.cvec_vector_open_with = begin
+    library.cvec_vector_open = begin
     # What isn't the system's is none.
     with Vector.create(PATH):
         for call, path in ((Vector.open, PATH), (Vector.open, missing), (Vector.create, PATH)):
@@ -2096,15 +2096,15 @@ def a_vector_is_opened_or_created():
                 assert file.read() == there
     # Another makes it, once it wasn't found.
     os.remove(PATH)
-    create = library.cvec_vector_create_with
+    create = library.cvec_vector_create
 
     def create_late(*words):
-        library.cvec_vector_create_with = create
+        library.cvec_vector_create = create
         with Vector.create(PATH) as other:
             other.grow([7])
         return create(*words)
 
-    library.cvec_vector_create_with = create_late
+    library.cvec_vector_create = create_late
     with Vector.open_or_create(PATH) as vector:
         assert list(vector) == [7]
 
@@ -2183,7 +2183,7 @@ def a_seat_goes_to_the_next_thread():
             run_all([vector.settled])
             raise AssertionError("a third seat")
         except Error as fault:
-            assert fault.status == Status.NOT_SO and str(fault) == "every seat or block is taken, or there is no such block, hold, version or type"
+            assert fault.status == Status.NOT_SO and str(fault) == "every seat or block is taken, or there is no such handle, answer, block, hold, version or type"
         goes_on.set()
         thread.join()
     assert sorted(records()) == list(range(41))

@@ -1,20 +1,22 @@
 // Behaviours of cvec::concurrent_vector, each by its name: behaviours NAME FILE. The status is 0 where it is as promised; else
 // a line says what isn't.
-#define cvec_vector_read_records counted_read
-#define cvec_vector_size watched_size
-#define cvec_vector_await_for asked_await_for
-#define cvec_vector_resize_by refused_resize
-#define cvec_vector_change_records refused_change
+#define cvec_seat_read counted_read
+#define cvec_seat_size watched_size
+#define cvec_seat_settle asked_wait
+#define cvec_vector_settle asked_settle
+#define cvec_vector_resize refused_resize
+#define cvec_vector_change refused_change
 #define cvec_vector_fold refused_fold
-#define cvec_vector_take_seat careless_take_seat
+#define cvec_seat_borrow careless_borrow
 #include "told.hpp"
-#undef cvec_vector_read_records
-#undef cvec_vector_size
-#undef cvec_vector_await_for
-#undef cvec_vector_resize_by
-#undef cvec_vector_change_records
+#undef cvec_seat_read
+#undef cvec_seat_size
+#undef cvec_seat_settle
+#undef cvec_vector_settle
+#undef cvec_vector_resize
+#undef cvec_vector_change
 #undef cvec_vector_fold
-#undef cvec_vector_take_seat
+#undef cvec_seat_borrow
 
 #include <algorithm>
 #include <csignal>
@@ -51,12 +53,12 @@ extern "C" pid_t getpid() noexcept { return number_of_all != 0 ? number_of_all :
 static std::atomic<int> reads{0};
 static std::function<void()> during_read;
 
-extern "C" std::uint32_t cvec_vector_read_records(cvec_vector_seat *, std::uint64_t, void *, std::size_t, std::uint64_t *);
-extern "C" std::uint32_t counted_read(cvec_vector_seat *seat, std::uint64_t from, void *out, std::size_t room,
-                                      std::uint64_t *count) {
+extern "C" cvec_status cvec_seat_read(cvec_seat *, cvec_type, std::uint64_t, void *, std::size_t, std::uint64_t *);
+extern "C" cvec_status counted_read(cvec_seat *seat, cvec_type type, std::uint64_t from, void *out, std::size_t room,
+                                    std::uint64_t *count) {
     ++reads;
     if (during_read) during_read();
-    return cvec_vector_read_records(seat, from, out, room, count);
+    return cvec_seat_read(seat, type, from, out, room, count);
 }
 
 // What is done while the vector is asked for its length.
@@ -65,23 +67,30 @@ static std::function<void()> during_size;
 // And once it has answered.
 static std::function<void()> behind_size;
 
-extern "C" std::uint32_t cvec_vector_size(cvec_vector_seat *, std::uint64_t *);
-extern "C" std::uint32_t watched_size(cvec_vector_seat *seat, std::uint64_t *size) {
+extern "C" cvec_status cvec_seat_size(cvec_seat *, std::uint64_t *);
+extern "C" cvec_status watched_size(cvec_seat *seat, std::uint64_t *size) {
     if (during_size) during_size();
-    const std::uint32_t answer = cvec_vector_size(seat, size);
+    const cvec_status answer = cvec_seat_size(seat, size);
     if (behind_size) behind_size();
     return answer;
 }
 
 // For how many milliseconds the vector was asked to wait at most, and what it answers in place of its own answer.
 static std::atomic<std::uint64_t> milliseconds_asked{0};
-static std::atomic<std::uint32_t> answer_instead{CVEC_DONE};
+static std::atomic<cvec_status> answer_instead{CVEC_DONE};
 
-extern "C" std::uint32_t cvec_vector_await_for(cvec_vector_seat *, std::uint64_t, std::uint64_t);
-extern "C" std::uint32_t asked_await_for(cvec_vector_seat *seat, std::uint64_t number, std::uint64_t milliseconds) {
+extern "C" cvec_status cvec_seat_settle(cvec_seat *, std::uint64_t, std::uint64_t);
+extern "C" cvec_status asked_wait(cvec_seat *seat, std::uint64_t number, std::uint64_t milliseconds) {
     milliseconds_asked = milliseconds;
-    const std::uint32_t answer = answer_instead;
-    return answer == CVEC_DONE ? cvec_vector_await_for(seat, number, milliseconds) : answer;
+    const cvec_status answer = answer_instead;
+    return answer == CVEC_DONE ? cvec_seat_settle(seat, number, milliseconds) : answer;
+}
+
+extern "C" cvec_status cvec_vector_settle(cvec_vector *, std::uint64_t);
+extern "C" cvec_status asked_settle(cvec_vector *vector, std::uint64_t milliseconds) {
+    milliseconds_asked = milliseconds;
+    const cvec_status answer = answer_instead;
+    return answer == CVEC_DONE ? cvec_vector_settle(vector, milliseconds) : answer;
 }
 
 // So often a call of the whole vector is refused for want of memory before it has begun; and what is done before a change.
@@ -94,29 +103,28 @@ static bool is_refused_now() {
     return true;
 }
 
-extern "C" std::uint32_t cvec_vector_resize_by(cvec_vector *, std::uint64_t, const void *);
-extern "C" std::uint32_t refused_resize(cvec_vector *vector, std::uint64_t size, const void *record) {
-    return is_refused_now() ? std::uint32_t{CVEC_MEMORY} : cvec_vector_resize_by(vector, size, record);
+extern "C" cvec_status cvec_vector_resize(cvec_vector *, cvec_type, std::uint64_t, const void *);
+extern "C" cvec_status refused_resize(cvec_vector *vector, cvec_type type, std::uint64_t size, const void *record) {
+    return is_refused_now() ? CVEC_MEMORY : cvec_vector_resize(vector, type, size, record);
 }
 
-extern "C" std::uint32_t cvec_vector_change_records(cvec_vector *, std::uint64_t, const void *, std::size_t);
-extern "C" std::uint32_t refused_change(cvec_vector *vector, std::uint64_t start, const void *records, std::size_t count) {
+extern "C" cvec_status cvec_vector_change(cvec_vector *, cvec_type, std::uint64_t, const void *, std::size_t);
+extern "C" cvec_status refused_change(cvec_vector *vector, cvec_type type, std::uint64_t start, const void *records,
+                                      std::size_t count) {
     if (before_change) before_change();
-    return is_refused_now() ? std::uint32_t{CVEC_MEMORY} : cvec_vector_change_records(vector, start, records, count);
+    return is_refused_now() ? CVEC_MEMORY : cvec_vector_change(vector, type, start, records, count);
 }
 
-extern "C" std::uint32_t cvec_vector_fold(cvec_vector *);
-extern "C" std::uint32_t refused_fold(cvec_vector *vector) {
-    return is_refused_now() ? std::uint32_t{CVEC_MEMORY} : cvec_vector_fold(vector);
-}
+extern "C" cvec_status cvec_vector_fold(cvec_vector *);
+extern "C" cvec_status refused_fold(cvec_vector *vector) { return is_refused_now() ? CVEC_MEMORY : cvec_vector_fold(vector); }
 
 // Leaves any errno, as a call of the system may. So often a seat is refused for want of memory.
 static int seats_to_refuse = 0;
 
-extern "C" std::uint32_t cvec_vector_take_seat(cvec_vector *, cvec_vector_seat **);
-extern "C" std::uint32_t careless_take_seat(cvec_vector *vector, cvec_vector_seat **seat) {
+extern "C" cvec_status cvec_seat_borrow(cvec_vector *, std::uint64_t, cvec_seat **);
+extern "C" cvec_status careless_borrow(cvec_vector *vector, std::uint64_t milliseconds, cvec_seat **seat) {
     *seat = nullptr;
-    const std::uint32_t answer = seats_to_refuse > 0 ? std::uint32_t{CVEC_MEMORY} : cvec_vector_take_seat(vector, seat);
+    const cvec_status answer = seats_to_refuse > 0 ? CVEC_MEMORY : cvec_seat_borrow(vector, milliseconds, seat);
     if (seats_to_refuse > 0) --seats_to_refuse;
     errno = ENOENT;
     return answer;
@@ -451,14 +459,14 @@ static void beside_a_held_call(std::function<void()> &hook, const std::function<
     hook = nullptr;
 }
 
-// The time runs also while another call has the only seat, or the vector alone.
+// The time runs also while another call has the only seat. What is of all growths takes none, nor waits for a change that hasn't begun.
 static void deadlines_for_a_seat(const std::string &path) {
     using namespace std::chrono_literals;
     numbers vector(path, {cvec::opening::create, 1, 1}), wide(path + ".wide");
     const cvec::growth made = vector.append(std::uint64_t{4});
     const auto reads_it = [&] { static_cast<void>(vector.copy(0)); };
     beside_a_held_call(during_read, reads_it, [&](const std::atomic<bool> &is_held) {
-        HOLDS(!vector.settle_for(20ms) && !vector.settle_for(made, 0s) && is_held);
+        HOLDS(!vector.settle_for(made, 20ms) && !vector.settle_for(made, 0s) && vector.settle_for(20ms) && is_held);
     });
     // What is left of it is for the commit.
     beside_a_held_call(during_read, reads_it, [&](const std::atomic<bool> &) {
@@ -466,7 +474,7 @@ static void deadlines_for_a_seat(const std::string &path) {
     });
     wide.push_back(4);
     beside_a_held_call(before_change, [&] { wide.change(0, 5); }, [&](const std::atomic<bool> &is_held) {
-        HOLDS(!wide.settle_for(20ms) && is_held);
+        HOLDS(wide.settle_for(20ms) && is_held);
     });
     HOLDS(wide.settle_for(0s) && wide.copy(0) == 5);
 }
@@ -707,15 +715,15 @@ static std::string words_of(const std::function<void()> &call) {
     }
 }
 
-// What was done isn't refused where a seat is behind it: the file is closed then, and later calls are told why.
+// Where a seat is refused behind what was done, the next call is, and may be made again: the file stays open.
 static void changing_ends(const std::string &path) {
-    const std::string refusal = std::to_string(CVEC_NOT_SO) + " cvec: " + path + ": it was closed: memory was refused";
+    const std::string refusal = std::to_string(CVEC_MEMORY) + " cvec: " + path + ": memory was refused";
     const auto ends = [&](const std::function<void(numbers &)> &call, const list &rows) {
         numbers vector(path);
-        seats_to_refuse = 1;
-        HOLDS(status_of([&] { call(vector); }) == CVEC_DONE && seats_to_refuse == 0);
+        call(vector);
+        seats_to_refuse = 2;
         HOLDS(words_of([&] { static_cast<void>(vector.size()); }) == refusal && words_of([&] { vector.push_back(5); }) == refusal);
-        HOLDS(words_of([&] { vector.change(0, 5); }) == refusal && words_of([&] { vector.fold(); }) == refusal);
+        HOLDS(seats_to_refuse == 0 && rows_of(vector) == rows);
         vector.close();
         HOLDS(rows_of(numbers(path)) == rows);
     };
@@ -727,10 +735,10 @@ static void changing_ends(const std::string &path) {
     // What was refused for itself stays refused for that.
     numbers vector(path);
     vector.push_back(4);
-    refusals_to_come = seats_to_refuse = 1;
-    HOLDS(words_of([&] { vector.change(0, 5); }) == std::to_string(CVEC_MEMORY) + " cvec: " + path + ": memory was refused");
-    HOLDS(words_of([&] { vector.push_back(5); }) == refusal);
-    HOLDS(rows_of(numbers(path)) == list({4}));
+    refusals_to_come = 1;
+    HOLDS(words_of([&] { vector.change(0, 5); }) == refusal);
+    vector.push_back(5);
+    HOLDS(rows_of(vector) == list({4, 5}));
 }
 
 struct watch {
@@ -879,6 +887,7 @@ static void changing_breaks(const std::string &path) {
     fails(second, rows);
     HOLDS(status_of([&] { static_cast<void>(second.size()); }) == CVEC_BROKEN);
     HOLDS(status_of([&] { second.run_flusher(std::chrono::hours(1)); }) == CVEC_BROKEN);
+    HOLDS(status_of([&] { second.close(); }) == CVEC_BROKEN);
     HOLDS(rows_of(numbers(path)) == list({1, 2, 3}) && rows_of(numbers(path + ".second")) == list(400, 4));
     // Also where nothing was grown since it was opened.
     numbers third(path + ".second");

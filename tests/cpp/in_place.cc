@@ -1,8 +1,8 @@
 // Growth in place, each behaviour by its name: in_place NAME FILE. The status is 0 where it is as promised; else a line says what
 // isn't. The files that it leaves begin with that name.
-#define cvec_vector_block watched_block
+#define cvec_seat_block watched_block
 #include "told.hpp"
-#undef cvec_vector_block
+#undef cvec_seat_block
 
 #include <algorithm>
 #include <cstring>
@@ -18,10 +18,10 @@ using list = std::vector<std::uint64_t>;
 // What is done while the vector is asked for a block.
 static std::function<void()> during_block;
 
-extern "C" std::uint32_t cvec_vector_block(cvec_vector_seat *, std::size_t, void **);
-extern "C" std::uint32_t watched_block(cvec_vector_seat *seat, std::size_t count, void **records) {
+extern "C" cvec_status cvec_seat_block(cvec_seat *, std::size_t, void **);
+extern "C" cvec_status watched_block(cvec_seat *seat, std::size_t count, void **records) {
     if (during_block) std::exchange(during_block, nullptr)();
-    return cvec_vector_block(seat, count, records);
+    return cvec_seat_block(seat, count, records);
 }
 
 struct three {
@@ -216,24 +216,24 @@ static void calls_within_it(const std::string &path) {
     HOLDS(made.first == 7 && list(vector.begin() + 7, vector.end()) == list({10, 20, 30}) && vector.size() == 10);
 }
 
-// One within another takes a further seat, and is refused where there is none: it would wait for itself.
+// One within another, as many as there are: none keeps a seat from another.
 static void one_within_another(const std::string &path) {
     numbers two(path, {cvec::opening::create, 1, 2}), one(path + ".one", {cvec::opening::create, 1, 1});
     two.grow_with(1, [&](auto &outer) {
         outer[0] = 2;
         two.grow_with(1, [&](auto &inner) {
             inner[0] = 1;
-            HOLDS(status_of([&] { two.grow_with(1, [](auto &) {}); }) == CVEC_NOT_SO);
+            two.grow_with(1, [](auto &rows) { rows[0] = 3; });
             one.grow_with(1, [](auto &rows) { rows[0] = 5; });
         });
     });
-    HOLDS(list(two.begin(), two.end()) == list({1, 2}) && list(one.begin(), one.end()) == list({5}));
+    HOLDS(list(two.begin(), two.end()) == list({3, 1, 2}) && list(one.begin(), one.end()) == list({5}));
     one.grow_with(1, [&](auto &rows) {
         rows[0] = 6;
-        HOLDS(status_of([&] { one.grow_with(1, [](auto &) {}); }) == CVEC_NOT_SO);
+        one.grow_with(1, [](auto &inner) { inner[0] = 8; });
         one.push_back(7);
     });
-    HOLDS(list(one.begin(), one.end()) == list({5, 7, 6}));
+    HOLDS(list(one.begin(), one.end()) == list({5, 8, 7, 6}));
 }
 
 // Those that want the vector alone would wait for it, so they are refused; those of another vector aren't.

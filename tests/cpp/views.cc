@@ -1,8 +1,8 @@
 // Views beside the calls that want the vector alone, each behaviour by its name: views NAME FILE. The status is 0 where it is as
 // promised; else a line says what isn't. The files that it leaves begin with that name.
-#define cvec_vector_pieces refused_pieces
+#define cvec_seat_pieces refused_pieces
 #include "told.hpp"
-#undef cvec_vector_pieces
+#undef cvec_seat_pieces
 
 #include <algorithm>
 #include <memory>
@@ -19,10 +19,10 @@ using list = std::vector<std::uint64_t>;
 // So often the vector tells no pieces, for want of memory.
 static int refusals_to_come = 0;
 
-extern "C" std::uint32_t cvec_vector_pieces(cvec_vector_seat *, std::uint64_t, cvec_piece *, std::size_t, std::size_t *);
-extern "C" std::uint32_t refused_pieces(cvec_vector_seat *seat, std::uint64_t from, cvec_piece *out, std::size_t room,
+extern "C" cvec_status cvec_seat_pieces(cvec_seat *, std::uint64_t, cvec_piece *, std::size_t, std::size_t *);
+extern "C" cvec_status refused_pieces(cvec_seat *seat, std::uint64_t from, cvec_piece *out, std::size_t room,
                                         std::size_t *count) {
-    if (refusals_to_come == 0) return cvec_vector_pieces(seat, from, out, room, count);
+    if (refusals_to_come == 0) return cvec_seat_pieces(seat, from, out, room, count);
     --refusals_to_come;
     return CVEC_MEMORY;
 }

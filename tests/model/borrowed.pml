@@ -43,9 +43,9 @@ inline work() {
     :: true
     fi;
 #endif
-    cvec_vector_grow_records();
+    cvec_seat_grow();
     if
-    :: answer == DONE -> atomic { choose_deadline() }; await_until(0)
+    :: answer == DONE -> atomic { choose_deadline() }; cvec_seat_settle(0)
     :: true
     fi;
     atomic { answer = DONE; timed = false; number = 0 }
@@ -86,11 +86,11 @@ proctype owns(byte id) {
     :: turns < TURNS ->
         turns++;
         if
-        :: cvec_vector_seat_within()
-        :: cvec_vector_take_seat()
+        :: cvec_seat_take_within()
+        :: cvec_seat_take()
         fi;
         if
-        :: answer == DONE -> cvec_vector_grow_records(); cvec_vector_close_seat()
+        :: answer == DONE -> cvec_seat_grow(); cvec_seat_close()
         :: else
         fi;
         atomic { answer = DONE; seat = 0; number = 0 }
@@ -108,7 +108,7 @@ proctype whole(byte id) {
     do
     :: turns < TURNS ->
         turns++;
-        cvec_vector_change_records();
+        cvec_vector_change();
         assert(answer != IS_BUSY) /* nobody holds the vector: no call of the whole vector is refused for that */
     :: turns == TURNS -> break
     od;
@@ -150,23 +150,31 @@ gone:
 }
 #endif
 
-/* One that tries to end the vector, or to close it, until that is done. */
+#ifdef ENDS
+/* One that tries to end the vector until it is ended, or closed. */
+proctype ender(byte id) {
+    LOCALS;
+    do
+    :: over || freed -> break
+    :: else -> cvec_vector_end(); over || freed || (seats == slot_seats && holds == 0) /* before, it is as busy again */
+    od;
+gone:
+    atomic { answer = DONE; ended++ }
+}
+#endif
+
+/* One that tries to close the vector until it is closed. */
 proctype closer(byte id) {
     LOCALS;
 #if STARTS > 0
     cvec_vector_start_flusher();
 #endif
     !LOOPS || ended == THREADS - 1;
-#ifdef ENDS
-    do
-    :: !over -> cvec_vector_end(); over || (seats == slot_seats && holds == 0) /* before, it is as busy again */
-    :: over -> break
-    od;
-    ended == THREADS - 1 - STARTS; /* its caller waits for its threads */
-#endif
     do
     :: freed -> break
-    :: else -> cvec_vector_close(); freed || (seats == idle_slots && holds == 0 && asking == 0) /* before, it is as busy again */
+    :: else ->
+        cvec_vector_close();
+        freed || is_ended || (!over && seats == idle_slots && holds == 0 && asking == 0) /* before, it is as busy again */
     od;
 gone:
     atomic { answer = DONE; ended++ }
@@ -196,6 +204,9 @@ init {
             :: id == THREADS - 1 -> run closer(id)
             fi
         };
+#ifdef ENDS
+        run ender(THREADS);
+#endif
         id = 0
     }
 }

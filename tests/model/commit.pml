@@ -22,7 +22,7 @@ proctype thread(byte id) {
     byte round;
     atomic { first == id -> first++; seat = id; grow_next() };
     do
-    :: await_until(0);
+    :: cvec_seat_settle(0);
        atomic { grow_next() }
     od;
 gone:

@@ -39,13 +39,13 @@ proctype one_grower(byte id) {
             :: timed = true
             :: true
             fi;
-            await_until(0)
+            cvec_seat_settle(0)
         :: true
         fi;
         atomic { answer = DONE; timed = false; number = 0 }
     :: round == ROUNDS -> break
     od;
-    cvec_vector_close_seat();
+    cvec_seat_close();
     atomic { answer = DONE; number = 0; seat = 0; round = 0; ended++ }
 }
 

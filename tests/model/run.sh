@@ -58,11 +58,12 @@ borrow_late|borrowed.pml|-DSEATS=1 -DBORROWERS=2
 borrow_three|borrowed.pml|-DSEATS=1 -DBORROWERS=3 -DNO_WORK -DREFUSALS=1 -DTIMED=0
 borrow_often|borrowed.pml|-DSEATS=1 -DBORROWERS=3 -DTIMED=0 -DSPURIOUS=0
 borrow_two|borrowed.pml|-DSEATS=2 -DBORROWERS=3 -DNO_WORK -DTIMED=0 -DLOOKS=1
+borrow_refused|borrowed.pml|-DSEATS=2 -DBORROWERS=3 -DNO_WORK -DTIMED=0 -DSPURIOUS=0 -DREFUSALS=1
 borrow_own|borrowed.pml|-DSEATS=1 -DBORROWERS=1 -DOWNERS=1 -DTURNS=2 -DLIMIT=2
 borrow_whole|borrowed.pml|-DSEATS=1 -DLIMIT=1 -DBORROWERS=1 -DWHOLES=1 -DREFUSALS=1 -DFAILURES=1
 borrow_all|borrowed.pml|-DSEATS=1 -DLIMIT=1 -DBORROWERS=2 -DWHOLES=1 -DTIMED=0 -DSPURIOUS=0
 borrow_push|borrowed.pml|-DSEATS=1 -DBORROWERS=2 -DPUSHES -DREFUSALS=1 -DTIMED=0
-end|borrowed.pml|-DSEATS=1 -DBORROWERS=2 -DENDS -DTIMED=0 -DREFUSALS=1 -DFAILURES=1
+end|borrowed.pml|-DSEATS=1 -DBORROWERS=2 -DENDS -DTIMED=0 -DSPURIOUS=0 -DFAILURES=1
 end_own|borrowed.pml|-DSEATS=1 -DBORROWERS=1 -DOWNERS=1 -DENDS -DTIMED=0 -DREFUSALS=1
 end_settle|borrowed.pml|-DSEATS=1 -DBORROWERS=1 -DSETTLERS=1 -DWHOLES=1 -DENDS -DTIMED=0 -DSETTLES
 settle|borrowed.pml|-DSEATS=1 -DBORROWERS=1 -DSETTLERS=1 -DTURNS=2 -DSETTLES -DREFUSALS=1 -DFAILURES=1
@@ -109,6 +110,7 @@ borrow_two|all
 borrow_own|all
 borrow_whole|all
 borrow_all|all
+borrow_loop|fair
 borrow_push|all
 end|all
 end_own|all
@@ -146,6 +148,7 @@ hold_by_two|all
 hold_by_two_whole|all
 push_often|all
 settle_whole|all
+borrow_refused|all
 whole_loop_line|fair
 TABLE
 }
@@ -246,16 +249,20 @@ bugs() {
 91|borrow|all|deadlock
 92|borrow|all|deadlock
 93|borrow_push|all|a seat that is given back keeps nothing
-94|borrow|all|deadlock
+94|borrow|all|one thread at a time commits, by a committer
 95|borrow_push|all|a seat that is borrowed keeps nothing
-96|borrow|all|deadlock
+96|borrow|all|one thread at a time commits, by a committer
 97|borrow|all|who waits to borrow was called
 98|borrow|all|no seat is lent to two
 99|settle|all|a settle is for each growth
-100|settle_whole|all|one thread at a time commits, by a committer
+100|settle|all|a growth that had returned is known
 101|settle|all|nobody is inside a vector that is closed
 102|end|all|nobody is inside a vector that is closed
 103|borrow|all|who wants it back was called
+104|borrow_own|all|a borrowed seat that is idle holds up no take
+105|borrow_refused|all|who is first in line was called where one is idle
+106|borrow_loop|fair|cycle
+107|end|all|nobody is inside a vector that is given up
 TABLE
 }
 

@@ -52,7 +52,7 @@ inline choose_call() {
 #endif
 }
 
-/* Each call by the grower of a seat: cvec_vector_grow_records, _publish, _pieces, _block and _push. */
+/* Each call by the grower of a seat: cvec_seat_grow, _publish, _pieces, _block and _push. */
 inline call_by_seat() {
     enter();
     if
@@ -81,7 +81,7 @@ inline work() {
         grows++;
         choose_call();
         if
-        :: call == DROP -> cvec_vector_drop()
+        :: call == DROP -> cvec_seat_drop()
         :: else -> call_by_seat()
         fi;
 #ifndef LENDS
@@ -93,7 +93,7 @@ inline work() {
             :: true
             fi;
 #endif
-            await_until(ahead);
+            cvec_seat_settle(ahead);
             ahead = 0
         :: true
         fi
@@ -109,7 +109,7 @@ proctype worker(byte id) {
     :: turns < TURNS ->
         turns++;
         if
-        :: cvec_vector_take_seat()
+        :: cvec_seat_take()
 #ifndef NO_LINE
         :: atomic {
                if
@@ -117,7 +117,7 @@ proctype worker(byte id) {
                :: true
                fi
            };
-           cvec_vector_seat_within();
+           cvec_seat_take_within();
            timed = false
 #endif
         fi;
@@ -125,7 +125,7 @@ proctype worker(byte id) {
         :: answer == DONE ->
             work();
             atomic { grows = 0; call = GROW; stop_reading() };
-            cvec_vector_close_seat()
+            cvec_seat_close()
         :: else
         fi;
         atomic { answer = DONE; call = GROW; seat = 0; number = 0 }
@@ -144,12 +144,12 @@ proctype holder(byte id) {
     :: turns < TURNS ->
         turns++;
         cvec_vector_hold();
-        cvec_vector_take_seat();
+        cvec_seat_take();
         if
         :: answer == DONE ->
             enter();
             when(answer == DONE, lend_pieces(); leave_seat());
-            cvec_vector_close_seat()
+            cvec_seat_close()
         :: else
         fi;
         atomic { stop_reading(); answer = DONE; seat = 0 };
@@ -176,7 +176,7 @@ proctype whole(byte id) {
 #ifdef COMPACTS
         cvec_vector_compact()
 #else
-        cvec_vector_change_records()
+        cvec_vector_change()
 #endif
         ;
         assert(answer != IS_BUSY || HOLDERS > 0) /* it is refused only while somebody holds the vector */

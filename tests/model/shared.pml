@@ -7,8 +7,8 @@ proctype thread(byte id) {
     do
     :: round < ROUNDS ->
         round++;
-        cvec_vector_grow_records();
-        when(answer == DONE, await_until(0));
+        cvec_seat_grow();
+        when(answer == DONE, cvec_seat_settle(0));
         atomic { answer = DONE; number = 0 }
     :: round == ROUNDS -> break
     od

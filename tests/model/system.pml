@@ -24,7 +24,7 @@ inline lock() {
 
 /* Who is refused memory for a further seat, while others are lent, waits for these. */
 #define was_refused (slot_seats > 0 && refusals < REFUSALS)
-#define is_lendable (slot[0] == LENDABLE || slot[1] == LENDABLE)
+#define is_lendable (slot[0] == LENDABLE && wanted_back[0] == 0 || slot[1] == LENDABLE && wanted_back[1] == 0)
 #ifndef BORROWERS
 #define BORROWERS 0 /* the threads before this number borrow */
 #endif

@@ -62,7 +62,7 @@ byte durable, committed, begun, base;       /* growths since the vector was begu
 byte phases = 1;
 bool unseated, alone, committing, is_stopped, claimed, shut_out, lent, broken;
 byte seats, holds, flushers, asking, paused, owed, waiting, woken;
-bool over, yields, owes_first, called;
+bool over, is_ended, yields, owes_first, called;
 byte overdue;                               /* the threads in line that have waited long */
 chan line = [4] of { byte };                /* `queued` is its length */
 
@@ -72,7 +72,8 @@ byte blocks, pushes; /* the seats that have a block, and those that have records
 #define is_waiting (pushes & MY_SEAT)
 #define keeps_something ((pushes | blocks) & MY_SEAT)
 mtype slot[3] = OWN; /* here a slot has the number of its seat */
-byte away[3];        /* the threads that have lent it on, and want it back */
+byte away[3];        /* the threads that have lent it on */
+byte wanted_back[3]; /* so many of these wait for it */
 byte taken_slots;    /* the slots that who ends the vector has: `ended` */
 #define slot_seats ((slot[0] != OWN) + (slot[1] != OWN))
 #define idle_slots ((slot[0] == IDLE) + (slot[1] == IDLE))
@@ -87,7 +88,6 @@ bool closing;            /* a close is under way: no call begins */
 bool freed;              /* the vector is gone */
 byte calls;              /* so many calls by no seat are under way */
 byte passing;            /* so many without the mutex: no close may begin beside them */
-bool ending;             /* an end is under way: no close may begin beside it */
 byte threads;            /* so many of the library's own are there */
 byte returned_growths;   /* behind so many the last growth stands whose call has returned */
 byte kept;               /* the seats that were pushed what isn't grown */
@@ -605,7 +605,7 @@ inline vault_change() {
 }
 
 /* So is each call of the whole vector that writes. */
-inline cvec_vector_change_records() {
+inline cvec_vector_change() {
     enter_alone();
     if
     :: answer == DONE -> atomic { vault_change() }; settle_alone()
@@ -626,17 +626,19 @@ inline cvec_vector_compact() {
 
 /* Behind an end the mutex, the conditions and the slots are left. */
 inline give_up_file() {
+    atomic {
     assert(calls == 0 && empty(line) && asking == 0 && flushers == 0); /* nobody is inside a vector that is closed */
     assert(seats == 0 && holds == 0 && readers == 0);                  /* nobody uses a vector that is closed */
     assert(all_waits == 0);                                            /* nobody waits in a vector that is closed */
     assert(answer != DONE || (synced == total && changed && !failed)); /* a close that answers DONE lost nothing */
     locked = false
+    }
 }
 
 inline give_up() {
     atomic {
         if
-        :: over -> assert(calls == 0 && all_waits == 0 && flushers == 0) /* nobody is inside a vector that is given up */
+        :: was -> assert(calls == 0 && all_waits == 0 && flushers == 0) /* nobody is inside a vector that is given up */
         :: else -> give_up_file()
         fi;
         assert(mutex == NOBODY && passing == 0); /* nobody has the mutex of a vector that is given up */
@@ -728,12 +730,13 @@ inline finish() {
 /* Its caller sees to it that no call is under way but those that its answer counts: none that takes no mutex. */
 inline cvec_vector_close() {
     atomic {
-        mutex == NOBODY && passing == 0 && !ending -> mutex = id;
+        mutex == NOBODY && passing == 0 -> mutex = id;
         assert(!freed); /* the vector is there */
         closing = true;
-        was = over;
+        was = (is_ended || (BUG == 107 && over));
         answer = DONE;
-        when(!was, is_idle());
+        when(!was && over, answer = IS_BUSY);
+        when(!was && !over, is_idle());
         when(answer == IS_BUSY, closing = false; unlock(); goto is_busy)
     };
     when(!was, finish());
@@ -760,17 +763,17 @@ inline await_calls() {
     od
 }
 
-/* Ends the vector: `over` is for its close. Whether it was refused. */
+/* As each call it begins before a close does. */
 inline cvec_vector_end() {
     atomic {
-        lock();
-        ending = true;
+        begin_call();
+        calls--;
         answer = (over -> NOT_SO : (is_used -> IS_BUSY : DONE));
         when(answer == DONE, await_calls())
     };
-    when(answer == DONE, finish(); atomic { give_up_file() });
+    when(answer == DONE, finish(); give_up_file());
     atomic {
-        ending = false;
+        when(answer != NOT_SO && answer != IS_BUSY, is_ended = true);
         unlock();
         growths = 0
     }
@@ -859,7 +862,7 @@ inline idle_slot() {
 #endif
 }
 
-#define LENDABLE_ONE(s) when(answer == LATE && slot[s] == LENDABLE, slot[s] = LENT; seat = s; note_owner(); answer = DONE)
+#define LENDABLE_ONE(s) when(answer == LATE && slot[s] == LENDABLE && (wanted_back[s] == 0 || BUG == 106), slot[s] = LENT; seat = s; note_owner(); answer = DONE)
 
 inline lendable_slot() {
     LENDABLE_ONE(0);
@@ -876,7 +879,11 @@ inline empty_slot() {
 
 /* ---- the line */
 
+#if BUG == 104
 #define is_one_spare (seats + len(line) < SEATS)
+#else
+#define is_one_spare (seats + len(line) < SEATS + idle_slots)
+#endif
 
 inline begin_line() {
     line!id;
@@ -933,6 +940,7 @@ inline find_borrowed() {
 /* The first one looks besides each millisecond, and is overdue from then on. */
 inline await_call() {
     was = looks > 0 && line?[eval(id)] && slot_seats > 0;
+    when(line?[eval(id)] && BUG != 105, called = false);
     wait(turn, timed || was);
     when(was && late, late = false; looks--; overdue = overdue | MINE);
     was = false
@@ -970,12 +978,12 @@ inline await_turn(borrows) {
 
 /* ---- seats of callers' own */
 
-inline cvec_vector_take_seat() {
+inline cvec_seat_take() {
     atomic {
         begin_call();
         cvec_await_pause();
         answer = NOT_SO;
-        was = (!over && (empty(line) || is_one_spare));
+        was = (!over && is_one_spare);
         assert(was || over || seats - idle_slots + len(line) >= SEATS) /* a borrowed seat that is idle holds up no take */
     };
     if
@@ -988,7 +996,7 @@ inline cvec_vector_take_seat() {
     }
 }
 
-inline cvec_vector_seat_within() {
+inline cvec_seat_take_within() {
     atomic {
         begin_call();
         answer = LATE;
@@ -1095,19 +1103,21 @@ inline cvec_lend_on() {
         busy[seat] = FREE;
         caller[seat] = NOBODY;
         owner[seat] = NOBODY;
-        away[seat] = away[seat] | MINE;
         slot[seat] = (BUG == 96 -> IDLE : LENDABLE);
-        when(BUG != 103, broadcast(handed));
+        when(away[seat] != 0 && BUG != 103, broadcast(handed));
+        away[seat] = away[seat] | MINE;
         when(BUG != 97, cvec_call_first())
     :: else
     fi
 }
 
 inline cvec_have_again() {
+    wanted_back[seat]++;
     do
     :: slot[seat] != LENDABLE && BUG != 98 -> wait(handed, false)
     :: else -> break
     od;
+    wanted_back[seat]--;
     note_owner();
     slot[seat] = LENT;
     away[seat] = away[seat] & ~MINE;
@@ -1246,7 +1256,7 @@ inline grow_counted() {
     fi
 }
 
-inline cvec_vector_grow_records() {
+inline cvec_seat_grow() {
     enter();
     if
     :: answer == DONE -> grow_counted(); leave_seat(); atomic { when(answer == DONE, note_returned) }
@@ -1285,7 +1295,7 @@ inline publish() {
     fi
 }
 
-inline cvec_vector_drop() {
+inline cvec_seat_drop() {
     enter_so(ASIDE);
     blocks = blocks & ~MY_SEAT;
     leave_seat()
@@ -1327,7 +1337,7 @@ inline cvec_empty_seat() {
     }
 }
 
-inline cvec_vector_close_seat() {
+inline cvec_seat_close() {
 #ifdef PUSHES
     enter_so(ASIDE);
     cvec_empty_seat();
@@ -1375,7 +1385,7 @@ inline await_count(count) {
 #endif
            :: else
            fi;
-           when((unseated || (alone && BUG != 100)) && BUG != 13, answer = OUT_OF_RANGE; break)
+           when((unseated || alone) && BUG != 13, answer = OUT_OF_RANGE; break)
        };
        cvec_lead();
        atomic {
@@ -1388,7 +1398,7 @@ next:  atomic { let_pass() }
 }
 
 /* `ahead`: for the growth behind that one, which may not be there. */
-inline await_until(ahead) {
+inline cvec_seat_settle(ahead) {
 #if BUG == 12
     was = committing;
 #endif
@@ -1453,7 +1463,14 @@ inline rest() {
     late = false
 }
 
-inline enter_flushers() { begin_call(); flushers++; answer = DONE }
+inline enter_flushers() {
+    begin_call();
+    answer = (over -> NOT_SO : DONE);
+    if
+    :: answer == DONE -> flushers++
+    :: else -> end_call(); goto gone
+    fi
+}
 
 inline leave_flushers() {
     flushers--;
@@ -1489,10 +1506,9 @@ inline cvec_vector_flush() {
 
 inline cvec_vector_stop_flusher() {
     atomic {
-        begin_call();
+        enter_flushers();
         is_stopped = true;
-        broadcast(flushing);
-        end_call()
+        leave_flushers()
     }
 }
 
@@ -1500,7 +1516,7 @@ inline cvec_vector_stop_flusher() {
 
 #ifdef SETTLES
 inline all_grown() {
-    number = all_known;
+    number = (BUG == 100 -> begun : all_known);
     when(at[0] == LISTED && number < grown_by[0], number = grown_by[0]);
     when(at[1] == LISTED && number < grown_by[1], number = grown_by[1])
 }
@@ -1511,7 +1527,7 @@ inline cvec_vector_settle() {
         asking = asking + (BUG != 101);
         all_grown();
         assert(over || number >= returned_growths); /* a settle is for each growth that had returned */
-        answer = (over -> NOT_SO : DONE)
+        answer = (over -> NOT_SO : (broken -> BROKEN : DONE))
     };
     if
     :: answer == DONE -> await_count(number)

@@ -1,4 +1,4 @@
-# cvec::concurrent_vector for C++ (bindings/cpp), over bindings/c/src/cvec_vector.c and cvec_threads.
+# cvec::concurrent_vector for C++ (bindings/cpp), over the C for threads (bindings/c/src) and cvec_threads.
 
 cpp=$top/examples/cpp
 cpp_headers=$top/bindings/cpp/include

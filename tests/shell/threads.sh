@@ -448,19 +448,19 @@ a_vector_in_c_is_opened_or_made() (
 )
 
 a_seat_in_c_is_borrowed() (
-    behaves borrowed beside_takes keeps_nothing borrow_memory detached
+    behaves borrowed beside_takes idle_beside_line keeps_nothing borrow_memory detached
 )
 
 more_threads_of_c_than_seats_borrow_them() (
-    behaves borrowed more_threads waits_in_line
+    behaves borrowed more_threads one_each waits_in_line
 )
 
 a_wait_in_c_for_the_device_keeps_no_borrowed_seat_from_others() (
-    behaves borrowed settle_lends settle_keeps
+    behaves borrowed settle_lends settle_lends_twice settle_keeps
 )
 
 a_vector_in_c_is_ended_beside_calls() (
-    behaves borrowed ends
+    behaves borrowed ends closes_beside_end
 )
 
 # The same under this sanitizer, but for what refuses memory and forks.
@@ -478,7 +478,7 @@ behaves_under() {
         done
     done <<'BEHAVIOURS'
 pauses beside_seats waits_for_calls nobody_starves keeps holds_off settles own_flusher opens_or_creates
-borrowed beside_takes keeps_nothing more_threads waits_in_line detached settle_lends settle_keeps ends
+borrowed beside_takes keeps_nothing more_threads one_each waits_in_line detached settle_lends settle_lends_twice settle_keeps ends closes_beside_end idle_beside_line
 BEHAVIOURS
 }
 

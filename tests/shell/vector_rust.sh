@@ -28,7 +28,7 @@ make_rust_cases() {
     make_rust_vector
     if [ -e "$built/cases" ]; then return; fi
     cc -O1 -fPIC -c "$top/tests/bindings/refused.c" -o "$built/refused.o"
-    make_rust_program "$top/tests/bindings/vector_cases.rs" "$built/cases" -C "link-arg=$built/refused.o" -C link-arg=-Wl,--wrap=cvec_vector_resize_by
+    make_rust_program "$top/tests/bindings/vector_cases.rs" "$built/cases" -C "link-arg=$built/refused.o" -C link-arg=-Wl,--wrap=cvec_vector_resize
 }
 
 # A test of tests/bindings/vector_cases.rs.

@@ -5,19 +5,19 @@
 static void locks(const char *path) {
     cvec_vector *second;
     make(path, 1);
-    HOLDS(cvec_vector_open(&second, path, 1) == CVEC_IN_USE);
+    HOLDS(cvec_vector_open(&second, path, CVEC_U64, &(cvec_options){.seats = 1}) == CVEC_IN_USE);
     HOLDS(second == NULL);
-    HOLDS(cvec_vector_create(&second, path, 1, 1) == CVEC_IN_USE);
+    HOLDS(cvec_vector_create(&second, path, CVEC_U64, &(cvec_options){.version = 1, .seats = 1}) == CVEC_IN_USE);
     HOLDS(fcntl(vector->fd, F_GETFD) == FD_CLOEXEC);
-    HOLDS(cvec_vector_close(vector) == CVEC_BUSY);
-    HOLDS(cvec_vector_close_seat(seat) == CVEC_DONE);
-    HOLDS(cvec_vector_close(vector) == CVEC_DONE);
-    HOLDS(cvec_vector_create(&second, path, 1, 1) == CVEC_EXISTS);
+    HOLDS(cvec_vector_close(&vector) == CVEC_BUSY);
+    HOLDS(cvec_seat_close(&seat) == CVEC_DONE);
+    HOLDS(cvec_vector_close(&vector) == CVEC_DONE);
+    HOLDS(cvec_vector_create(&second, path, CVEC_U64, &(cvec_options){.version = 1, .seats = 1}) == CVEC_EXISTS);
     HOLDS(found(path) == 0);
 }
 
-static uint32_t opens_it(const char *path) { return cvec_vector_open(&vector, path, 1); }
-static uint32_t creates_it(const char *path) { return cvec_vector_create(&vector, path, 1, 1); }
+static uint32_t opens_it(const char *path) { return cvec_vector_open(&vector, path, CVEC_U64, &(cvec_options){.seats = 1}); }
+static uint32_t creates_it(const char *path) { return cvec_vector_create(&vector, path, CVEC_U64, &(cvec_options){.version = 1, .seats = 1}); }
 
 /* What a reader's lock makes of a call; the reader gives it up behind so many naps. */
 static uint32_t beside_reader(uint32_t (*call)(const char *), const char *path, int operation, int naps_of_it) {
@@ -34,10 +34,10 @@ static uint32_t beside_reader(uint32_t (*call)(const char *), const char *path, 
 /* A lock that readers share is waited for, and one that somebody has alone isn't. */
 static void readers(const char *path) {
     make(path, 1);
-    HOLDS(cvec_vector_close_seat(seat) == CVEC_DONE && cvec_vector_close(vector) == CVEC_DONE);
+    HOLDS(cvec_seat_close(&seat) == CVEC_DONE && cvec_vector_close(&vector) == CVEC_DONE);
     HOLDS(beside_reader(opens_it, path, LOCK_SH, 3) == CVEC_DONE && naps == 3);
     if (wrong) exit(1);
-    HOLDS(cvec_vector_close(vector) == CVEC_DONE);
+    HOLDS(cvec_vector_close(&vector) == CVEC_DONE);
     HOLDS(beside_reader(opens_it, path, LOCK_SH, 0) == CVEC_IN_USE && naps == 500);
     HOLDS(beside_reader(opens_it, path, LOCK_EX, 0) == CVEC_IN_USE && naps == 0);
     /* Also where signals come, it is waited for 10 seconds. */
@@ -68,9 +68,9 @@ static void looks_for_its_name(const char *path) {
     for (size_t k = 0; k < sizeof looks / sizeof *looks; k++) {
         stats = 1;
         stat_fault = looks[k].fault;
-        HOLDS(cvec_vector_create(&vector, path, 1, 1) == looks[k].answer && stats == -1);
+        HOLDS(cvec_vector_create(&vector, path, CVEC_U64, &(cvec_options){.version = 1, .seats = 1}) == looks[k].answer && stats == -1);
         HOLDS(looks[k].answer == CVEC_DONE || (vector == NULL && errno == looks[k].fault));
-        HOLDS(vector == NULL || (cvec_vector_close(vector) == CVEC_DONE && remove(path) == 0));
+        HOLDS(vector == NULL || (cvec_vector_close(&vector) == CVEC_DONE && remove(path) == 0));
     }
 }
 
@@ -88,26 +88,26 @@ static void replaced(const char *path) {
     uint64_t number = 0;
     snprintf(other, sizeof other, "%s.other", path);
     make(path, 1);
-    HOLDS(cvec_vector_close_seat(seat) == CVEC_DONE && cvec_vector_close(vector) == CVEC_DONE);
+    HOLDS(cvec_seat_close(&seat) == CVEC_DONE && cvec_vector_close(&vector) == CVEC_DONE);
     make(other, 1);
     HOLDS(grow(0, &number) == CVEC_DONE && grow(1, &number) == CVEC_DONE);
-    HOLDS(cvec_vector_close_seat(seat) == CVEC_DONE && cvec_vector_close(vector) == CVEC_DONE);
+    HOLDS(cvec_seat_close(&seat) == CVEC_DONE && cvec_vector_close(&vector) == CVEC_DONE);
     HOLDS(beside_move(opens_it, path, other, path) == CVEC_DONE);
     if (wrong) exit(1);
     is_named(path);
-    HOLDS(cvec_vector_take_seat(vector, &seat) == CVEC_DONE && grow(2, &number) == CVEC_DONE);
-    HOLDS(cvec_vector_close_seat(seat) == CVEC_DONE && cvec_vector_close(vector) == CVEC_DONE);
+    HOLDS(cvec_seat_take(vector, &seat) == CVEC_DONE && grow(2, &number) == CVEC_DONE);
+    HOLDS(cvec_seat_close(&seat) == CVEC_DONE && cvec_vector_close(&vector) == CVEC_DONE);
     HOLDS(found(path) == 3);
     /* Or none has it: there is nothing to open, and a creation makes one. */
     HOLDS(beside_move(opens_it, path, path, other) == CVEC_DISK_OPEN && errno == ENOENT && vector == NULL);
     close(open(path, O_CREAT | O_WRONLY, 0666));
     HOLDS(beside_move(creates_it, path, path, other) == CVEC_DONE);
     if (wrong) exit(1);
-    HOLDS(cvec_vector_close(vector) == CVEC_DONE && found(path) == 0);
+    HOLDS(cvec_vector_close(&vector) == CVEC_DONE && found(path) == 0);
     /* Or another each time: it is tried as often as a lock is. */
     replaced_path = path;
     opens = naps = slept = 0;
-    HOLDS(cvec_vector_open(&vector, path, 1) == CVEC_IN_USE && vector == NULL && opens == 501);
+    HOLDS(cvec_vector_open(&vector, path, CVEC_U64, &(cvec_options){.seats = 1}) == CVEC_IN_USE && vector == NULL && opens == 501);
     HOLDS(naps == 500 && slept == 10000);
     replaced_path = NULL;
     looks_for_its_name(path);
@@ -132,11 +132,11 @@ static void is_beside_streams(const char *path) {
     least_number = INT_MAX;
     make(path, 1);
     are_closed_streams();
-    HOLDS(grow(0, &number) == CVEC_DONE && cvec_vector_await(seat, number) == CVEC_DONE);
+    HOLDS(grow(0, &number) == CVEC_DONE && cvec_seat_settle(seat, number, CVEC_NO_LIMIT) == CVEC_DONE);
     const int flags = fcntl(vector->fd, F_GETFD);
     HOLDS(dup2(out, STDOUT_FILENO) == STDOUT_FILENO && close(out) == 0);
     HOLDS(!wrong && flags == FD_CLOEXEC && vector->fd > STDERR_FILENO);
-    HOLDS(cvec_vector_close_seat(seat) == CVEC_DONE && cvec_vector_close(vector) == CVEC_DONE);
+    HOLDS(cvec_seat_close(&seat) == CVEC_DONE && cvec_vector_close(&vector) == CVEC_DONE);
     HOLDS(found(path) == 1);
 }
 
@@ -159,45 +159,45 @@ static void is_busy(const char *path) {
     make(path, 1);
     seat->busy = true; /* as another thread inside a call leaves it */
     HOLDS(grow(0, &number) == CVEC_BUSY);
-    HOLDS(cvec_vector_await(seat, 0) == CVEC_BUSY);
-    HOLDS(cvec_vector_await_for(seat, 0, 1) == CVEC_BUSY);
-    HOLDS(cvec_vector_size(seat, &count) == CVEC_BUSY);
+    HOLDS(cvec_seat_settle(seat, 0, CVEC_NO_LIMIT) == CVEC_BUSY);
+    HOLDS(cvec_seat_settle(seat, 0, 1) == CVEC_BUSY);
+    HOLDS(cvec_seat_size(seat, &count) == CVEC_BUSY);
     HOLDS(cvec_seat_settled(seat, &count) == CVEC_BUSY);
-    HOLDS(cvec_vector_read(seat, 0, &count, 1, &count) == CVEC_BUSY);
-    HOLDS(cvec_vector_at(seat, 0, &count) == CVEC_BUSY);
-    HOLDS(cvec_vector_push(seat, &number) == CVEC_BUSY);
-    HOLDS(cvec_vector_push_block(seat, 5) == CVEC_BUSY);
-    HOLDS(cvec_vector_grow_pushed(seat, NULL) == CVEC_BUSY);
-    HOLDS(cvec_vector_pushed(seat, &records, &kept) == CVEC_BUSY);
-    HOLDS(cvec_vector_block(seat, 1, &block) == CVEC_BUSY);
-    HOLDS(cvec_vector_publish(seat, NULL) == CVEC_BUSY);
-    HOLDS(cvec_vector_drop(seat) == CVEC_BUSY);
-    HOLDS(cvec_vector_pieces(seat, 0, &piece, 1, &kept) == CVEC_BUSY);
-    HOLDS(cvec_vector_count(seat, 0, &count) == CVEC_BUSY);
-    HOLDS(cvec_vector_find(seat, 0, 0, &count) == CVEC_BUSY);
-    HOLDS(cvec_vector_close_seat(seat) == CVEC_BUSY);
+    HOLDS(cvec_seat_read_u64(seat, 0, &count, 1, &count) == CVEC_BUSY);
+    HOLDS(cvec_seat_at(seat, vector->type, 0, &count) == CVEC_BUSY);
+    HOLDS(cvec_seat_push(seat, vector->type, &number) == CVEC_BUSY);
+    HOLDS(cvec_seat_push_block(seat, 5) == CVEC_BUSY);
+    HOLDS(cvec_seat_flush(seat, NULL) == CVEC_BUSY);
+    HOLDS(cvec_seat_waiting(seat, &records, &kept) == CVEC_BUSY);
+    HOLDS(cvec_seat_block(seat, 1, &block) == CVEC_BUSY);
+    HOLDS(cvec_seat_publish(seat, NULL) == CVEC_BUSY);
+    HOLDS(cvec_seat_drop(seat) == CVEC_BUSY);
+    HOLDS(cvec_seat_pieces(seat, 0, &piece, 1, &kept) == CVEC_BUSY);
+    HOLDS(cvec_seat_count_u64(seat, 0, &count) == CVEC_BUSY);
+    HOLDS(cvec_seat_find_u64(seat, 0, 0, &count) == CVEC_BUSY);
+    HOLDS(cvec_seat_close(&seat) == CVEC_BUSY);
     seat->busy = false;
     /* Each call leaves the seat free. */
     HOLDS(grow(0, &number) == CVEC_DONE);
-    HOLDS(cvec_vector_await(seat, number) == CVEC_DONE);
-    HOLDS(cvec_vector_size(seat, &count) == CVEC_DONE && count == 1);
+    HOLDS(cvec_seat_settle(seat, number, CVEC_NO_LIMIT) == CVEC_DONE);
+    HOLDS(cvec_seat_size(seat, &count) == CVEC_DONE && count == 1);
     HOLDS(cvec_seat_settled(seat, &count) == CVEC_DONE && count == 1);
-    HOLDS(cvec_vector_read(seat, 0, &number, 1, &count) == CVEC_DONE && count == 1);
-    HOLDS(cvec_vector_at(seat, 0, &number) == CVEC_DONE);
-    HOLDS(cvec_vector_push_block(seat, 5) == CVEC_DONE);
-    HOLDS(cvec_vector_push(seat, &number) == CVEC_DONE);
-    HOLDS(cvec_vector_pushed(seat, &records, &kept) == CVEC_DONE && kept == 1);
-    HOLDS(cvec_vector_grow_pushed(seat, NULL) == CVEC_DONE);
-    HOLDS(cvec_vector_block(seat, 1, &block) == CVEC_DONE);
-    HOLDS(cvec_vector_block(seat, 1, &block) == CVEC_NOT_SO);
-    HOLDS(cvec_vector_publish(seat, NULL) == CVEC_DONE);
-    HOLDS(cvec_vector_publish(seat, NULL) == CVEC_NOT_SO);
-    HOLDS(cvec_vector_drop(seat) == CVEC_NOT_SO);
-    HOLDS(cvec_vector_pieces(seat, 0, &piece, 1, &kept) == CVEC_DONE && kept == 1);
-    HOLDS(cvec_vector_count(seat, 0, &count) == CVEC_DONE && count == 3);
-    HOLDS(cvec_vector_find(seat, 1, 0, &count) == CVEC_DONE && count == 3);
-    HOLDS(cvec_vector_close_seat(seat) == CVEC_DONE);
-    HOLDS(cvec_vector_close(vector) == CVEC_DONE);
+    HOLDS(cvec_seat_read_u64(seat, 0, &number, 1, &count) == CVEC_DONE && count == 1);
+    HOLDS(cvec_seat_at(seat, vector->type, 0, &number) == CVEC_DONE);
+    HOLDS(cvec_seat_push_block(seat, 5) == CVEC_DONE);
+    HOLDS(cvec_seat_push(seat, vector->type, &number) == CVEC_DONE);
+    HOLDS(cvec_seat_waiting(seat, &records, &kept) == CVEC_DONE && kept == 1);
+    HOLDS(cvec_seat_flush(seat, NULL) == CVEC_DONE);
+    HOLDS(cvec_seat_block(seat, 1, &block) == CVEC_DONE);
+    HOLDS(cvec_seat_block(seat, 1, &block) == CVEC_NOT_SO);
+    HOLDS(cvec_seat_publish(seat, NULL) == CVEC_DONE);
+    HOLDS(cvec_seat_publish(seat, NULL) == CVEC_NOT_SO);
+    HOLDS(cvec_seat_drop(seat) == CVEC_NOT_SO);
+    HOLDS(cvec_seat_pieces(seat, 0, &piece, 1, &kept) == CVEC_DONE && kept == 1);
+    HOLDS(cvec_seat_count_u64(seat, 0, &count) == CVEC_DONE && count == 3);
+    HOLDS(cvec_seat_find_u64(seat, 1, 0, &count) == CVEC_DONE && count == 3);
+    HOLDS(cvec_seat_close(&seat) == CVEC_DONE);
+    HOLDS(cvec_vector_close(&vector) == CVEC_DONE);
 }
 
 static int is_refused_in_a_fork(void) {
@@ -206,32 +206,32 @@ static int is_refused_in_a_fork(void) {
     void *block;
     size_t kept;
     cvec_piece piece;
-    cvec_vector_seat *other;
-    return cvec_vector_block(seat, 1, &block) == CVEC_FORKED && cvec_vector_publish(seat, NULL) == CVEC_FORKED &&
-           cvec_vector_drop(seat) == CVEC_FORKED && cvec_vector_pieces(seat, 0, &piece, 1, &kept) == CVEC_FORKED &&
-           cvec_vector_count(seat, 0, &number) == CVEC_FORKED && cvec_vector_find(seat, 0, 0, &number) == CVEC_FORKED &&
+    cvec_seat *other;
+    return cvec_seat_block(seat, 1, &block) == CVEC_FORKED && cvec_seat_publish(seat, NULL) == CVEC_FORKED &&
+           cvec_seat_drop(seat) == CVEC_FORKED && cvec_seat_pieces(seat, 0, &piece, 1, &kept) == CVEC_FORKED &&
+           cvec_seat_count_u64(seat, 0, &number) == CVEC_FORKED && cvec_seat_find_u64(seat, 0, 0, &number) == CVEC_FORKED &&
            cvec_vector_hold(vector) == CVEC_FORKED && cvec_vector_release(vector) == CVEC_FORKED &&
-           cvec_vector_compact(vector) == CVEC_FORKED && grow(7, &number) == CVEC_FORKED && cvec_vector_await(seat, 0) == CVEC_FORKED &&
-           cvec_vector_size(seat, &number) == CVEC_FORKED && cvec_seat_settled(seat, &number) == CVEC_FORKED &&
-           cvec_vector_read(seat, 0, &number, 1, &number) == CVEC_FORKED && cvec_vector_take_seat(vector, &other) == CVEC_FORKED &&
-           cvec_vector_await_for(seat, 0, 1) == CVEC_FORKED && cvec_vector_run_flusher(vector, 1) == CVEC_FORKED &&
-           cvec_vector_seat_within(vector, 1, &other) == CVEC_FORKED && cvec_vector_stop_flusher(vector) == CVEC_FORKED &&
-           cvec_vector_flush(vector) == CVEC_FORKED && cvec_vector_at(seat, 0, &number) == CVEC_FORKED &&
-           cvec_vector_push(seat, &number) == CVEC_FORKED && cvec_vector_push_block(seat, 5) == CVEC_FORKED &&
-           cvec_vector_grow_pushed(seat, NULL) == CVEC_FORKED && cvec_vector_pushed(seat, &records, &kept) == CVEC_FORKED &&
-           cvec_vector_close_seat(seat) == CVEC_FORKED && cvec_vector_close(vector) == CVEC_FORKED;
+           cvec_vector_compact(vector) == CVEC_FORKED && grow(7, &number) == CVEC_FORKED && cvec_seat_settle(seat, 0, CVEC_NO_LIMIT) == CVEC_FORKED &&
+           cvec_seat_size(seat, &number) == CVEC_FORKED && cvec_seat_settled(seat, &number) == CVEC_FORKED &&
+           cvec_seat_read_u64(seat, 0, &number, 1, &number) == CVEC_FORKED && cvec_seat_take(vector, &other) == CVEC_FORKED &&
+           cvec_seat_settle(seat, 0, 1) == CVEC_FORKED && cvec_vector_run_flusher(vector, 1) == CVEC_FORKED &&
+           cvec_seat_take_within(vector, 1, &other) == CVEC_FORKED && cvec_vector_stop_flusher(vector) == CVEC_FORKED &&
+           cvec_vector_flush(vector) == CVEC_FORKED && cvec_seat_at(seat, vector->type, 0, &number) == CVEC_FORKED &&
+           cvec_seat_push(seat, vector->type, &number) == CVEC_FORKED && cvec_seat_push_block(seat, 5) == CVEC_FORKED &&
+           cvec_seat_flush(seat, NULL) == CVEC_FORKED && cvec_seat_waiting(seat, &records, &kept) == CVEC_FORKED &&
+           cvec_seat_close(&seat) == CVEC_FORKED && cvec_vector_close(&vector) == CVEC_FORKED;
 }
 
 /* The child has vectors of its own, and what was its parent's stays refused beside them. */
 static int has_its_own_in_a_fork(const char *path) {
     char own[4096];
     uint64_t number = 0;
-    cvec_vector_seat *parents = seat;
+    cvec_seat *parents = seat;
     snprintf(own, sizeof own, "%s.child", path);
     make(own, 1);
     return grow(9, &number) == CVEC_DONE && cvec_seat_settled(parents, &number) == CVEC_FORKED &&
-           cvec_vector_await(seat, 0) == CVEC_DONE && cvec_vector_close_seat(seat) == CVEC_DONE &&
-           cvec_vector_close(vector) == CVEC_DONE;
+           cvec_seat_settle(seat, 0, CVEC_NO_LIMIT) == CVEC_DONE && cvec_seat_close(&seat) == CVEC_DONE &&
+           cvec_vector_close(&vector) == CVEC_DONE;
 }
 
 static void *run_this_process(void *number) {
@@ -260,7 +260,7 @@ static void forks(const char *path) {
     int status = 1;
     make(path, 2);
     if (noted_process != &no_process) number_of_all = getpid();
-    HOLDS(cvec_vector_push(seat, &pushed) == CVEC_DONE);
+    HOLDS(cvec_seat_push(seat, vector->type, &pushed) == CVEC_DONE);
     pid_t child = fork();
     if (child == 0) _exit(is_refused_in_a_fork() ? 0 : 1);
     HOLDS(waitpid(child, &status, 0) == child && status == 0);
@@ -271,8 +271,8 @@ static void forks(const char *path) {
     if (child == 0) _exit(noted_process == &no_process || has_one_number_in_a_fork() ? 0 : 1);
     HOLDS(waitpid(child, &status, 0) == child && status == 0);
     HOLDS(grow(0, &number) == CVEC_DONE);
-    HOLDS(cvec_vector_close_seat(seat) == CVEC_DONE);
-    HOLDS(cvec_vector_close(vector) == CVEC_DONE);
+    HOLDS(cvec_seat_close(&seat) == CVEC_DONE);
+    HOLDS(cvec_vector_close(&vector) == CVEC_DONE);
     HOLDS(found(path) == 2);
 }
 
@@ -281,18 +281,18 @@ static void forks(const char *path) {
 static void unlocks(const char *path) {
     cvec_vector *other;
     int status = 1;
-    HOLDS(cvec_vector_create(&vector, path, 1, 1) == CVEC_DONE);
+    HOLDS(cvec_vector_create(&vector, path, CVEC_U64, &(cvec_options){.version = 1, .seats = 1}) == CVEC_DONE);
     if (wrong) return;
     pid_t child = fork();
-    if (child == 0) _exit(cvec_vector_close(vector) == CVEC_FORKED ? 0 : 1);
+    if (child == 0) _exit(cvec_vector_close(&vector) == CVEC_FORKED ? 0 : 1);
     HOLDS(waitpid(child, &status, 0) == child && status == 0);
-    HOLDS(cvec_vector_open(&other, path, 1) == CVEC_IN_USE && other == NULL);
+    HOLDS(cvec_vector_open(&other, path, CVEC_U64, &(cvec_options){.seats = 1}) == CVEC_IN_USE && other == NULL);
     child = fork();
     if (child == 0)
         for (;;) pause();
-    HOLDS(cvec_vector_close(vector) == CVEC_DONE);
-    HOLDS(cvec_vector_open(&vector, path, 1) == CVEC_DONE);
-    if (vector != NULL) HOLDS(cvec_vector_close(vector) == CVEC_DONE);
+    HOLDS(cvec_vector_close(&vector) == CVEC_DONE);
+    HOLDS(cvec_vector_open(&vector, path, CVEC_U64, &(cvec_options){.seats = 1}) == CVEC_DONE);
+    if (vector != NULL) HOLDS(cvec_vector_close(&vector) == CVEC_DONE);
     HOLDS(kill(child, SIGKILL) == 0 && waitpid(child, &status, 0) == child);
 }
 
@@ -301,9 +301,9 @@ static void unlocks(const char *path) {
 static void closes_locked(const char *path) {
     uint64_t number = 0;
     make(path, 1);
-    HOLDS(grow(0, &number) == CVEC_DONE && cvec_vector_close_seat(seat) == CVEC_DONE);
+    HOLDS(grow(0, &number) == CVEC_DONE && cvec_seat_close(&seat) == CVEC_DONE);
     watched_path = path;
-    HOLDS(cvec_vector_close(vector) == CVEC_DONE);
+    HOLDS(cvec_vector_close(&vector) == CVEC_DONE);
     watched_path = NULL;
     HOLDS(locked_calls == 4 && unlocked_calls == 0);
     HOLDS(found(path) == 1);
@@ -324,10 +324,10 @@ static void *start_programs(void *unused) {
 static void unlocks_beside_programs(const char *path) {
     enum { TIMES = 500 };
     pthread_t starter;
-    HOLDS(cvec_vector_create(&vector, path, 1, 1) == CVEC_DONE && cvec_vector_close(vector) == CVEC_DONE);
+    HOLDS(cvec_vector_create(&vector, path, CVEC_U64, &(cvec_options){.version = 1, .seats = 1}) == CVEC_DONE && cvec_vector_close(&vector) == CVEC_DONE);
     pthread_create(&starter, NULL, start_programs, NULL);
     for (int k = 0; k < TIMES && !wrong; k++)
-        HOLDS(cvec_vector_open(&vector, path, 1) == CVEC_DONE && cvec_vector_close(vector) == CVEC_DONE);
+        HOLDS(cvec_vector_open(&vector, path, CVEC_U64, &(cvec_options){.seats = 1}) == CVEC_DONE && cvec_vector_close(&vector) == CVEC_DONE);
     __atomic_store_n(&is_over, 1, __ATOMIC_SEQ_CST);
     pthread_join(starter, NULL);
 }
@@ -339,9 +339,9 @@ static void parts(const char *path) {
     interrupts = 1;
     make(path, 1);
     for (uint64_t k = 0; k < 20; k++) HOLDS(grow(k, &number) == CVEC_DONE);
-    HOLDS(cvec_vector_await(seat, number) == CVEC_DONE);
-    HOLDS(cvec_vector_close_seat(seat) == CVEC_DONE);
-    HOLDS(cvec_vector_close(vector) == CVEC_DONE);
+    HOLDS(cvec_seat_settle(seat, number, CVEC_NO_LIMIT) == CVEC_DONE);
+    HOLDS(cvec_seat_close(&seat) == CVEC_DONE);
+    HOLDS(cvec_vector_close(&vector) == CVEC_DONE);
     part = 0;
     interrupts = 0;
     HOLDS(found(path) == 20);
@@ -353,20 +353,20 @@ static void fails_at(const char *path, int call) {
     remove(path);
     make(path, 1);
     HOLDS(grow(0, &number) == CVEC_DONE);
-    HOLDS(cvec_vector_await(seat, number) == CVEC_DONE);
+    HOLDS(cvec_seat_settle(seat, number, CVEC_NO_LIMIT) == CVEC_DONE);
     HOLDS(grow(1, &number) == CVEC_DONE);
     left = call;
-    uint32_t failed = cvec_vector_await(seat, number);
+    uint32_t failed = cvec_seat_settle(seat, number, CVEC_NO_LIMIT);
     left = -1;
     HOLDS(failed == (call % 2 == 0 ? CVEC_DISK_WRITE : CVEC_DISK_SYNC));
     HOLDS(cvec_seat_settled(seat, &count) == CVEC_DONE && count == 1);
-    HOLDS(cvec_vector_await(seat, 0) == CVEC_DONE);
-    HOLDS(cvec_vector_await(seat, number) == CVEC_BROKEN);
+    HOLDS(cvec_seat_settle(seat, 0, CVEC_NO_LIMIT) == CVEC_DONE);
+    HOLDS(cvec_seat_settle(seat, number, CVEC_NO_LIMIT) == CVEC_BROKEN);
     HOLDS(grow(2, &number) == CVEC_BROKEN);
-    HOLDS(cvec_vector_size(seat, &count) == CVEC_DONE && count == 2);
-    HOLDS(cvec_vector_close_seat(seat) == CVEC_DONE);
+    HOLDS(cvec_seat_size(seat, &count) == CVEC_DONE && count == 2);
+    HOLDS(cvec_seat_close(&seat) == CVEC_DONE);
     int before = writes;
-    HOLDS(cvec_vector_close(vector) == CVEC_BROKEN);
+    HOLDS(cvec_vector_close(&vector) == CVEC_BROKEN);
     HOLDS(writes == before);
     count = found(path);
     HOLDS(count == (call < 2 ? 1 : count == 1 ? 1 : 2));
@@ -377,12 +377,12 @@ static void fails_at(const char *path, int call) {
 static void creation_fails_at(const char *path, int call) {
     remove(path);
     left = call;
-    HOLDS(cvec_vector_create(&vector, path, 1, 1) == (call == 3 || call == 5 || call == 7 ? CVEC_DISK_WRITE : CVEC_DISK_SYNC));
+    HOLDS(cvec_vector_create(&vector, path, CVEC_U64, &(cvec_options){.version = 1, .seats = 1}) == (call == 3 || call == 5 || call == 7 ? CVEC_DISK_WRITE : CVEC_DISK_SYNC));
     HOLDS(vector == NULL && left == -1 && errno == EIO);
     left = -1;
-    const uint32_t again = cvec_vector_create(&vector, path, 1, 1);
+    const uint32_t again = cvec_vector_create(&vector, path, CVEC_U64, &(cvec_options){.version = 1, .seats = 1});
     HOLDS(again == (call == 8 ? CVEC_EXISTS : CVEC_DONE));
-    if (again == CVEC_DONE) HOLDS(cvec_vector_close(vector) == CVEC_DONE);
+    if (again == CVEC_DONE) HOLDS(cvec_vector_close(&vector) == CVEC_DONE);
     HOLDS(found(path) == 0);
 }
 
@@ -393,20 +393,20 @@ static void faults(const char *path) {
     /* A folder that may not be read can't be synced; no sync has failed. */
     remove(path);
     folders_are_shut = 1;
-    HOLDS(cvec_vector_create(&vector, path, 1, 1) == CVEC_DISK_OPEN && errno == EACCES && vector == NULL);
+    HOLDS(cvec_vector_create(&vector, path, CVEC_U64, &(cvec_options){.version = 1, .seats = 1}) == CVEC_DISK_OPEN && errno == EACCES && vector == NULL);
     folders_are_shut = 0;
-    HOLDS(cvec_vector_create(&vector, path, 1, 1) == CVEC_DONE && cvec_vector_close(vector) == CVEC_DONE);
+    HOLDS(cvec_vector_create(&vector, path, CVEC_U64, &(cvec_options){.version = 1, .seats = 1}) == CVEC_DONE && cvec_vector_close(&vector) == CVEC_DONE);
     /* So where it is opened, and at the close. */
     for (int call = 0; call < 2; call++) {
         left = call;
-        HOLDS(cvec_vector_open(&vector, path, 1) == CVEC_DISK_SYNC && vector == NULL);
+        HOLDS(cvec_vector_open(&vector, path, CVEC_U64, &(cvec_options){.seats = 1}) == CVEC_DISK_SYNC && vector == NULL);
     }
     remove(path);
     make(path, 1);
     HOLDS(grow(0, &number) == CVEC_DONE);
-    HOLDS(cvec_vector_close_seat(seat) == CVEC_DONE);
+    HOLDS(cvec_seat_close(&seat) == CVEC_DONE);
     left = 0;
-    HOLDS(cvec_vector_close(vector) == CVEC_DISK_WRITE && errno == EIO);
+    HOLDS(cvec_vector_close(&vector) == CVEC_DISK_WRITE && errno == EIO);
     HOLDS(found(path) == 0);
 }
 
@@ -417,16 +417,16 @@ static void too_large(const char *path) {
     make(path, 1);
     for (uint64_t k = 0; k < 1024; k++) records[k] = k;
     setrlimit(RLIMIT_FSIZE, &most);
-    HOLDS(cvec_vector_grow(seat, records, 1024, &receipt) == CVEC_DONE);
-    HOLDS(cvec_vector_await(seat, receipt.number) == CVEC_DISK_WRITE);
+    HOLDS(cvec_seat_grow_u64(seat, records, 1024, &receipt) == CVEC_DONE);
+    HOLDS(cvec_seat_settle(seat, receipt.number, CVEC_NO_LIMIT) == CVEC_DISK_WRITE);
     HOLDS(errno == EFBIG);
     sigset_t held_back;
     HOLDS(pthread_sigmask(SIG_BLOCK, NULL, &held_back) == 0 && sigismember(&held_back, SIGXFSZ) == 0);
-    HOLDS(cvec_vector_await(seat, receipt.number) == CVEC_BROKEN);
+    HOLDS(cvec_seat_settle(seat, receipt.number, CVEC_NO_LIMIT) == CVEC_BROKEN);
     most.rlim_cur = RLIM_INFINITY;
     setrlimit(RLIMIT_FSIZE, &most);
-    HOLDS(cvec_vector_close_seat(seat) == CVEC_DONE);
-    HOLDS(cvec_vector_close(vector) == CVEC_BROKEN);
+    HOLDS(cvec_seat_close(&seat) == CVEC_DONE);
+    HOLDS(cvec_vector_close(&vector) == CVEC_BROKEN);
     HOLDS(found(path) == 0);
 }
 
@@ -438,29 +438,27 @@ static void write_file(const char *path, const char *bytes, size_t len) {
 static void refusals(const char *path) {
     static uint64_t many[131072];
     uint64_t count = 9, number = 0;
-    cvec_vector_seat *second;
+    cvec_seat *second;
     cvec_receipt receipt = {9, 9, 9, 9, 9};
-    HOLDS(cvec_vector_open(&vector, path, 1) == CVEC_DISK_OPEN);
-    HOLDS(cvec_vector_open(&vector, "/", 1) == CVEC_NOT_FILE);
-    HOLDS(cvec_vector_create(&vector, path, 3, 1) == CVEC_NOT_SO);
-    HOLDS(cvec_vector_create(&vector, path, 0, 1) == CVEC_NOT_SO);
-    HOLDS(cvec_vector_create(&vector, path, 1, 0) == CVEC_TOO_LARGE);
-    HOLDS(cvec_vector_create(&vector, path, 1, 65) == CVEC_TOO_LARGE);
+    HOLDS(cvec_vector_open(&vector, path, CVEC_U64, &(cvec_options){.seats = 1}) == CVEC_DISK_OPEN);
+    HOLDS(cvec_vector_open(&vector, "/", CVEC_U64, &(cvec_options){.seats = 1}) == CVEC_NOT_FILE);
+    HOLDS(cvec_vector_create(&vector, path, CVEC_U64, &(cvec_options){.version = 3, .seats = 1}) == CVEC_NOT_SO);
+    HOLDS(cvec_vector_create(&vector, path, CVEC_U64, &(cvec_options){.version = 1, .seats = 65}) == CVEC_TOO_LARGE);
     HOLDS(vector == NULL && access(path, F_OK) != 0);
     make(path, 1);
-    HOLDS(cvec_vector_take_seat(vector, &second) == CVEC_NOT_SO && second == NULL);
-    HOLDS(cvec_vector_close_seat(second) == CVEC_NOT_SO);
-    HOLDS(cvec_vector_grow(seat, many, 0, &receipt) == CVEC_EMPTY);
-    HOLDS(cvec_vector_grow(seat, many, 131072, &receipt) == CVEC_TOO_LARGE);
+    HOLDS(cvec_seat_take(vector, &second) == CVEC_NOT_SO && second == NULL);
+    HOLDS(cvec_seat_close(&second) == CVEC_NOT_SO);
+    HOLDS(cvec_seat_grow_u64(seat, many, 0, &receipt) == CVEC_EMPTY);
+    HOLDS(cvec_seat_grow_u64(seat, many, 131072, &receipt) == CVEC_TOO_LARGE);
     HOLDS(receipt.number == 9 && receipt.start == 9 && receipt.len == 9);
-    HOLDS(cvec_vector_grow(seat, many, 131071, NULL) == CVEC_DONE);
+    HOLDS(cvec_seat_grow_u64(seat, many, 131071, NULL) == CVEC_DONE);
     HOLDS(grow(5, &number) == CVEC_DONE && number == 1);
-    HOLDS(cvec_vector_await(seat, 2) == CVEC_OUT_OF_RANGE);
-    HOLDS(cvec_vector_await(seat, UINT64_MAX) == CVEC_OUT_OF_RANGE);
-    HOLDS(cvec_vector_read(seat, 131072, many, 1, &count) == CVEC_DONE && count == 0);
-    HOLDS(cvec_vector_read(seat, 131070, many, 9, &count) == CVEC_DONE && count == 2 && many[0] == 0 && many[1] == 5);
-    HOLDS(cvec_vector_close_seat(seat) == CVEC_DONE);
-    HOLDS(cvec_vector_close(vector) == CVEC_DONE);
+    HOLDS(cvec_seat_settle(seat, 2, CVEC_NO_LIMIT) == CVEC_OUT_OF_RANGE);
+    HOLDS(cvec_seat_settle(seat, UINT64_MAX, CVEC_NO_LIMIT) == CVEC_OUT_OF_RANGE);
+    HOLDS(cvec_seat_read_u64(seat, 131072, many, 1, &count) == CVEC_DONE && count == 0);
+    HOLDS(cvec_seat_read_u64(seat, 131070, many, 9, &count) == CVEC_DONE && count == 2 && many[0] == 0 && many[1] == 5);
+    HOLDS(cvec_seat_close(&seat) == CVEC_DONE);
+    HOLDS(cvec_vector_close(&vector) == CVEC_DONE);
     const struct {
         const char *bytes;
         size_t len;
@@ -473,7 +471,7 @@ static void refusals(const char *path) {
                   {"\1CVECSEG\1\10\0\1\11", 13, CVEC_DAMAGED}};
     for (size_t k = 0; k < sizeof others / sizeof *others; k++) {
         write_file(path, others[k].bytes, others[k].len);
-        HOLDS(cvec_vector_open(&vector, path, 1) == others[k].refusal);
+        HOLDS(cvec_vector_open(&vector, path, CVEC_U64, &(cvec_options){.seats = 1}) == others[k].refusal);
         HOLDS(vector == NULL);
     }
 }
@@ -503,16 +501,16 @@ static void foreign(const char *path) {
       left_there[] = {{"", 0}, {"\0", 1}, {"\1", 1}, {"\0CVEC", 5}, {"\0\0\0ECS\0\0\0\10\0\0", 12}, {"\0CVECSEG\1\10\0\0", 12}};
     for (size_t k = 0; k < sizeof others / sizeof *others; k++) {
         write_file(path, others[k].bytes, others[k].len);
-        HOLDS(cvec_vector_create(&vector, path, 1, 1) == CVEC_EXISTS && vector == NULL);
+        HOLDS(cvec_vector_create(&vector, path, CVEC_U64, &(cvec_options){.version = 1, .seats = 1}) == CVEC_EXISTS && vector == NULL);
         HOLDS(has_bytes(path, others[k].bytes, others[k].len));
     }
     for (size_t k = 0; k < sizeof left_there / sizeof *left_there; k++) {
         write_file(path, left_there[k].bytes, left_there[k].len);
-        HOLDS(cvec_vector_create(&vector, path, 1, 1) == CVEC_DONE && cvec_vector_close(vector) == CVEC_DONE);
+        HOLDS(cvec_vector_create(&vector, path, CVEC_U64, &(cvec_options){.version = 1, .seats = 1}) == CVEC_DONE && cvec_vector_close(&vector) == CVEC_DONE);
         HOLDS(has_bytes(path, "\1CVECSEG\1\10\0\0", 12));
     }
     write_file(path, "\0CVECSEG\2\10\0\0", 12);
-    HOLDS(cvec_vector_create(&vector, path, 2, 1) == CVEC_DONE && cvec_vector_close(vector) == CVEC_DONE);
+    HOLDS(cvec_vector_create(&vector, path, CVEC_U64, &(cvec_options){.version = 2, .seats = 1}) == CVEC_DONE && cvec_vector_close(&vector) == CVEC_DONE);
 }
 
 /* Where memory that is asked for ahead is refused, a growth is made all the same; and a file that can't be read isn't opened. */
@@ -521,73 +519,73 @@ static void memory(const char *path) {
     make(path, 1);
     mallocs = 0;
     HOLDS(grow(0, &number) == CVEC_DONE && mallocs == -1);
-    HOLDS(cvec_vector_close_seat(seat) == CVEC_DONE);
-    HOLDS(cvec_vector_close(vector) == CVEC_DONE);
+    HOLDS(cvec_seat_close(&seat) == CVEC_DONE);
+    HOLDS(cvec_vector_close(&vector) == CVEC_DONE);
     HOLDS(found(path) == 1);
     mallocs = 0;
-    HOLDS(cvec_vector_open(&vector, path, 1) == CVEC_MEMORY);
+    HOLDS(cvec_vector_open(&vector, path, CVEC_U64, &(cvec_options){.seats = 1}) == CVEC_MEMORY);
     HOLDS(vector == NULL);
     HOLDS(found(path) == 1);
 }
 
 /* The records from position 0 on are their positions, so many in all. */
-static void are_positions(cvec_vector_seat *own, uint64_t len) {
+static void are_positions(cvec_seat *own, uint64_t len) {
     static uint64_t seen[1 << 16];
     uint64_t size = 0, count = 0;
-    HOLDS(cvec_vector_size(own, &size) == CVEC_DONE && size == len);
+    HOLDS(cvec_seat_size(own, &size) == CVEC_DONE && size == len);
     for (uint64_t from = 0; from < len && !wrong; from += count) {
-        HOLDS(cvec_vector_read(own, from, seen, 1 << 16, &count) == CVEC_DONE && count > 0);
+        HOLDS(cvec_seat_read_u64(own, from, seen, 1 << 16, &count) == CVEC_DONE && count > 0);
         for (uint64_t k = 0; k < count && !wrong; k++) HOLDS(seen[k] == from + k);
     }
 }
 
 /* So also once it is closed and opened again. */
 static void leaves_positions(const char *path, uint64_t len) {
-    HOLDS(cvec_vector_close_seat(seat) == CVEC_DONE && cvec_vector_close(vector) == CVEC_DONE);
-    HOLDS(cvec_vector_open(&vector, path, 1) == CVEC_DONE);
+    HOLDS(cvec_seat_close(&seat) == CVEC_DONE && cvec_vector_close(&vector) == CVEC_DONE);
+    HOLDS(cvec_vector_open(&vector, path, CVEC_U64, &(cvec_options){.seats = 1}) == CVEC_DONE);
     if (wrong) exit(1);
-    HOLDS(cvec_vector_take_seat(vector, &seat) == CVEC_DONE);
+    HOLDS(cvec_seat_take(vector, &seat) == CVEC_DONE);
     are_positions(seat, len);
-    HOLDS(cvec_vector_close_seat(seat) == CVEC_DONE && cvec_vector_close(vector) == CVEC_DONE);
+    HOLDS(cvec_seat_close(&seat) == CVEC_DONE && cvec_vector_close(&vector) == CVEC_DONE);
 }
 
 /* Seats stay open where a phase is full, and numbers count on; those from before are durable. */
 static void full(const char *path) {
     enum { MOST = 1000 };
     uint64_t number = 0, count = 9;
-    cvec_vector_seat *other;
+    cvec_seat *other;
     cvec_receipt receipt;
     make_narrow(path, 2, MOST);
-    HOLDS(cvec_vector_take_seat(vector, &other) == CVEC_DONE);
+    HOLDS(cvec_seat_take(vector, &other) == CVEC_DONE);
     for (uint64_t k = 0; k < 2 * MOST + 1; k++) {
         if (grow(k, &number) != CVEC_DONE || number != k) HOLDS(!"it was grown");
         if (k == MOST - 1) HOLDS(cvec_seat_settled(other, &count) == CVEC_DONE && count == 0);
         if (k == MOST) HOLDS(cvec_seat_settled(other, &count) == CVEC_DONE && count == MOST);
         if (wrong) return;
     }
-    HOLDS(cvec_vector_at(other, MOST, &count) == CVEC_DONE && count == MOST);
-    HOLDS(cvec_vector_await_for(other, 0, 0) == CVEC_DONE && cvec_vector_await_for(other, 2 * MOST - 1, 0) == CVEC_DONE);
+    HOLDS(cvec_seat_at(other, vector->type, MOST, &count) == CVEC_DONE && count == MOST);
+    HOLDS(cvec_seat_settle(other, 0, 0) == CVEC_DONE && cvec_seat_settle(other, 2 * MOST - 1, 0) == CVEC_DONE);
     HOLDS(cvec_seat_settled(other, &count) == CVEC_DONE && count == 2 * MOST);
-    HOLDS(cvec_vector_await(other, 2 * MOST + 1) == CVEC_OUT_OF_RANGE);
+    HOLDS(cvec_seat_settle(other, 2 * MOST + 1, CVEC_NO_LIMIT) == CVEC_OUT_OF_RANGE);
     HOLDS(cvec_seat_settled(seat, &count) == CVEC_DONE && count == 2 * MOST + 1);
     count = 2 * MOST + 1;
-    HOLDS(cvec_vector_grow(other, &count, 1, &receipt) == CVEC_DONE && receipt.number == 2 * MOST + 1 && receipt.serial == 0);
+    HOLDS(cvec_seat_grow_u64(other, &count, 1, &receipt) == CVEC_DONE && receipt.number == 2 * MOST + 1 && receipt.serial == 0);
     HOLDS(receipt.seat == 1 && receipt.start == 2 * MOST + 1 && receipt.len == 1);
     are_positions(other, 2 * MOST + 2);
-    HOLDS(cvec_vector_close_seat(other) == CVEC_DONE);
+    HOLDS(cvec_seat_close(&other) == CVEC_DONE);
     leaves_positions(path, 2 * MOST + 2);
 }
 
 struct wait {
     pthread_t thread;
-    cvec_vector_seat *seat;
+    cvec_seat *seat;
     uint64_t number, milliseconds;
     uint32_t status;
 };
 
 static void *run_wait(void *work) {
     struct wait *wait = work;
-    wait->status = cvec_vector_await_for(wait->seat, wait->number, wait->milliseconds);
+    wait->status = cvec_seat_settle(wait->seat, wait->number, wait->milliseconds);
     return NULL;
 }
 
@@ -614,7 +612,7 @@ static void hold(struct wait *first, struct wait *second, uint64_t number) {
     shut_gate(1);
     begin_wait(first, number, 0);
     until_held();
-    begin_wait(second, number + 1, UINT64_MAX);
+    begin_wait(second, number + 1, CVEC_NO_LIMIT - 1);
     while (__atomic_load_n(&timed_waits, __ATOMIC_SEQ_CST) == before) nap();
 }
 
@@ -622,13 +620,13 @@ static void late(const char *path) {
     struct wait first, second;
     uint64_t number = 0;
     make(path, 3);
-    HOLDS(cvec_vector_take_seat(vector, &first.seat) == CVEC_DONE);
-    HOLDS(cvec_vector_take_seat(vector, &second.seat) == CVEC_DONE);
+    HOLDS(cvec_seat_take(vector, &first.seat) == CVEC_DONE);
+    HOLDS(cvec_seat_take(vector, &second.seat) == CVEC_DONE);
     HOLDS(grow(0, &number) == CVEC_DONE);
     hold(&first, &second, 0);
     HOLDS(grow(1, &number) == CVEC_DONE && number == 1);
     for (uint64_t milliseconds = 0; milliseconds < 30; milliseconds += 7)
-        for (number = 0; number < 2; number++) HOLDS(cvec_vector_await_for(seat, number, milliseconds) == CVEC_LATE);
+        for (number = 0; number < 2; number++) HOLDS(cvec_seat_settle(seat, number, milliseconds) == CVEC_LATE);
     HOLDS(settled() == 0);
     for (uint64_t milliseconds = 0; milliseconds < 1000; milliseconds++) HOLDS(cvec_moment_in(milliseconds).tv_nsec < 1000000000);
     /* A wait sleeps: it isn't woken again and again. */
@@ -636,19 +634,19 @@ static void late(const char *path) {
     shut_gate(0);
     /* Who commits ends its commit, though its time has passed. */
     HOLDS(end_of(&first) == CVEC_DONE && end_of(&second) == CVEC_DONE && settled() == 2);
-    HOLDS(cvec_vector_await_for(seat, 1, 0) == CVEC_DONE);
-    HOLDS(grow(2, &number) == CVEC_DONE && cvec_vector_await_for(seat, number, 0) == CVEC_DONE && settled() == 3);
-    HOLDS(cvec_vector_await_for(seat, 3, 0) == CVEC_OUT_OF_RANGE);
-    HOLDS(cvec_vector_await_for(seat, UINT64_MAX, 5) == CVEC_OUT_OF_RANGE);
+    HOLDS(cvec_seat_settle(seat, 1, 0) == CVEC_DONE);
+    HOLDS(grow(2, &number) == CVEC_DONE && cvec_seat_settle(seat, number, 0) == CVEC_DONE && settled() == 3);
+    HOLDS(cvec_seat_settle(seat, 3, 0) == CVEC_OUT_OF_RANGE);
+    HOLDS(cvec_seat_settle(seat, UINT64_MAX, 5) == CVEC_OUT_OF_RANGE);
     HOLDS(grow(3, &number) == CVEC_DONE);
     hold(&first, &second, 3);
-    HOLDS(cvec_vector_await_for(seat, 2, 0) == CVEC_DONE);
+    HOLDS(cvec_seat_settle(seat, 2, 0) == CVEC_DONE);
     left = 0;
     shut_gate(0);
     HOLDS(end_of(&first) == CVEC_DISK_SYNC && end_of(&second) == CVEC_BROKEN);
-    HOLDS(cvec_vector_await_for(seat, 3, 0) == CVEC_BROKEN);
-    HOLDS(cvec_vector_close_seat(first.seat) == CVEC_DONE && cvec_vector_close_seat(second.seat) == CVEC_DONE);
-    HOLDS(cvec_vector_close_seat(seat) == CVEC_DONE && cvec_vector_close(vector) == CVEC_BROKEN);
+    HOLDS(cvec_seat_settle(seat, 3, 0) == CVEC_BROKEN);
+    HOLDS(cvec_seat_close(&first.seat) == CVEC_DONE && cvec_seat_close(&second.seat) == CVEC_DONE);
+    HOLDS(cvec_seat_close(&seat) == CVEC_DONE && cvec_vector_close(&vector) == CVEC_BROKEN);
     HOLDS(found(path) == 3);
 }
 
@@ -658,31 +656,31 @@ static void leads(const char *path) {
     uint64_t number = 0;
     make(path, 8);
     all[0].seat = seat;
-    for (int k = 1; k < 8; k++) HOLDS(cvec_vector_take_seat(vector, &all[k].seat) == CVEC_DONE);
+    for (int k = 1; k < 8; k++) HOLDS(cvec_seat_take(vector, &all[k].seat) == CVEC_DONE);
     const int before = syncs, waited = timed_waits;
     shut_gate(1);
     for (uint64_t k = 0; k < 8; k++) {
         seat = all[k].seat;
         HOLDS(grow(k, &number) == CVEC_DONE && number == k);
-        begin_wait(&all[k], number, UINT64_MAX);
+        begin_wait(&all[k], number, CVEC_NO_LIMIT - 1);
         if (k == 0) until_held();
     }
     while (__atomic_load_n(&timed_waits, __ATOMIC_SEQ_CST) < waited + 7) nap();
     shut_gate(0);
     for (int k = 0; k < 8; k++) HOLDS(end_of(&all[k]) == CVEC_DONE);
     HOLDS(settled() == 8 && syncs == before + 4);
-    for (int k = 0; k < 8; k++) HOLDS(cvec_vector_close_seat(all[k].seat) == CVEC_DONE);
-    HOLDS(cvec_vector_close(vector) == CVEC_DONE && syncs == before + 4);
+    for (int k = 0; k < 8; k++) HOLDS(cvec_seat_close(&all[k].seat) == CVEC_DONE);
+    HOLDS(cvec_vector_close(&vector) == CVEC_DONE && syncs == before + 4);
     HOLDS(found(path) == 8);
 }
 
 /* Four threads that wait for each of their growths, each by a seat of its own. */
-static cvec_vector_seat *four[4];
+static cvec_seat *four[4];
 
 static void make_four(const char *path) {
     make(path, 4);
     four[0] = seat;
-    for (int k = 1; k < 4; k++) HOLDS(cvec_vector_take_seat(vector, &four[k]) == CVEC_DONE);
+    for (int k = 1; k < 4; k++) HOLDS(cvec_seat_take(vector, &four[k]) == CVEC_DONE);
 }
 
 /* A sync takes a while, so that the others come before it ends. */
@@ -695,15 +693,15 @@ static void run_four(void *(*work)(void *)) {
 }
 
 static void close_four(void) {
-    for (int k = 0; k < 4; k++) HOLDS(cvec_vector_close_seat(four[k]) == CVEC_DONE);
-    HOLDS(cvec_vector_close(vector) == CVEC_DONE);
+    for (int k = 0; k < 4; k++) HOLDS(cvec_seat_close(&four[k]) == CVEC_DONE);
+    HOLDS(cvec_vector_close(&vector) == CVEC_DONE);
 }
 
-static void grow_and_wait(cvec_vector_seat *own, const uint64_t *records, size_t count, int turns) {
+static void grow_and_wait(cvec_seat *own, const uint64_t *records, size_t count, int turns) {
     cvec_receipt receipt;
     for (int k = 0; k < turns; k++) {
-        HOLDS(cvec_vector_grow(own, records, count, &receipt) == CVEC_DONE);
-        HOLDS(cvec_vector_await(own, receipt.number) == CVEC_DONE);
+        HOLDS(cvec_seat_grow_u64(own, records, count, &receipt) == CVEC_DONE);
+        HOLDS(cvec_seat_settle(own, receipt.number, CVEC_NO_LIMIT) == CVEC_DONE);
     }
 }
 
@@ -745,10 +743,10 @@ static void gathers_no_large(const char *path) {
 static void late_between(const char *path) {
     static uint64_t many[131071];
     make(path, 1);
-    for (int k = 0; k < 2; k++) HOLDS(cvec_vector_grow(seat, many, 131071, NULL) == CVEC_DONE);
-    HOLDS(cvec_vector_await_for(seat, 1, 0) == CVEC_LATE && settled() == 1);
-    HOLDS(cvec_vector_await_for(seat, 1, 0) == CVEC_DONE && settled() == 2);
-    HOLDS(cvec_vector_close_seat(seat) == CVEC_DONE && cvec_vector_close(vector) == CVEC_DONE);
+    for (int k = 0; k < 2; k++) HOLDS(cvec_seat_grow_u64(seat, many, 131071, NULL) == CVEC_DONE);
+    HOLDS(cvec_seat_settle(seat, 1, 0) == CVEC_LATE && settled() == 1);
+    HOLDS(cvec_seat_settle(seat, 1, 0) == CVEC_DONE && settled() == 2);
+    HOLDS(cvec_seat_close(&seat) == CVEC_DONE && cvec_vector_close(&vector) == CVEC_DONE);
 }
 
 /* ---- flusher: growths become durable though nobody waits for them */
@@ -781,7 +779,7 @@ static void until_settled(uint64_t count) {
 
 static void flushes(const char *path) {
     pthread_t flusher, second, resting;
-    cvec_vector_seat *other;
+    cvec_seat *other;
     uint64_t number = 0;
     make(path, 2);
     begin_flusher(&flusher, &soon);
@@ -793,7 +791,7 @@ static void flushes(const char *path) {
         until_settled(k + 1);
     }
     /* A close that is refused ends no loop. */
-    HOLDS(cvec_vector_close(vector) == CVEC_BUSY);
+    HOLDS(cvec_vector_close(&vector) == CVEC_BUSY);
     HOLDS(grow(50, &number) == CVEC_DONE);
     until_settled(51);
     /* So are the growths of each seat, also of one that is closed. */
@@ -801,15 +799,15 @@ static void flushes(const char *path) {
     HOLDS(grow(51, &number) == CVEC_DONE);
     until_held();
     other = seat;
-    HOLDS(cvec_vector_take_seat(vector, &seat) == CVEC_DONE && grow(52, &number) == CVEC_DONE);
-    HOLDS(cvec_vector_close_seat(other) == CVEC_DONE);
+    HOLDS(cvec_seat_take(vector, &seat) == CVEC_DONE && grow(52, &number) == CVEC_DONE);
+    HOLDS(cvec_seat_close(&other) == CVEC_DONE);
     shut_gate(0);
     until_settled(53);
     HOLDS(cvec_vector_stop_flusher(vector) == CVEC_DONE);
     HOLDS(end_of_flusher(flusher) == CVEC_DONE && end_of_flusher(second) == CVEC_DONE && end_of_flusher(resting) == CVEC_DONE);
     HOLDS(grow(53, &number) == CVEC_DONE);
     HOLDS(cvec_vector_run_flusher(vector, 1) == CVEC_DONE && settled() == 53);
-    HOLDS(cvec_vector_close_seat(seat) == CVEC_DONE && cvec_vector_close(vector) == CVEC_DONE);
+    HOLDS(cvec_seat_close(&seat) == CVEC_DONE && cvec_vector_close(&vector) == CVEC_DONE);
     HOLDS(found(path) == 54);
 }
 
@@ -820,49 +818,49 @@ static void flushes_all(const char *path) {
     struct wait first;
     uint64_t number = 0, size = 0;
     make(path, 2);
-    HOLDS(cvec_vector_take_seat(vector, &first.seat) == CVEC_DONE);
+    HOLDS(cvec_seat_take(vector, &first.seat) == CVEC_DONE);
     HOLDS(grow(0, &number) == CVEC_DONE);
     shut_gate(1);
     begin_wait(&first, 0, 0);
     until_held();
-    for (int k = 0; k < 3; k++) HOLDS(cvec_vector_grow(seat, many, 131071, NULL) == CVEC_DONE);
+    for (int k = 0; k < 3; k++) HOLDS(cvec_seat_grow_u64(seat, many, 131071, NULL) == CVEC_DONE);
     begin_flusher(&flusher, &never);
     while (flushers() == 0) nap();
     shut_gate(0);
     HOLDS(end_of(&first) == CVEC_DONE);
     until_settled(4);
     /* It rests, until the close ends it, which commits what is left, and so does a call of the whole vector. */
-    for (int k = 0; k < 2; k++) HOLDS(cvec_vector_grow(seat, many, 131071, NULL) == CVEC_DONE);
+    for (int k = 0; k < 2; k++) HOLDS(cvec_seat_grow_u64(seat, many, 131071, NULL) == CVEC_DONE);
     HOLDS(grow(1, &number) == CVEC_DONE && settled() == 4);
-    HOLDS(cvec_vector_close_seat(first.seat) == CVEC_DONE && cvec_vector_close_seat(seat) == CVEC_DONE);
-    HOLDS(cvec_vector_close(vector) == CVEC_DONE);
+    HOLDS(cvec_seat_close(&first.seat) == CVEC_DONE && cvec_seat_close(&seat) == CVEC_DONE);
+    HOLDS(cvec_vector_close(&vector) == CVEC_DONE);
     HOLDS(end_of_flusher(flusher) == CVEC_DONE);
-    HOLDS(cvec_vector_open(&vector, path, 1) == CVEC_DONE && cvec_vector_take_seat(vector, &seat) == CVEC_DONE);
-    HOLDS(cvec_vector_size(seat, &size) == CVEC_DONE && size == 5 * 131071 + 2);
-    for (int k = 0; k < 2; k++) HOLDS(cvec_vector_grow(seat, many, 131071, NULL) == CVEC_DONE);
-    HOLDS(cvec_vector_close_seat(seat) == CVEC_DONE);
-    HOLDS(cvec_vector_compact(vector) == CVEC_DONE && cvec_vector_take_seat(vector, &seat) == CVEC_DONE && settled() == 2);
-    HOLDS(cvec_vector_size(seat, &size) == CVEC_DONE && size == 7 * 131071 + 2);
-    HOLDS(cvec_vector_close_seat(seat) == CVEC_DONE);
-    HOLDS(cvec_vector_close(vector) == CVEC_DONE);
+    HOLDS(cvec_vector_open(&vector, path, CVEC_U64, &(cvec_options){.seats = 1}) == CVEC_DONE && cvec_seat_take(vector, &seat) == CVEC_DONE);
+    HOLDS(cvec_seat_size(seat, &size) == CVEC_DONE && size == 5 * 131071 + 2);
+    for (int k = 0; k < 2; k++) HOLDS(cvec_seat_grow_u64(seat, many, 131071, NULL) == CVEC_DONE);
+    HOLDS(cvec_seat_close(&seat) == CVEC_DONE);
+    HOLDS(cvec_vector_compact(vector) == CVEC_DONE && cvec_seat_take(vector, &seat) == CVEC_DONE && settled() == 2);
+    HOLDS(cvec_seat_size(seat, &size) == CVEC_DONE && size == 7 * 131071 + 2);
+    HOLDS(cvec_seat_close(&seat) == CVEC_DONE);
+    HOLDS(cvec_vector_close(&vector) == CVEC_DONE);
 }
 
 /* A turn of its own takes all that there is, of each seat, and takes none itself; behind a stop it takes nothing. */
 static void flushes_once(const char *path) {
     static uint64_t many[131071];
-    cvec_vector_seat *other = NULL;
+    cvec_seat *other = NULL;
     uint64_t number = 0;
     make(path, 2);
     HOLDS(cvec_vector_flush(vector) == CVEC_DONE && settled() == 0);
-    HOLDS(cvec_vector_take_seat(vector, &other) == CVEC_DONE && grow(0, &number) == CVEC_DONE);
+    HOLDS(cvec_seat_take(vector, &other) == CVEC_DONE && grow(0, &number) == CVEC_DONE);
     for (uint64_t k = 0; k < 2 * 131071; k++) {
         many[k % 131071] = k + 1;
-        if (k % 131071 == 131070) HOLDS(cvec_vector_grow(other, many, 131071, NULL) == CVEC_DONE);
+        if (k % 131071 == 131070) HOLDS(cvec_seat_grow_u64(other, many, 131071, NULL) == CVEC_DONE);
     }
     HOLDS(settled() == 0 && cvec_vector_flush(vector) == CVEC_DONE && settled() == 3 && flushers() == 0);
     HOLDS(grow(2 * 131071 + 1, &number) == CVEC_DONE && cvec_vector_stop_flusher(vector) == CVEC_DONE);
     HOLDS(cvec_vector_flush(vector) == CVEC_DONE && settled() == 3);
-    HOLDS(cvec_vector_close_seat(other) == CVEC_DONE && cvec_vector_close_seat(seat) == CVEC_DONE && cvec_vector_close(vector) == CVEC_DONE);
+    HOLDS(cvec_seat_close(&other) == CVEC_DONE && cvec_seat_close(&seat) == CVEC_DONE && cvec_vector_close(&vector) == CVEC_DONE);
     HOLDS(found(path) == 2 * 131071 + 2);
 }
 
@@ -873,13 +871,13 @@ static void flushes_blocks(const char *path) {
     make(path, 1);
     begin_flusher(&flusher, &soon);
     for (uint64_t k = 0; k < 20; k++) {
-        HOLDS(cvec_vector_block(seat, 1, &block) == CVEC_DONE);
+        HOLDS(cvec_seat_block(seat, 1, &block) == CVEC_DONE);
         if (wrong) exit(1);
         *(uint64_t *)block = k;
-        HOLDS(cvec_vector_publish(seat, NULL) == CVEC_DONE);
+        HOLDS(cvec_seat_publish(seat, NULL) == CVEC_DONE);
         until_settled(k + 1);
     }
-    HOLDS(cvec_vector_close_seat(seat) == CVEC_DONE && cvec_vector_close(vector) == CVEC_DONE);
+    HOLDS(cvec_seat_close(&seat) == CVEC_DONE && cvec_vector_close(&vector) == CVEC_DONE);
     HOLDS(end_of_flusher(flusher) == CVEC_DONE && found(path) == 20);
 }
 
@@ -895,7 +893,7 @@ static void flusher_fails(const char *path) {
     HOLDS(grow(1, &number) == CVEC_DONE);
     HOLDS(end_of_flusher(flusher) == CVEC_DISK_WRITE);
     HOLDS(grow(2, &number) == CVEC_BROKEN && cvec_vector_run_flusher(vector, 1) == CVEC_BROKEN && cvec_vector_flush(vector) == CVEC_BROKEN);
-    HOLDS(cvec_vector_close_seat(seat) == CVEC_DONE && cvec_vector_close(vector) == CVEC_BROKEN);
+    HOLDS(cvec_seat_close(&seat) == CVEC_DONE && cvec_vector_close(&vector) == CVEC_BROKEN);
     HOLDS(found(path) == 1);
 }
 
@@ -904,18 +902,18 @@ static void flusher_fails(const char *path) {
 /* The vector has just these records, as a seat reads them. */
 static void reads(const uint64_t *records, uint64_t len) {
     uint64_t seen[64], size = 0, count = 0;
-    HOLDS(cvec_vector_take_seat(vector, &seat) == CVEC_DONE);
-    HOLDS(cvec_vector_size(seat, &size) == CVEC_DONE && size == len);
-    HOLDS(cvec_vector_read(seat, 0, seen, 64, &count) == CVEC_DONE && count == len);
+    HOLDS(cvec_seat_take(vector, &seat) == CVEC_DONE);
+    HOLDS(cvec_seat_size(seat, &size) == CVEC_DONE && size == len);
+    HOLDS(cvec_seat_read_u64(seat, 0, seen, 64, &count) == CVEC_DONE && count == len);
     for (uint64_t k = 0; k < len && k < count; k++) HOLDS(seen[k] == records[k]);
-    HOLDS(cvec_vector_close_seat(seat) == CVEC_DONE);
+    HOLDS(cvec_seat_close(&seat) == CVEC_DONE);
 }
 
 /* So also once it is closed and opened again. */
 static void has(const char *path, const uint64_t *records, uint64_t len) {
     reads(records, len);
-    HOLDS(cvec_vector_close(vector) == CVEC_DONE);
-    HOLDS(cvec_vector_open(&vector, path, 2) == CVEC_DONE);
+    HOLDS(cvec_vector_close(&vector) == CVEC_DONE);
+    HOLDS(cvec_vector_open(&vector, path, CVEC_U64, &(cvec_options){.seats = 2}) == CVEC_DONE);
     if (wrong) exit(1);
     reads(records, len);
 }
@@ -923,8 +921,8 @@ static void has(const char *path, const uint64_t *records, uint64_t len) {
 /* What each call of the whole vector answers. */
 static void all_answer(uint32_t answer) {
     uint64_t record = 1;
-    HOLDS(cvec_vector_change(vector, 0, &record, 1) == answer);
-    HOLDS(cvec_vector_resize(vector, 1, 0) == answer);
+    HOLDS(cvec_vector_change_u64(vector, 0, &record, 1) == answer);
+    HOLDS(cvec_vector_resize_u64(vector, 1, 0) == answer);
     HOLDS(cvec_vector_clear(vector) == answer);
     HOLDS(cvec_vector_fold(vector) == answer);
     HOLDS(cvec_vector_compact(vector) == answer);
@@ -940,77 +938,77 @@ static void all_are_held_off(void) {
 /* How many records equal this one, and the first position from there on that has it, as a new seat finds them. */
 static uint64_t counted(uint64_t record) {
     uint64_t count = 9;
-    HOLDS(cvec_vector_take_seat(vector, &seat) == CVEC_DONE && cvec_vector_count(seat, record, &count) == CVEC_DONE);
-    HOLDS(cvec_vector_close_seat(seat) == CVEC_DONE);
+    HOLDS(cvec_seat_take(vector, &seat) == CVEC_DONE && cvec_seat_count_u64(seat, record, &count) == CVEC_DONE);
+    HOLDS(cvec_seat_close(&seat) == CVEC_DONE);
     return count;
 }
 
 static uint64_t first_of(uint64_t record, uint64_t from) {
     uint64_t place = 9;
-    HOLDS(cvec_vector_take_seat(vector, &seat) == CVEC_DONE && cvec_vector_find(seat, record, from, &place) == CVEC_DONE);
-    HOLDS(cvec_vector_close_seat(seat) == CVEC_DONE);
+    HOLDS(cvec_seat_take(vector, &seat) == CVEC_DONE && cvec_seat_find_u64(seat, record, from, &place) == CVEC_DONE);
+    HOLDS(cvec_seat_close(&seat) == CVEC_DONE);
     return place;
 }
 
 /* Two seats that grew 0, 1, .. 5, and are closed; the growths of the second weren't awaited. */
 static void grown(const char *path) {
-    cvec_vector_seat *first;
+    cvec_seat *first;
     uint64_t number = 0;
     make(path, 2);
     for (uint64_t k = 0; k < 3; k++) HOLDS(grow(k, &number) == CVEC_DONE);
-    HOLDS(cvec_vector_await(seat, number) == CVEC_DONE);
+    HOLDS(cvec_seat_settle(seat, number, CVEC_NO_LIMIT) == CVEC_DONE);
     first = seat;
     all_are_held_off();
-    HOLDS(cvec_vector_take_seat(vector, &seat) == CVEC_DONE);
+    HOLDS(cvec_seat_take(vector, &seat) == CVEC_DONE);
     if (wrong) exit(1);
     for (uint64_t k = 3; k < 6; k++) HOLDS(grow(k, &number) == CVEC_DONE && number == k);
-    HOLDS(cvec_vector_close_seat(first) == CVEC_DONE);
+    HOLDS(cvec_seat_close(&first) == CVEC_DONE);
     all_are_held_off();
-    HOLDS(cvec_vector_close_seat(seat) == CVEC_DONE);
+    HOLDS(cvec_seat_close(&seat) == CVEC_DONE);
 }
 
 static void alone(const char *path) {
     const uint64_t over[] = {12, 13, 12}, changed[] = {0, 1, 12, 13, 12, 5}, longer[] = {0, 1, 12, 13, 12, 5, 8, 8};
     uint64_t place = 9, number = 9;
-    cvec_vector_seat *second;
+    cvec_seat *second;
     grown(path);
-    HOLDS(cvec_vector_change(vector, 2, over, 3) == CVEC_DONE);
+    HOLDS(cvec_vector_change_u64(vector, 2, over, 3) == CVEC_DONE);
     HOLDS(counted(12) == 2 && counted(2) == 0);
     HOLDS(first_of(12, 0) == 2 && first_of(12, 3) == 4 && first_of(12, 5) == 6 && first_of(0, 0) == 0);
     has(path, changed, 6);
     /* Outside it, and shorter while the change isn't folded: nothing is written. */
     int before = writes;
-    HOLDS(cvec_vector_change(vector, 4, over, 3) == CVEC_OUT_OF_RANGE);
-    HOLDS(cvec_vector_resize(vector, 5, 0) == CVEC_UNFOLDED);
+    HOLDS(cvec_vector_change_u64(vector, 4, over, 3) == CVEC_OUT_OF_RANGE);
+    HOLDS(cvec_vector_resize_u64(vector, 5, 0) == CVEC_UNFOLDED);
     HOLDS(cvec_vector_clear(vector) == CVEC_UNFOLDED);
-    HOLDS(cvec_vector_change(vector, 6, over, 0) == CVEC_DONE);
-    HOLDS(cvec_vector_resize(vector, 6, 7) == CVEC_DONE);
+    HOLDS(cvec_vector_change_u64(vector, 6, over, 0) == CVEC_DONE);
+    HOLDS(cvec_vector_resize_u64(vector, 6, 7) == CVEC_DONE);
     HOLDS(writes == before);
-    HOLDS(cvec_vector_resize(vector, 8, 8) == CVEC_DONE);
+    HOLDS(cvec_vector_resize_u64(vector, 8, 8) == CVEC_DONE);
     HOLDS(writes == before + 2);
     has(path, longer, 8);
     /* What was changed before it was opened is folded, and what was changed since, twice or grown since. */
-    HOLDS(cvec_vector_change(vector, 1, over, 3) == CVEC_DONE);
-    HOLDS(cvec_vector_change(vector, 1, longer + 1, 7) == CVEC_DONE);
+    HOLDS(cvec_vector_change_u64(vector, 1, over, 3) == CVEC_DONE);
+    HOLDS(cvec_vector_change_u64(vector, 1, longer + 1, 7) == CVEC_DONE);
     HOLDS(cvec_vector_fold(vector) == CVEC_DONE);
     before = writes;
     HOLDS(cvec_vector_fold(vector) == CVEC_DONE);
     HOLDS(writes == before);
     has(path, longer, 8);
-    HOLDS(cvec_vector_resize(vector, 6, 0) == CVEC_DONE);
+    HOLDS(cvec_vector_resize_u64(vector, 6, 0) == CVEC_DONE);
     has(path, changed, 6);
     HOLDS(cvec_vector_clear(vector) == CVEC_DONE);
     HOLDS(first_of(0, 0) == 0);
     /* Each seat is given again, and their growths are counted on from when it was opened. */
-    HOLDS(cvec_vector_take_seat(vector, &seat) == CVEC_DONE);
-    HOLDS(cvec_vector_take_seat(vector, &second) == CVEC_DONE);
+    HOLDS(cvec_seat_take(vector, &seat) == CVEC_DONE);
+    HOLDS(cvec_seat_take(vector, &second) == CVEC_DONE);
     HOLDS(grow(0, &number) == CVEC_DONE && number == 0);
     HOLDS(cvec_seat_settled(seat, &place) == CVEC_DONE && place == 0);
-    HOLDS(cvec_vector_await(second, number) == CVEC_DONE);
+    HOLDS(cvec_seat_settle(second, number, CVEC_NO_LIMIT) == CVEC_DONE);
     HOLDS(cvec_seat_settled(second, &place) == CVEC_DONE && place == 1);
-    HOLDS(cvec_vector_close_seat(seat) == CVEC_DONE);
-    HOLDS(cvec_vector_close_seat(second) == CVEC_DONE);
-    HOLDS(cvec_vector_close(vector) == CVEC_DONE);
+    HOLDS(cvec_seat_close(&seat) == CVEC_DONE);
+    HOLDS(cvec_seat_close(&second) == CVEC_DONE);
+    HOLDS(cvec_vector_close(&vector) == CVEC_DONE);
     HOLDS(found(path) == 1);
 }
 
@@ -1022,18 +1020,18 @@ static void alone_fails_at(const char *path, int call) {
     grown(path);
     HOLDS(cvec_vector_compact(vector) == CVEC_DONE);
     left = call;
-    HOLDS(cvec_vector_change(vector, 0, over, 1) == (call % 2 == 0 ? CVEC_DISK_WRITE : CVEC_DISK_SYNC));
+    HOLDS(cvec_vector_change_u64(vector, 0, over, 1) == (call % 2 == 0 ? CVEC_DISK_WRITE : CVEC_DISK_SYNC));
     left = -1;
     int before = writes;
     all_answer(CVEC_BROKEN);
-    HOLDS(cvec_vector_take_seat(vector, &seat) == CVEC_BROKEN && seat == NULL);
-    HOLDS(cvec_vector_close(vector) == CVEC_BROKEN);
+    HOLDS(cvec_seat_take(vector, &seat) == CVEC_BROKEN && seat == NULL);
+    HOLDS(cvec_vector_close(&vector) == CVEC_BROKEN);
     HOLDS(writes == before);
-    HOLDS(cvec_vector_open(&vector, path, 2) == CVEC_DONE);
+    HOLDS(cvec_vector_open(&vector, path, CVEC_U64, &(cvec_options){.seats = 2}) == CVEC_DONE);
     count = counted(9);
     HOLDS(count <= (call < 2 ? 0 : 1));
     has(path, count == 0 ? was : is, 6);
-    HOLDS(cvec_vector_close(vector) == CVEC_DONE);
+    HOLDS(cvec_vector_close(&vector) == CVEC_DONE);
 }
 
 static void alone_faults(const char *path) {
@@ -1045,7 +1043,7 @@ static void alone_faults(const char *path) {
     HOLDS(cvec_vector_clear(vector) == CVEC_DISK_WRITE);
     left = -1;
     all_answer(CVEC_BROKEN);
-    HOLDS(cvec_vector_close(vector) == CVEC_BROKEN);
+    HOLDS(cvec_vector_close(&vector) == CVEC_BROKEN);
     HOLDS(found(path) == 3);
 }
 
@@ -1059,7 +1057,7 @@ static void alone_forks(const char *path) {
     }
     HOLDS(waitpid(child, &status, 0) == child && status == 0);
     HOLDS(cvec_vector_clear(vector) == CVEC_DONE);
-    HOLDS(cvec_vector_close(vector) == CVEC_DONE);
+    HOLDS(cvec_vector_close(&vector) == CVEC_DONE);
     HOLDS(found(path) == 0);
 }
 
@@ -1081,7 +1079,7 @@ static uint32_t waits_for_flusher(void *(*call)(void *)) {
     while (__atomic_load_n(&waits, __ATOMIC_SEQ_CST) == before && holds() < 2) nap();
     HOLDS(holds() == 1);
     __atomic_store_n(&wait_opens_gate, 1, __ATOMIC_SEQ_CST);
-    HOLDS(cvec_vector_close(vector) == CVEC_BUSY);
+    HOLDS(cvec_vector_close(&vector) == CVEC_BUSY);
     if (wrong) exit(1);
     __atomic_store_n(&wait_opens_gate, 0, __ATOMIC_SEQ_CST);
     HOLDS(holds() == 1 && flushers() == 1);
@@ -1102,13 +1100,13 @@ static void alone_waits(const char *path) {
     begin_wait(&first, number, 0);
     until_held();
     all_are_held_off();
-    HOLDS(cvec_vector_take_seat(vector, &seat) == CVEC_DONE);
+    HOLDS(cvec_seat_take(vector, &seat) == CVEC_DONE);
     shut_gate(0);
-    HOLDS(end_of(&first) == CVEC_DONE && cvec_vector_close_seat(first.seat) == CVEC_DONE);
+    HOLDS(end_of(&first) == CVEC_DONE && cvec_seat_close(&first.seat) == CVEC_DONE);
     HOLDS(grow(1, &number) == CVEC_DONE);
-    HOLDS(cvec_vector_close_seat(seat) == CVEC_DONE);
+    HOLDS(cvec_seat_close(&seat) == CVEC_DONE);
     HOLDS(waits_for_flusher(run_clear) == CVEC_DONE);
-    HOLDS(cvec_vector_close(vector) == CVEC_DONE);
+    HOLDS(cvec_vector_close(&vector) == CVEC_DONE);
     HOLDS(found(path) == 0);
 }
 
@@ -1118,21 +1116,21 @@ static void seat_is_had_again(const char *path) {
     uint64_t number = 9;
     make(path, 1);
     HOLDS(grow(0, &number) == CVEC_DONE);
-    HOLDS(cvec_vector_close_seat(seat) == CVEC_DONE);
+    HOLDS(cvec_seat_close(&seat) == CVEC_DONE);
     shut_gate(1);
     begin_flusher(&flusher, &never);
     until_held();
     for (uint64_t k = 1; k < 200; k++) {
-        HOLDS(cvec_vector_take_seat(vector, &seat) == CVEC_DONE);
+        HOLDS(cvec_seat_take(vector, &seat) == CVEC_DONE);
         HOLDS(grow(k, &number) == CVEC_DONE && number == k);
-        HOLDS(cvec_vector_close_seat(seat) == CVEC_DONE);
+        HOLDS(cvec_seat_close(&seat) == CVEC_DONE);
     }
     HOLDS(holds() == 1);
     shut_gate(0);
-    HOLDS(cvec_vector_fold(vector) == CVEC_DONE && cvec_vector_take_seat(vector, &seat) == CVEC_DONE);
+    HOLDS(cvec_vector_fold(vector) == CVEC_DONE && cvec_seat_take(vector, &seat) == CVEC_DONE);
     HOLDS(settled() == 200 && grow(200, &number) == CVEC_DONE && number == 200);
     HOLDS(cvec_vector_stop_flusher(vector) == CVEC_DONE && end_of_flusher(flusher) == CVEC_DONE);
-    HOLDS(cvec_vector_close_seat(seat) == CVEC_DONE && cvec_vector_close(vector) == CVEC_DONE);
+    HOLDS(cvec_seat_close(&seat) == CVEC_DONE && cvec_vector_close(&vector) == CVEC_DONE);
     HOLDS(found(path) == 201);
 }
 
@@ -1152,13 +1150,13 @@ static void alone_beside_a_late_flusher(const char *path) {
     while (__atomic_load_n(&waits, __ATOMIC_SEQ_CST) == before) nap();
     __atomic_store_n(&dozing, 1, __ATOMIC_SEQ_CST);
     shut_gate(0);
-    HOLDS(end_of(&first) == CVEC_DONE && cvec_vector_close_seat(seat) == CVEC_DONE);
-    HOLDS(cvec_vector_take_seat(vector, &seat) == CVEC_DONE && grow(3, &number) == CVEC_DONE && number == 3);
-    HOLDS(cvec_vector_close_seat(seat) == CVEC_DONE && cvec_vector_compact(vector) == CVEC_DONE);
+    HOLDS(end_of(&first) == CVEC_DONE && cvec_seat_close(&seat) == CVEC_DONE);
+    HOLDS(cvec_seat_take(vector, &seat) == CVEC_DONE && grow(3, &number) == CVEC_DONE && number == 3);
+    HOLDS(cvec_seat_close(&seat) == CVEC_DONE && cvec_vector_compact(vector) == CVEC_DONE);
     before = __atomic_load_n(&timed_waits, __ATOMIC_SEQ_CST);
     __atomic_store_n(&dozing, 0, __ATOMIC_SEQ_CST);
     while (__atomic_load_n(&timed_waits, __ATOMIC_SEQ_CST) == before && flushers() > 0) nap();
-    HOLDS(cvec_vector_compact(vector) == CVEC_DONE && cvec_vector_close(vector) == CVEC_DONE);
+    HOLDS(cvec_vector_compact(vector) == CVEC_DONE && cvec_vector_close(&vector) == CVEC_DONE);
     HOLDS(end_of_flusher(flusher) == CVEC_DONE);
     HOLDS(found(path) == 4);
 }
@@ -1172,18 +1170,18 @@ static void alone_flushes(const char *path) {
     begin_flusher(&flusher, &soon);
     for (uint64_t k = 0; k < 50; k++) {
         HOLDS(grow(k, &number) == CVEC_DONE && number == k);
-        HOLDS(cvec_vector_close_seat(seat) == CVEC_DONE);
-        HOLDS(cvec_vector_change(vector, k, over, 1) == CVEC_DONE);
-        HOLDS(cvec_vector_take_seat(vector, &seat) == CVEC_DONE);
-        HOLDS(cvec_vector_count(seat, 7, &place) == CVEC_DONE && place == k + 1);
+        HOLDS(cvec_seat_close(&seat) == CVEC_DONE);
+        HOLDS(cvec_vector_change_u64(vector, k, over, 1) == CVEC_DONE);
+        HOLDS(cvec_seat_take(vector, &seat) == CVEC_DONE);
+        HOLDS(cvec_seat_count_u64(seat, 7, &place) == CVEC_DONE && place == k + 1);
     }
     HOLDS(grow(8, &number) == CVEC_DONE && number == 50);
     until_settled(51);
-    HOLDS(cvec_vector_close_seat(seat) == CVEC_DONE && cvec_vector_close(vector) == CVEC_DONE);
+    HOLDS(cvec_seat_close(&seat) == CVEC_DONE && cvec_vector_close(&vector) == CVEC_DONE);
     HOLDS(end_of_flusher(flusher) == CVEC_DONE);
-    HOLDS(cvec_vector_open(&vector, path, 1) == CVEC_DONE);
+    HOLDS(cvec_vector_open(&vector, path, CVEC_U64, &(cvec_options){.seats = 1}) == CVEC_DONE);
     HOLDS(first_of(8, 0) == 50);
-    HOLDS(cvec_vector_close(vector) == CVEC_DONE);
+    HOLDS(cvec_vector_close(&vector) == CVEC_DONE);
 }
 
 /* ---- records of each type */
@@ -1191,7 +1189,7 @@ static void alone_flushes(const char *path) {
 static uint32_t grow_typed(cvec_type type, const uint64_t *numbers, size_t count, cvec_receipt *receipt) {
     union record records[16];
     put_records(type, numbers, count, (uint8_t *)records);
-    return cvec_vector_grow_records(seat, records, count, receipt);
+    return cvec_seat_grow(seat, vector->type, records, count, receipt);
 }
 
 /* The vector has just the records of these numbers, as a seat reads them; and what follows them in memory stays. */
@@ -1199,24 +1197,24 @@ static void reads_typed(cvec_type type, const uint64_t *numbers, uint64_t len) {
     uint8_t seen[17 * sizeof(union record)];
     uint64_t size = 0, count = 0;
     memset(seen, 0xa5, sizeof seen);
-    HOLDS(cvec_vector_take_seat(vector, &seat) == CVEC_DONE);
-    HOLDS(cvec_vector_size(seat, &size) == CVEC_DONE && size == len);
-    HOLDS(cvec_vector_read_records(seat, 0, seen, 16, &count) == CVEC_DONE && count == len);
+    HOLDS(cvec_seat_take(vector, &seat) == CVEC_DONE);
+    HOLDS(cvec_seat_size(seat, &size) == CVEC_DONE && size == len);
+    HOLDS(cvec_seat_read(seat, vector->type, 0, seen, 16, &count) == CVEC_DONE && count == len);
     for (uint64_t k = 0; k < len && k < count; k++) HOLDS(is_record(type, seen + k * size_of(type), numbers[k]));
     HOLDS(seen[len * size_of(type)] == 0xa5);
-    HOLDS(len < 2 || (cvec_vector_read_records(seat, len - 1, seen, 2, &count) == CVEC_DONE && count == 1 && is_record(type, seen, numbers[len - 1])));
-    HOLDS(cvec_vector_close_seat(seat) == CVEC_DONE);
+    HOLDS(len < 2 || (cvec_seat_read(seat, vector->type, len - 1, seen, 2, &count) == CVEC_DONE && count == 1 && is_record(type, seen, numbers[len - 1])));
+    HOLDS(cvec_seat_close(&seat) == CVEC_DONE);
 }
 
 /* So also once it is closed and opened again; and no file of records of another width is opened so. */
 static void has_typed(const char *path, cvec_type type, const uint64_t *numbers, uint64_t len) {
     reads_typed(type, numbers, len);
-    HOLDS(cvec_vector_close(vector) == CVEC_DONE);
+    HOLDS(cvec_vector_close(&vector) == CVEC_DONE);
     for (int k = 0; k < VECTOR_TYPES; k++) {
         const cvec_type other = vector_types[k];
-        if (width_of(other) != width_of(type)) HOLDS(cvec_vector_open_as(&vector, path, other, 2) == CVEC_WIDTH && vector == NULL);
+        if (width_of(other) != width_of(type)) HOLDS(cvec_vector_open(&vector, path, other, &(cvec_options){.seats = 2}) == CVEC_WIDTH && vector == NULL);
     }
-    HOLDS(cvec_vector_open_as(&vector, path, type, 2) == CVEC_DONE);
+    HOLDS(cvec_vector_open(&vector, path, type, &(cvec_options){.seats = 2}) == CVEC_DONE);
     if (wrong) exit(1);
     reads_typed(type, numbers, len);
 }
@@ -1226,34 +1224,34 @@ static void grows_most(cvec_type type) {
     const size_t most = ((1u << 20) - 8) / width_of(type);
     uint8_t *records = calloc(most + 1, size_of(type));
     cvec_receipt receipt = {9, 9, 9, 9, 9};
-    HOLDS(cvec_vector_take_seat(vector, &seat) == CVEC_DONE);
-    HOLDS(cvec_vector_grow_records(seat, records, most + 1, &receipt) == CVEC_TOO_LARGE && receipt.len == 9);
-    HOLDS(cvec_vector_grow_records(seat, records, most, &receipt) == CVEC_DONE && receipt.len == most);
-    HOLDS(cvec_vector_close_seat(seat) == CVEC_DONE);
+    HOLDS(cvec_seat_take(vector, &seat) == CVEC_DONE);
+    HOLDS(cvec_seat_grow(seat, vector->type, records, most + 1, &receipt) == CVEC_TOO_LARGE && receipt.len == 9);
+    HOLDS(cvec_seat_grow(seat, vector->type, records, most, &receipt) == CVEC_DONE && receipt.len == most);
+    HOLDS(cvec_seat_close(&seat) == CVEC_DONE);
     free(records);
 }
 
 static void searches(cvec_type type, uint64_t number, uint64_t from, uint64_t count, uint64_t place) {
     const union record sought = record_of(type, number);
     uint64_t found_count = 9, found_place = 9;
-    HOLDS(cvec_vector_take_seat(vector, &seat) == CVEC_DONE);
-    HOLDS(cvec_vector_count_record(seat, &sought, &found_count) == CVEC_DONE && found_count == count);
-    HOLDS(cvec_vector_find_record(seat, &sought, from, &found_place) == CVEC_DONE && found_place == place);
-    HOLDS(cvec_vector_close_seat(seat) == CVEC_DONE);
+    HOLDS(cvec_seat_take(vector, &seat) == CVEC_DONE);
+    HOLDS(cvec_seat_count(seat, vector->type, &sought, &found_count) == CVEC_DONE && found_count == count);
+    HOLDS(cvec_seat_find(seat, vector->type, &sought, from, &found_place) == CVEC_DONE && found_place == place);
+    HOLDS(cvec_seat_close(&seat) == CVEC_DONE);
 }
 
 /* What names one record of u64 is for these alone. */
 static void is_for_words(cvec_type type) {
     const uint32_t answer = width_of(type) == 8 ? CVEC_DONE : CVEC_WIDTH;
     uint64_t out = 9, record = 9;
-    HOLDS(cvec_vector_resize(vector, 6, 0) == answer);
-    HOLDS(cvec_vector_change(vector, 6, &out, 0) == answer);
-    HOLDS(cvec_vector_take_seat(vector, &seat) == CVEC_DONE);
-    HOLDS(cvec_vector_count(seat, UINT64_MAX - 100, &out) == answer && out == (answer == CVEC_DONE ? 0 : 9));
-    HOLDS(cvec_vector_find(seat, UINT64_MAX - 100, 0, &out) == answer && out == (answer == CVEC_DONE ? 6 : 9));
-    HOLDS(cvec_vector_grow(seat, &out, 0, NULL) == (answer == CVEC_DONE ? CVEC_EMPTY : CVEC_WIDTH));
-    HOLDS(cvec_vector_read(seat, 6, &record, 1, &out) == answer);
-    HOLDS(cvec_vector_close_seat(seat) == CVEC_DONE);
+    HOLDS(cvec_vector_resize_u64(vector, 6, 0) == answer);
+    HOLDS(cvec_vector_change_u64(vector, 6, &out, 0) == answer);
+    HOLDS(cvec_seat_take(vector, &seat) == CVEC_DONE);
+    HOLDS(cvec_seat_count_u64(seat, UINT64_MAX - 100, &out) == answer && out == (answer == CVEC_DONE ? 0 : 9));
+    HOLDS(cvec_seat_find_u64(seat, UINT64_MAX - 100, 0, &out) == answer && out == (answer == CVEC_DONE ? 6 : 9));
+    HOLDS(cvec_seat_grow_u64(seat, &out, 0, NULL) == (answer == CVEC_DONE ? CVEC_EMPTY : CVEC_WIDTH));
+    HOLDS(cvec_seat_read_u64(seat, 6, &record, 1, &out) == answer);
+    HOLDS(cvec_seat_close(&seat) == CVEC_DONE);
 }
 
 static void typed_of(const char *path, cvec_type type, uint8_t version) {
@@ -1263,39 +1261,39 @@ static void typed_of(const char *path, cvec_type type, uint8_t version) {
     union record written[2];
     cvec_receipt receipt;
     remove(path);
-    HOLDS(cvec_vector_create_as(&vector, path, type, version, 2) == CVEC_DONE);
+    HOLDS(cvec_vector_create(&vector, path, type, &(cvec_options){.version = version, .seats = 2}) == CVEC_DONE);
     if (wrong) exit(1);
-    HOLDS(cvec_vector_take_seat(vector, &seat) == CVEC_DONE);
+    HOLDS(cvec_seat_take(vector, &seat) == CVEC_DONE);
     HOLDS(grow_typed(type, first, 0, &receipt) == CVEC_EMPTY);
     HOLDS(grow_typed(type, first, 4, &receipt) == CVEC_DONE && receipt.start == 0 && receipt.len == 4);
     HOLDS(grow_typed(type, more, 2, &receipt) == CVEC_DONE && receipt.start == 4 && receipt.len == 2);
-    HOLDS(cvec_vector_await(seat, receipt.number) == CVEC_DONE);
-    HOLDS(cvec_vector_close_seat(seat) == CVEC_DONE);
+    HOLDS(cvec_seat_settle(seat, receipt.number, CVEC_NO_LIMIT) == CVEC_DONE);
+    HOLDS(cvec_seat_close(&seat) == CVEC_DONE);
     has_typed(path, type, all, 6);
     searches(type, 1, 2, 2, 5);
     searches(type, 7, 0, 0, 6);
     put_records(type, over, 2, (uint8_t *)written);
-    HOLDS(cvec_vector_change_records(vector, 1, written, 2) == CVEC_DONE);
+    HOLDS(cvec_vector_change(vector, vector->type, 1, written, 2) == CVEC_DONE);
     searches(type, 7, 0, 1, 1);
     is_for_words(type);
     has_typed(path, type, changed, 6);
-    HOLDS(cvec_vector_resize_by(vector, 9, &filler) == CVEC_DONE);
+    HOLDS(cvec_vector_resize(vector, vector->type, 9, &filler) == CVEC_DONE);
     has_typed(path, type, longer, 9);
     HOLDS(cvec_vector_fold(vector) == CVEC_DONE);
-    HOLDS(cvec_vector_resize_by(vector, 6, &filler) == CVEC_DONE);
+    HOLDS(cvec_vector_resize(vector, vector->type, 6, &filler) == CVEC_DONE);
     has_typed(path, type, changed, 6);
     grows_most(type);
     HOLDS(cvec_vector_fold(vector) == CVEC_DONE && cvec_vector_clear(vector) == CVEC_DONE);
     has_typed(path, type, all, 0);
-    HOLDS(cvec_vector_close(vector) == CVEC_DONE);
+    HOLDS(cvec_vector_close(&vector) == CVEC_DONE);
 }
 
 /* No vector is made or opened by a type that files alone have, nor by a number that is none. */
 static void refuses_type(const char *path, cvec_type type) {
     remove(path);
-    HOLDS(cvec_vector_create_as(&vector, path, type, 1, 1) == CVEC_NOT_SO && vector == NULL && access(path, F_OK) != 0);
-    HOLDS(cvec_vector_create_as(&vector, path, CVEC_PAIR, 1, 1) == CVEC_DONE && cvec_vector_close(vector) == CVEC_DONE);
-    HOLDS(cvec_vector_open_as(&vector, path, type, 1) == CVEC_NOT_SO && vector == NULL);
+    HOLDS(cvec_vector_create(&vector, path, type, &(cvec_options){.version = 1, .seats = 1}) == CVEC_NOT_SO && vector == NULL && access(path, F_OK) != 0);
+    HOLDS(cvec_vector_create(&vector, path, CVEC_PAIR, &(cvec_options){.version = 1, .seats = 1}) == CVEC_DONE && cvec_vector_close(&vector) == CVEC_DONE);
+    HOLDS(cvec_vector_open(&vector, path, type, &(cvec_options){.seats = 1}) == CVEC_NOT_SO && vector == NULL);
 }
 
 static void typed(const char *path) {
@@ -1312,21 +1310,21 @@ static void flags(const char *path) {
     cvec_flagged records[2] = {{5, true}, {6, true}};
     uint64_t out = 9;
     cvec_receipt receipt = {9, 9, 9, 9, 9};
-    HOLDS(cvec_vector_create_as(&vector, path, CVEC_FLAGGED, 1, 1) == CVEC_DONE);
+    HOLDS(cvec_vector_create(&vector, path, CVEC_FLAGGED, &(cvec_options){.version = 1, .seats = 1}) == CVEC_DONE);
     if (wrong) exit(1);
-    HOLDS(cvec_vector_take_seat(vector, &seat) == CVEC_DONE);
+    HOLDS(cvec_seat_take(vector, &seat) == CVEC_DONE);
     HOLDS(grow_typed(CVEC_FLAGGED, first, 2, NULL) == CVEC_DONE);
     ((uint8_t *)&records[1])[8] = 2;
-    HOLDS(cvec_vector_grow_records(seat, records, 2, &receipt) == CVEC_NO_RECORD && receipt.number == 9);
-    HOLDS(cvec_vector_push(seat, &records[1]) == CVEC_NO_RECORD);
-    HOLDS(cvec_vector_grow_pushed(seat, &receipt) == CVEC_EMPTY && receipt.number == 9);
-    HOLDS(cvec_vector_count_record(seat, &records[1], &out) == CVEC_NO_RECORD);
-    HOLDS(cvec_vector_find_record(seat, &records[1], 0, &out) == CVEC_NO_RECORD && out == 9);
-    HOLDS(cvec_vector_close_seat(seat) == CVEC_DONE);
-    HOLDS(cvec_vector_change_records(vector, 0, records, 2) == CVEC_NO_RECORD);
-    HOLDS(cvec_vector_resize_by(vector, 3, &records[1]) == CVEC_NO_RECORD);
+    HOLDS(cvec_seat_grow(seat, vector->type, records, 2, &receipt) == CVEC_NO_RECORD && receipt.number == 9);
+    HOLDS(cvec_seat_push(seat, vector->type, &records[1]) == CVEC_NO_RECORD);
+    HOLDS(cvec_seat_flush(seat, &receipt) == CVEC_EMPTY && receipt.number == 9);
+    HOLDS(cvec_seat_count(seat, vector->type, &records[1], &out) == CVEC_NO_RECORD);
+    HOLDS(cvec_seat_find(seat, vector->type, &records[1], 0, &out) == CVEC_NO_RECORD && out == 9);
+    HOLDS(cvec_seat_close(&seat) == CVEC_DONE);
+    HOLDS(cvec_vector_change(vector, vector->type, 0, records, 2) == CVEC_NO_RECORD);
+    HOLDS(cvec_vector_resize(vector, vector->type, 3, &records[1]) == CVEC_NO_RECORD);
     has_typed(path, CVEC_FLAGGED, first, 2);
-    HOLDS(cvec_vector_close(vector) == CVEC_DONE);
+    HOLDS(cvec_vector_close(&vector) == CVEC_DONE);
 }
 
 /* A block is of its grower's width: one of another vector of that width publishes it, and none else. */
@@ -1365,7 +1363,7 @@ static void widths(const char *path) {
     HOLDS(cvec_phase_count(&vector->committer, two, 8, &count) == CVEC_NOT_SO && count == 9);
     HOLDS(cvec_phase_read(&vector->committer, 0, &out, 8, &count) == CVEC_NOT_SO && count == 9 && out == 9);
     /* So many records have more bytes than a number has: as many as one record by what is left of it. */
-    HOLDS(cvec_vector_grow_records(seat, two, SIZE_MAX / 8 + 2, &receipt) == CVEC_TOO_LARGE && receipt.number == 9);
+    HOLDS(cvec_seat_grow(seat, vector->type, two, SIZE_MAX / 8 + 2, &receipt) == CVEC_TOO_LARGE && receipt.number == 9);
     HOLDS(grow(5, &out) == CVEC_DONE && out == 0);
     out = 9;
     HOLDS(cvec_phase_read(&seat->grower, 0, &out, 7, &count) == CVEC_DONE && count == 0 && out == 9);
@@ -1376,12 +1374,12 @@ static void widths(const char *path) {
     HOLDS(cvec_phase_feed(&seat->grower, (const uint8_t *)"x", 1) == CVEC_NOT_SO);
     HOLDS(cvec_phase_begin(&seat->grower, 0, 5, 1, &vector->phase) == CVEC_NOT_SO);
     HOLDS(cvec_phase_call(&vector->committer, 0, &call) == CVEC_OUT_OF_RANGE && cvec_phase_call(&vector->phase, 0, &call) == CVEC_NOT_SO);
-    HOLDS(cvec_vector_close_seat(seat) == CVEC_DONE);
+    HOLDS(cvec_seat_close(&seat) == CVEC_DONE);
     HOLDS(cvec_vector_clear(vector) == CVEC_DONE);
     HOLDS(cvec_vault_change(&vector->committer, 0, two, 9) == CVEC_NO_RECORD);
     HOLDS(cvec_vault_resize(&vector->committer, 3, two, 4) == CVEC_NO_RECORD);
     HOLDS(cvec_vault_size(&vector->committer, &count) == CVEC_DONE && count == 0);
-    HOLDS(cvec_vector_close(vector) == CVEC_DONE);
+    HOLDS(cvec_vector_close(&vector) == CVEC_DONE);
 }
 
 /* The library takes a flag as the byte 0 or 1 and no other, and its records at any address. */
@@ -1391,30 +1389,30 @@ static void flags_by_bytes(const char *path) {
     uint8_t again[10] = {9, 9, 9, 9, 9, 9, 9, 9, 9, 9};
     cvec_receipt receipt = {9, 9, 9, 9, 9};
     uint64_t count = 9;
-    HOLDS(cvec_vector_create_as(&vector, path, CVEC_FLAGGED, 1, 1) == CVEC_DONE && cvec_vector_take_seat(vector, &seat) == CVEC_DONE);
+    HOLDS(cvec_vector_create(&vector, path, CVEC_FLAGGED, &(cvec_options){.version = 1, .seats = 1}) == CVEC_DONE && cvec_seat_take(vector, &seat) == CVEC_DONE);
     HOLDS(cvec_phase_grow(&seat->grower, bytes + 1, 18, &receipt) == CVEC_NO_RECORD && receipt.number == 9);
     HOLDS(cvec_phase_count(&seat->grower, bytes + 10, 9, &count) == CVEC_NO_RECORD && count == 9);
     HOLDS(cvec_phase_grow(&seat->grower, bytes + 1, 9, &receipt) == CVEC_DONE && receipt.number == 0 && receipt.len == 1);
-    HOLDS(cvec_vector_read_records(seat, 0, out, 2, &count) == CVEC_DONE && count == 1 && out[0].key == 5 && out[0].flag);
+    HOLDS(cvec_seat_read(seat, vector->type, 0, out, 2, &count) == CVEC_DONE && count == 1 && out[0].key == 5 && out[0].flag);
     HOLDS(out[1].key == 9 && !out[1].flag);
     HOLDS(cvec_phase_read(&seat->grower, 0, again, sizeof again, &count) == CVEC_DONE && count == 1 && again[9] == 9);
     HOLDS(memcmp(again, bytes + 1, 9) == 0);
     HOLDS(cvec_phase_count(&seat->grower, bytes + 1, 9, &count) == CVEC_DONE && count == 1);
     HOLDS(cvec_phase_find(&seat->grower, bytes + 1, 9, 0, &count) == CVEC_DONE && count == 0);
-    HOLDS(cvec_vector_close_seat(seat) == CVEC_DONE && cvec_vector_close(vector) == CVEC_DONE);
+    HOLDS(cvec_seat_close(&seat) == CVEC_DONE && cvec_vector_close(&vector) == CVEC_DONE);
 }
 
 /* Goes on with a file that is there, by records 0 and 1 of its type. */
 static void goes_on(const char *path, cvec_type type) {
     const uint64_t numbers[] = {0, 1};
     cvec_receipt receipt;
-    HOLDS(cvec_vector_open_as(&vector, path, type, 1) == CVEC_DONE);
+    HOLDS(cvec_vector_open(&vector, path, type, &(cvec_options){.seats = 1}) == CVEC_DONE);
     if (wrong) exit(1);
-    HOLDS(cvec_vector_take_seat(vector, &seat) == CVEC_DONE);
+    HOLDS(cvec_seat_take(vector, &seat) == CVEC_DONE);
     HOLDS(grow_typed(type, numbers, 2, &receipt) == CVEC_DONE);
-    HOLDS(cvec_vector_await(seat, receipt.number) == CVEC_DONE);
-    HOLDS(cvec_vector_close_seat(seat) == CVEC_DONE);
-    HOLDS(cvec_vector_close(vector) == CVEC_DONE);
+    HOLDS(cvec_seat_settle(seat, receipt.number, CVEC_NO_LIMIT) == CVEC_DONE);
+    HOLDS(cvec_seat_close(&seat) == CVEC_DONE);
+    HOLDS(cvec_vector_close(&vector) == CVEC_DONE);
 }
 
 static void goes_on_u32(const char *path) { goes_on(path, CVEC_U32); }
@@ -1425,7 +1423,7 @@ static void goes_on_flagged(const char *path) { goes_on(path, CVEC_FLAGGED); }
 
 /* ---- records that are pushed, and one that is read */
 
-static uint32_t push(uint64_t record) { return cvec_vector_push(seat, &record); }
+static uint32_t push(uint64_t record) { return cvec_seat_push(seat, vector->type, &record); }
 
 /* The numbers from this one to before that one. */
 static void push_all(uint64_t from, uint64_t to) {
@@ -1436,13 +1434,13 @@ static void push_all(uint64_t from, uint64_t to) {
 static void keeps(uint64_t from, size_t wanted) {
     const void *records = NULL;
     size_t count = SIZE_MAX;
-    HOLDS(cvec_vector_pushed(seat, &records, &count) == CVEC_DONE && records != NULL && count == wanted);
+    HOLDS(cvec_seat_waiting(seat, &records, &count) == CVEC_DONE && records != NULL && count == wanted);
     for (size_t k = 0; k < count && count == wanted; k++) HOLDS(((const uint64_t *)records)[k] == from + k);
 }
 
-static uint64_t size_by(cvec_vector_seat *own) {
+static uint64_t size_by(cvec_seat *own) {
     uint64_t size = UINT64_MAX;
-    HOLDS(cvec_vector_size(own, &size) == CVEC_DONE);
+    HOLDS(cvec_seat_size(own, &size) == CVEC_DONE);
     return size;
 }
 
@@ -1450,30 +1448,30 @@ static uint64_t size_by(cvec_vector_seat *own) {
 static void is_last(uint64_t number, uint64_t start, uint64_t len) {
     cvec_receipt receipt = {9, 9, 9, 9, 9};
     for (int k = 0; k < 2; k++) {
-        HOLDS(cvec_vector_grow_pushed(seat, &receipt) == CVEC_DONE);
+        HOLDS(cvec_seat_flush(seat, &receipt) == CVEC_DONE);
         HOLDS(receipt.number == number && receipt.start == start && receipt.len == len);
         keeps(0, 0);
     }
-    HOLDS(cvec_vector_grow_pushed(seat, NULL) == CVEC_DONE);
+    HOLDS(cvec_seat_flush(seat, NULL) == CVEC_DONE);
 }
 
 /* What is pushed waits: no seat reads it, and nothing makes it durable, until it is a block or is asked for. Then it is one
  * growth, behind all that was grown meanwhile. */
 static void pushes(const char *path) {
-    cvec_vector_seat *other;
+    cvec_seat *other;
     cvec_receipt receipt = {9, 9, 9, 9, 9};
     uint64_t number = 0;
     make(path, 2);
-    HOLDS(cvec_vector_take_seat(vector, &other) == CVEC_DONE);
-    HOLDS(cvec_vector_grow_pushed(seat, &receipt) == CVEC_EMPTY && receipt.number == 9);
-    HOLDS(cvec_vector_grow_pushed(seat, NULL) == CVEC_EMPTY);
+    HOLDS(cvec_seat_take(vector, &other) == CVEC_DONE);
+    HOLDS(cvec_seat_flush(seat, &receipt) == CVEC_EMPTY && receipt.number == 9);
+    HOLDS(cvec_seat_flush(seat, NULL) == CVEC_EMPTY);
     keeps(0, 0);
     const int before = writes;
     push_all(0, 1023);
     keeps(0, 1023);
     HOLDS(size_by(seat) == 0 && size_by(other) == 0);
-    HOLDS(cvec_vector_at(seat, 0, &number) == CVEC_OUT_OF_RANGE);
-    HOLDS(cvec_vector_await(seat, 0) == CVEC_OUT_OF_RANGE && cvec_vector_await(other, 0) == CVEC_OUT_OF_RANGE);
+    HOLDS(cvec_seat_at(seat, vector->type, 0, &number) == CVEC_OUT_OF_RANGE);
+    HOLDS(cvec_seat_settle(seat, 0, CVEC_NO_LIMIT) == CVEC_OUT_OF_RANGE && cvec_seat_settle(other, 0, CVEC_NO_LIMIT) == CVEC_OUT_OF_RANGE);
     HOLDS(writes == before);
     push_all(1023, 1024);
     HOLDS(size_by(seat) == 1024 && size_by(other) == 1024 && settled() == 0);
@@ -1481,12 +1479,12 @@ static void pushes(const char *path) {
     push_all(1025, 1027);
     HOLDS(grow(1024, &number) == CVEC_DONE && number == 1);
     keeps(1025, 2);
-    HOLDS(cvec_vector_await(seat, 1) == CVEC_DONE && settled() == 2 && size_by(other) == 1025);
+    HOLDS(cvec_seat_settle(seat, 1, CVEC_NO_LIMIT) == CVEC_DONE && settled() == 2 && size_by(other) == 1025);
     keeps(1025, 2);
     is_last(2, 1025, 2);
-    HOLDS(size_by(other) == 1027 && cvec_vector_await(other, 2) == CVEC_DONE && settled() == 3);
-    HOLDS(cvec_vector_close_seat(other) == CVEC_DONE && cvec_vector_close_seat(seat) == CVEC_DONE);
-    HOLDS(cvec_vector_close(vector) == CVEC_DONE && found(path) == 1027);
+    HOLDS(size_by(other) == 1027 && cvec_seat_settle(other, 2, CVEC_NO_LIMIT) == CVEC_DONE && settled() == 3);
+    HOLDS(cvec_seat_close(&other) == CVEC_DONE && cvec_seat_close(&seat) == CVEC_DONE);
+    HOLDS(cvec_vector_close(&vector) == CVEC_DONE && found(path) == 1027);
 }
 
 /* Four threads push so many each: one record, a block, and parts of one behind several. */
@@ -1498,7 +1496,7 @@ static void *push_own(void *own) {
     while (four[name] != own) name++;
     for (uint64_t k = 0; k < pushed_by[name]; k++) {
         const uint64_t record = name << 32 | k;
-        HOLDS(cvec_vector_push(own, &record) == CVEC_DONE);
+        HOLDS(cvec_seat_push(own, vector->type, &record) == CVEC_DONE);
     }
     return NULL;
 }
@@ -1520,17 +1518,17 @@ static void push_threads(const char *path) {
     static uint64_t seen[PUSHED_BY_ALL + 2];
     uint64_t number = 0, count = 0;
     make(path, 5);
-    for (int k = 0; k < 4; k++) HOLDS(cvec_vector_take_seat(vector, &four[k]) == CVEC_DONE);
+    for (int k = 0; k < 4; k++) HOLDS(cvec_seat_take(vector, &four[k]) == CVEC_DONE);
     run_four(push_own);
     HOLDS(size_by(seat) == 1024 + 2048 + 4096);
-    for (int k = 0; k < 4; k++) HOLDS(cvec_vector_close_seat(four[k]) == CVEC_DONE);
+    for (int k = 0; k < 4; k++) HOLDS(cvec_seat_close(&four[k]) == CVEC_DONE);
     HOLDS(grow(7, &number) == CVEC_DONE && number == BLOCKS_OF_ALL);
-    HOLDS(cvec_vector_close_seat(seat) == CVEC_DONE && cvec_vector_close(vector) == CVEC_DONE);
-    HOLDS(cvec_vector_open(&vector, path, 1) == CVEC_DONE && cvec_vector_take_seat(vector, &seat) == CVEC_DONE);
-    HOLDS(cvec_vector_read(seat, 0, seen, PUSHED_BY_ALL + 2, &count) == CVEC_DONE && count == PUSHED_BY_ALL + 1);
+    HOLDS(cvec_seat_close(&seat) == CVEC_DONE && cvec_vector_close(&vector) == CVEC_DONE);
+    HOLDS(cvec_vector_open(&vector, path, CVEC_U64, &(cvec_options){.seats = 1}) == CVEC_DONE && cvec_seat_take(vector, &seat) == CVEC_DONE);
+    HOLDS(cvec_seat_read_u64(seat, 0, seen, PUSHED_BY_ALL + 2, &count) == CVEC_DONE && count == PUSHED_BY_ALL + 1);
     HOLDS(seen[PUSHED_BY_ALL] == 7);
     are_in_order(seen, PUSHED_BY_ALL);
-    HOLDS(cvec_vector_close_seat(seat) == CVEC_DONE && cvec_vector_close(vector) == CVEC_DONE);
+    HOLDS(cvec_seat_close(&seat) == CVEC_DONE && cvec_vector_close(&vector) == CVEC_DONE);
 }
 
 /* Who closes a seat grows by what waits, and by nothing where nothing does. */
@@ -1538,36 +1536,36 @@ static void push_closes(const char *path) {
     uint64_t number = 0;
     make(path, 4);
     push_all(0, 3);
-    HOLDS(cvec_vector_close_seat(seat) == CVEC_DONE);
-    HOLDS(cvec_vector_take_seat(vector, &seat) == CVEC_DONE && size_by(seat) == 3);
+    HOLDS(cvec_seat_close(&seat) == CVEC_DONE);
+    HOLDS(cvec_seat_take(vector, &seat) == CVEC_DONE && size_by(seat) == 3);
     push_all(3, 3 + 1024);
-    HOLDS(cvec_vector_close_seat(seat) == CVEC_DONE);
-    HOLDS(cvec_vector_take_seat(vector, &seat) == CVEC_DONE);
+    HOLDS(cvec_seat_close(&seat) == CVEC_DONE);
+    HOLDS(cvec_seat_take(vector, &seat) == CVEC_DONE);
     HOLDS(grow(1027, &number) == CVEC_DONE && number == 2);
     push_all(1028, 1030);
-    HOLDS(cvec_vector_close_seat(seat) == CVEC_DONE);
-    HOLDS(cvec_vector_close(vector) == CVEC_DONE && found(path) == 1030);
+    HOLDS(cvec_seat_close(&seat) == CVEC_DONE);
+    HOLDS(cvec_vector_close(&vector) == CVEC_DONE && found(path) == 1030);
 }
 
 /* So many records are a block where that is asked for; what waited before is grown by then. */
 static void push_blocks(const char *path) {
     make(path, 1);
-    HOLDS(cvec_vector_push_block(seat, 0) == CVEC_EMPTY);
-    HOLDS(cvec_vector_push_block(seat, SIZE_MAX) == CVEC_TOO_LARGE);
-    HOLDS(cvec_vector_push_block(seat, 3) == CVEC_DONE && size_by(seat) == 0);
+    HOLDS(cvec_seat_push_block(seat, 0) == CVEC_EMPTY);
+    HOLDS(cvec_seat_push_block(seat, SIZE_MAX) == CVEC_TOO_LARGE);
+    HOLDS(cvec_seat_push_block(seat, 3) == CVEC_DONE && size_by(seat) == 0);
     push_all(0, 8);
     HOLDS(size_by(seat) == 6);
     keeps(6, 2);
-    HOLDS(cvec_vector_push_block(seat, 131072) == CVEC_TOO_LARGE);
-    HOLDS(cvec_vector_push_block(seat, 0) == CVEC_EMPTY);
+    HOLDS(cvec_seat_push_block(seat, 131072) == CVEC_TOO_LARGE);
+    HOLDS(cvec_seat_push_block(seat, 0) == CVEC_EMPTY);
     keeps(6, 2);
-    HOLDS(cvec_vector_push_block(seat, 1) == CVEC_DONE && size_by(seat) == 8);
+    HOLDS(cvec_seat_push_block(seat, 1) == CVEC_DONE && size_by(seat) == 8);
     is_last(2, 6, 2);
     push_all(8, 10);
     HOLDS(size_by(seat) == 10);
     is_last(4, 9, 1);
-    HOLDS(cvec_vector_close_seat(seat) == CVEC_DONE);
-    HOLDS(cvec_vector_close(vector) == CVEC_DONE && found(path) == 10);
+    HOLDS(cvec_seat_close(&seat) == CVEC_DONE);
+    HOLDS(cvec_vector_close(&vector) == CVEC_DONE && found(path) == 10);
 }
 
 /* While the system gives no more memory the push of this number is refused, and what asks for a growth. */
@@ -1577,7 +1575,7 @@ static void lack_memory(uint64_t record) {
     none = most;
     none.rlim_cur = 1;
     setrlimit(RLIMIT_AS, &none);
-    const uint32_t answers[] = {push(record), cvec_vector_grow_pushed(seat, NULL), cvec_vector_push_block(seat, 1)};
+    const uint32_t answers[] = {push(record), cvec_seat_flush(seat, NULL), cvec_seat_push_block(seat, 1)};
     setrlimit(RLIMIT_AS, &most);
     for (int k = 0; k < 3; k++) HOLDS(answers[k] == CVEC_MEMORY);
 }
@@ -1589,7 +1587,7 @@ static void push_memory(const char *path) {
     mallocs = 0;
     HOLDS(push(0) == CVEC_MEMORY && mallocs == -1);
     keeps(0, 0);
-    HOLDS(cvec_vector_grow_pushed(seat, NULL) == CVEC_EMPTY);
+    HOLDS(cvec_seat_flush(seat, NULL) == CVEC_EMPTY);
     push_all(0, 1);
     mallocs = 0;
     push_all(1, 1023);
@@ -1601,7 +1599,7 @@ static void push_memory(const char *path) {
     HOLDS(mallocs == 0);
     mallocs = -1;
     keeps(1024, 1023);
-    HOLDS(cvec_vector_push_block(seat, BLOCK) == CVEC_DONE && size_by(seat) == 2047);
+    HOLDS(cvec_seat_push_block(seat, BLOCK) == CVEC_DONE && size_by(seat) == 2047);
     push_all(2047, 2047 + BLOCK - 1);
     lack_memory(2047 + BLOCK - 1);
     keeps(2047, BLOCK - 1);
@@ -1609,29 +1607,29 @@ static void push_memory(const char *path) {
     push_all(2047 + BLOCK - 1, 2047 + BLOCK + 1);
     HOLDS(size_by(seat) == 2047 + BLOCK);
     keeps(2047 + BLOCK, 1);
-    HOLDS(cvec_vector_close_seat(seat) == CVEC_DONE);
-    HOLDS(cvec_vector_close(vector) == CVEC_DONE && found(path) == 2047 + BLOCK + 1);
+    HOLDS(cvec_seat_close(&seat) == CVEC_DONE);
+    HOLDS(cvec_vector_close(&vector) == CVEC_DONE && found(path) == 2047 + BLOCK + 1);
 }
 
 /* What is pushed beside a full phase waits as it did before: a block is grown in the next one, and so is what a close grows. */
 static void push_full(const char *path) {
     enum { MOST = 1000 };
     uint64_t number = 0;
-    cvec_vector_seat *other;
+    cvec_seat *other;
     make_narrow(path, 2, MOST);
-    HOLDS(cvec_vector_take_seat(vector, &other) == CVEC_DONE);
-    HOLDS(cvec_vector_push_block(seat, 2) == CVEC_DONE);
+    HOLDS(cvec_seat_take(vector, &other) == CVEC_DONE);
+    HOLDS(cvec_seat_push_block(seat, 2) == CVEC_DONE);
     for (uint64_t k = 0; k < MOST - 1; k++)
         if (grow(k, &number) != CVEC_DONE) HOLDS(!"it was grown");
     push_all(MOST - 1, MOST + 2);
     keeps(MOST + 1, 1);
     HOLDS(settled() == 0);
     number = MOST + 3;
-    HOLDS(cvec_vector_push(other, &number) == CVEC_DONE);
+    HOLDS(cvec_seat_push(other, vector->type, &number) == CVEC_DONE);
     push_all(MOST + 2, MOST + 3);
     HOLDS(settled() == MOST);
     is_last(MOST, MOST + 1, 2);
-    HOLDS(cvec_vector_close_seat(other) == CVEC_DONE);
+    HOLDS(cvec_seat_close(&other) == CVEC_DONE);
     push_all(MOST + 4, MOST + 5);
     leaves_positions(path, MOST + 5);
 }
@@ -1640,19 +1638,19 @@ static void push_full(const char *path) {
  * and the seat is gone, so that the vector can be closed. */
 static void push_broken(const char *path) {
     make(path, 1);
-    HOLDS(cvec_vector_push_block(seat, 2) == CVEC_DONE);
+    HOLDS(cvec_seat_push_block(seat, 2) == CVEC_DONE);
     push_all(0, 2);
     left = 0;
-    HOLDS(cvec_vector_await(seat, 0) == CVEC_DISK_WRITE);
+    HOLDS(cvec_seat_settle(seat, 0, CVEC_NO_LIMIT) == CVEC_DISK_WRITE);
     push_all(2, 3);
     for (int k = 0; k < 2; k++) {
-        HOLDS(push(3) == CVEC_BROKEN && cvec_vector_grow_pushed(seat, NULL) == CVEC_BROKEN);
-        HOLDS(cvec_vector_push_block(seat, 5) == CVEC_BROKEN);
+        HOLDS(push(3) == CVEC_BROKEN && cvec_seat_flush(seat, NULL) == CVEC_BROKEN);
+        HOLDS(cvec_seat_push_block(seat, 5) == CVEC_BROKEN);
         keeps(2, 1);
     }
     HOLDS(size_by(seat) == 2);
-    HOLDS(cvec_vector_close_seat(seat) == CVEC_BROKEN);
-    HOLDS(cvec_vector_close(vector) == CVEC_BROKEN);
+    HOLDS(cvec_seat_close(&seat) == CVEC_BROKEN);
+    HOLDS(cvec_vector_close(&vector) == CVEC_BROKEN);
     HOLDS(found(path) == 0);
 }
 
@@ -1660,7 +1658,7 @@ static void push_broken(const char *path) {
 static void push_typed(cvec_type type, const uint64_t *numbers, size_t count) {
     for (size_t k = 0; k < count; k++) {
         const union record record = record_of(type, numbers[k]);
-        HOLDS(cvec_vector_push(seat, &record) == CVEC_DONE);
+        HOLDS(cvec_seat_push(seat, vector->type, &record) == CVEC_DONE);
     }
 }
 
@@ -1669,28 +1667,28 @@ static void push_most(cvec_type type) {
     const size_t most = ((1u << 20) - 8) / width_of(type);
     const uint64_t number = 5;
     cvec_receipt receipt = {9, 9, 9, 9, 9};
-    HOLDS(cvec_vector_push_block(seat, most + 1) == CVEC_TOO_LARGE);
-    HOLDS(cvec_vector_push_block(seat, most) == CVEC_DONE);
+    HOLDS(cvec_seat_push_block(seat, most + 1) == CVEC_TOO_LARGE);
+    HOLDS(cvec_seat_push_block(seat, most) == CVEC_DONE);
     for (size_t k = 1; k < most; k++) push_typed(type, &number, 1);
     HOLDS(size_by(seat) == 7);
     push_typed(type, &number, 1);
     HOLDS(size_by(seat) == 7 + most);
-    HOLDS(cvec_vector_grow_pushed(seat, &receipt) == CVEC_DONE && receipt.start == 7 && receipt.len == most);
+    HOLDS(cvec_seat_flush(seat, &receipt) == CVEC_DONE && receipt.start == 7 && receipt.len == most);
 }
 
 static void pushes_of(const char *path, cvec_type type, uint8_t version) {
     const uint64_t numbers[] = {0, 1, 2, 3, 4, 1, 0};
     remove(path);
-    HOLDS(cvec_vector_create_as(&vector, path, type, version, 3) == CVEC_DONE);
+    HOLDS(cvec_vector_create(&vector, path, type, &(cvec_options){.version = version, .seats = 3}) == CVEC_DONE);
     if (wrong) exit(1);
-    HOLDS(cvec_vector_take_seat(vector, &seat) == CVEC_DONE && cvec_vector_push_block(seat, 3) == CVEC_DONE);
+    HOLDS(cvec_seat_take(vector, &seat) == CVEC_DONE && cvec_seat_push_block(seat, 3) == CVEC_DONE);
     push_typed(type, numbers, 7);
     HOLDS(size_by(seat) == 6);
-    HOLDS(cvec_vector_close_seat(seat) == CVEC_DONE);
+    HOLDS(cvec_seat_close(&seat) == CVEC_DONE);
     has_typed(path, type, numbers, 7);
-    HOLDS(cvec_vector_take_seat(vector, &seat) == CVEC_DONE);
+    HOLDS(cvec_seat_take(vector, &seat) == CVEC_DONE);
     push_most(type);
-    HOLDS(cvec_vector_close_seat(seat) == CVEC_DONE && cvec_vector_close(vector) == CVEC_DONE);
+    HOLDS(cvec_seat_close(&seat) == CVEC_DONE && cvec_vector_close(&vector) == CVEC_DONE);
 }
 
 static void pushes_typed(const char *path) {
@@ -1699,28 +1697,28 @@ static void pushes_typed(const char *path) {
 }
 
 /* The record of this number stands at that position, and what follows it in memory stays. */
-static void has_at(cvec_vector_seat *own, cvec_type type, uint64_t position, uint64_t number) {
+static void has_at(cvec_seat *own, cvec_type type, uint64_t position, uint64_t number) {
     union record seen[2];
     memset(seen, 0xa5, sizeof seen);
-    HOLDS(cvec_vector_at(own, position, seen) == CVEC_DONE && is_record(type, seen, number));
+    HOLDS(cvec_seat_at(own, vector->type, position, seen) == CVEC_DONE && is_record(type, seen, number));
     HOLDS(((const uint8_t *)seen)[size_of(type)] == 0xa5);
 }
 
 /* None does, and nothing is written. */
-static void has_none_at(cvec_vector_seat *own, uint64_t position) {
+static void has_none_at(cvec_seat *own, uint64_t position) {
     union record seen, same;
     memset(&seen, 0xa5, sizeof seen);
     memset(&same, 0xa5, sizeof same);
-    HOLDS(cvec_vector_at(own, position, &seen) == CVEC_OUT_OF_RANGE && memcmp(&seen, &same, sizeof seen) == 0);
+    HOLDS(cvec_seat_at(own, vector->type, position, &seen) == CVEC_OUT_OF_RANGE && memcmp(&seen, &same, sizeof seen) == 0);
 }
 
 static void at_of(const char *path, cvec_type type) {
     const uint64_t first[] = {0, 1, 2}, more[] = {3, 4};
-    cvec_vector_seat *other = NULL;
+    cvec_seat *other = NULL;
     remove(path);
-    HOLDS(cvec_vector_create_as(&vector, path, type, 1, 2) == CVEC_DONE);
+    HOLDS(cvec_vector_create(&vector, path, type, &(cvec_options){.version = 1, .seats = 2}) == CVEC_DONE);
     if (wrong) exit(1);
-    HOLDS(cvec_vector_take_seat(vector, &seat) == CVEC_DONE && cvec_vector_take_seat(vector, &other) == CVEC_DONE);
+    HOLDS(cvec_seat_take(vector, &seat) == CVEC_DONE && cvec_seat_take(vector, &other) == CVEC_DONE);
     has_none_at(seat, 0);
     has_none_at(other, UINT64_MAX);
     HOLDS(grow_typed(type, first, 3, NULL) == CVEC_DONE);
@@ -1731,14 +1729,14 @@ static void at_of(const char *path, cvec_type type) {
     for (uint64_t k = 0; k < 5; k++) has_at(seat, type, k, k);
     has_none_at(seat, 5);
     has_none_at(seat, UINT64_MAX);
-    HOLDS(cvec_vector_close_seat(other) == CVEC_DONE && cvec_vector_close_seat(seat) == CVEC_DONE);
-    HOLDS(cvec_vector_close(vector) == CVEC_DONE);
-    HOLDS(cvec_vector_open_as(&vector, path, type, 1) == CVEC_DONE && cvec_vector_take_seat(vector, &seat) == CVEC_DONE);
+    HOLDS(cvec_seat_close(&other) == CVEC_DONE && cvec_seat_close(&seat) == CVEC_DONE);
+    HOLDS(cvec_vector_close(&vector) == CVEC_DONE);
+    HOLDS(cvec_vector_open(&vector, path, type, &(cvec_options){.seats = 1}) == CVEC_DONE && cvec_seat_take(vector, &seat) == CVEC_DONE);
     if (wrong) exit(1);
     has_at(seat, type, 4, 4);
     has_at(seat, type, 0, 0);
     has_none_at(seat, 5);
-    HOLDS(cvec_vector_close_seat(seat) == CVEC_DONE && cvec_vector_close(vector) == CVEC_DONE);
+    HOLDS(cvec_seat_close(&seat) == CVEC_DONE && cvec_vector_close(&vector) == CVEC_DONE);
 }
 
 static void at(const char *path) {
@@ -1748,13 +1746,13 @@ static void at(const char *path) {
 /* ---- renewals: a phase that is full ends beside seats, and the next one begins */
 
 /* Two seats, of which the first grew so many, and phases of five growths. */
-static cvec_vector_seat *beside;
+static cvec_seat *beside;
 
 static void make_renewing(const char *path, uint64_t grown_before) {
     uint64_t number = 0;
     remove(path);
     make_narrow(path, 2, 5);
-    HOLDS(cvec_vector_take_seat(vector, &beside) == CVEC_DONE);
+    HOLDS(cvec_seat_take(vector, &beside) == CVEC_DONE);
     for (uint64_t k = 0; k < grown_before; k++) HOLDS(grow(k, &number) == CVEC_DONE && number == k);
 }
 
@@ -1762,16 +1760,16 @@ static void make_renewing(const char *path, uint64_t grown_before) {
 static void renewal_fails_at(const char *path, int call) {
     uint64_t number = 9, count = 9;
     make_renewing(path, 4);
-    HOLDS(cvec_vector_await(seat, 1) == CVEC_DONE && grow(4, &number) == CVEC_DONE);
+    HOLDS(cvec_seat_settle(seat, 1, CVEC_NO_LIMIT) == CVEC_DONE && grow(4, &number) == CVEC_DONE);
     left = call;
     HOLDS(grow(5, &number) == (call % 2 == 0 ? CVEC_DISK_WRITE : CVEC_DISK_SYNC) && number == 4);
     left = -1;
     HOLDS(grow(5, &number) == CVEC_BROKEN && settled() == 4);
     are_positions(seat, 5);
     are_positions(beside, 5);
-    HOLDS(cvec_vector_at(beside, 4, &count) == CVEC_DONE && count == 4);
-    HOLDS(cvec_vector_close_seat(beside) == CVEC_DONE && cvec_vector_close_seat(seat) == CVEC_DONE);
-    HOLDS(cvec_vector_close(vector) == CVEC_BROKEN);
+    HOLDS(cvec_seat_at(beside, vector->type, 4, &count) == CVEC_DONE && count == 4);
+    HOLDS(cvec_seat_close(&beside) == CVEC_DONE && cvec_seat_close(&seat) == CVEC_DONE);
+    HOLDS(cvec_vector_close(&vector) == CVEC_BROKEN);
     count = found(path);
     HOLDS(count == (call < 2 ? 4 : count == 4 ? 4 : 5));
 }
@@ -1785,7 +1783,7 @@ static int halfway; /* how many renewals had closed the growers when they were r
 /* The seat has a block of one record. */
 static uint64_t *lend_one(uint64_t record) {
     void *block = NULL;
-    HOLDS(cvec_vector_block(seat, 1, &block) == CVEC_DONE && block != NULL);
+    HOLDS(cvec_seat_block(seat, 1, &block) == CVEC_DONE && block != NULL);
     if (block == NULL) exit(1);
     *(uint64_t *)block = record;
     return block;
@@ -1795,7 +1793,7 @@ static uint64_t *lend_one(uint64_t record) {
 static uint32_t publish_one(uint64_t record, uint64_t *number) {
     cvec_receipt receipt;
     const uint64_t *block = seat->blank;
-    const uint32_t answer = cvec_vector_publish(seat, &receipt);
+    const uint32_t answer = cvec_seat_publish(seat, &receipt);
     HOLDS(*block == record && seat->block.full == (answer != CVEC_DONE));
     if (answer == CVEC_DONE) *number = receipt.number;
     return answer;
@@ -1810,7 +1808,7 @@ static int renewal_lacks(const char *path, int request, int times, int is_awaite
     uint32_t answer = CVEC_MEMORY;
     make_renewing(path, 5);
     if (is_block) lend_one(5);
-    if (is_awaited) HOLDS(cvec_vector_await(beside, 4) == CVEC_DONE);
+    if (is_awaited) HOLDS(cvec_seat_settle(beside, 4, CVEC_NO_LIMIT) == CVEC_DONE);
     push_all(6, 7);
     for (int k = 0; k < times && answer == CVEC_MEMORY; k++) {
         requests = request;
@@ -1820,19 +1818,19 @@ static int renewal_lacks(const char *path, int request, int times, int is_awaite
     requests = -1;
     if (answer == CVEC_MEMORY) {
         halfway += vector->unseated;
-        HOLDS(number == 9 && cvec_vector_await_for(beside, 4, 0) == CVEC_DONE);
+        HOLDS(number == 9 && cvec_seat_settle(beside, 4, 0) == CVEC_DONE);
         const int was_broken = is_broken(vector);
-        if (vector->unseated) HOLDS(cvec_vector_await(beside, 5) == (was_broken ? CVEC_BROKEN : CVEC_OUT_OF_RANGE));
+        if (vector->unseated) HOLDS(cvec_seat_settle(beside, 5, CVEC_NO_LIMIT) == (was_broken ? CVEC_BROKEN : CVEC_OUT_OF_RANGE));
         HOLDS(is_broken(vector) == was_broken);
-        answer = cvec_vector_size(beside, &count);
+        answer = cvec_seat_size(beside, &count);
         HOLDS(answer == CVEC_BROKEN || (answer == CVEC_DONE && count == 5));
         if (answer == CVEC_DONE) answer = next(5, &number);
     }
     HOLDS(answer == CVEC_BROKEN || (answer == CVEC_DONE && number == 5));
     keeps(6, 1);
     if (answer == CVEC_DONE) HOLDS(settled() == 5);
-    HOLDS(cvec_vector_close_seat(beside) == CVEC_DONE);
-    HOLDS(cvec_vector_close_seat(seat) == answer && cvec_vector_close(vector) == answer);
+    HOLDS(cvec_seat_close(&beside) == CVEC_DONE);
+    HOLDS(cvec_seat_close(&seat) == answer && cvec_vector_close(&vector) == answer);
     count = found(path);
     HOLDS(answer == CVEC_DONE ? count == 7 : count == 5 || (count == 0 && !is_awaited));
     return is_one;
@@ -1855,7 +1853,7 @@ static void renewal_is_killed(const char *path) {
         const pid_t child = fork();
         if (child == 0) {
             make_renewing(path, 4);
-            HOLDS(cvec_vector_await(seat, 2) == CVEC_DONE && grow(4, &number) == CVEC_DONE);
+            HOLDS(cvec_seat_settle(seat, 2, CVEC_NO_LIMIT) == CVEC_DONE && grow(4, &number) == CVEC_DONE);
             calls_of_life = calls;
             HOLDS(grow(5, &number) == CVEC_DONE);
             _exit(wrong || calls_of_life < 0);
@@ -1876,7 +1874,7 @@ static void *run_grow(void *answer) {
 }
 
 static void *run_size(void *size) {
-    HOLDS(cvec_vector_size(beside, size) == CVEC_DONE);
+    HOLDS(cvec_seat_size(beside, size) == CVEC_DONE);
     return NULL;
 }
 
@@ -1891,7 +1889,7 @@ static void renewal_waits(const char *path) {
     pthread_t grower, reader_thread, flusher, whole;
     uint32_t answer = CVEC_BUSY, compacted = CVEC_BUSY;
     uint64_t size = 9;
-    cvec_vector_seat *third = NULL;
+    cvec_seat *third = NULL;
     struct wait first;
     make_renewing(path, 5);
     first.seat = beside;
@@ -1900,7 +1898,7 @@ static void renewal_waits(const char *path) {
     until_held();
     begin_wait(&first, 4, 30);
     HOLDS(end_of(&first) == CVEC_LATE);
-    HOLDS(cvec_vector_seat_within(vector, 20, &third) == CVEC_LATE && third == NULL);
+    HOLDS(cvec_seat_take_within(vector, 20, &third) == CVEC_LATE && third == NULL);
     pthread_create(&whole, NULL, run_compact, &compacted);
     begin_flusher(&flusher, &soon);
     while (flushers() == 0) nap();
@@ -1913,7 +1911,7 @@ static void renewal_waits(const char *path) {
     pthread_join(whole, NULL);
     HOLDS(answer == CVEC_DONE && compacted == CVEC_DONE && (size == 5 || size == 6));
     HOLDS(cvec_vector_stop_flusher(vector) == CVEC_DONE && end_of_flusher(flusher) == CVEC_DONE);
-    HOLDS(cvec_vector_close_seat(beside) == CVEC_DONE);
+    HOLDS(cvec_seat_close(&beside) == CVEC_DONE);
     leaves_positions(path, 6);
 }
 
@@ -1934,7 +1932,7 @@ static void renewal_after_commit(const char *path) {
     shut_gate(0);
     pthread_join(grower, NULL);
     HOLDS(end_of(&first) == CVEC_DONE && answer == CVEC_DONE && settled() == 5);
-    HOLDS(cvec_vector_close_seat(beside) == CVEC_DONE);
+    HOLDS(cvec_seat_close(&beside) == CVEC_DONE);
     leaves_positions(path, 6);
 }
 
@@ -1958,7 +1956,7 @@ static void renewal_after_call(const char *path) {
     HOLDS(is_held() && __atomic_load_n(&writes, __ATOMIC_SEQ_CST) == before);
     __atomic_store_n(&beside->busy, FREE, __ATOMIC_SEQ_CST);
     pthread_join(grower, NULL);
-    HOLDS(answer == CVEC_DONE && settled() == 5 && cvec_vector_close_seat(beside) == CVEC_DONE);
+    HOLDS(answer == CVEC_DONE && settled() == 5 && cvec_seat_close(&beside) == CVEC_DONE);
     leaves_positions(path, 6);
 }
 
@@ -1989,7 +1987,7 @@ static void renewal_before_call(const char *path) {
     shut_gate(0);
     pthread_join(grower, NULL);
     pthread_join(reader_thread, NULL);
-    HOLDS(answer == CVEC_DONE && (size == 5 || size == 6) && cvec_vector_close_seat(beside) == CVEC_DONE);
+    HOLDS(answer == CVEC_DONE && (size == 5 || size == 6) && cvec_seat_close(&beside) == CVEC_DONE);
     leaves_positions(path, 6);
 }
 
@@ -1997,20 +1995,20 @@ static void renewal_before_call(const char *path) {
 enum { RENEWERS = 12, TURNS = 3000 };
 static uint64_t name_of_next;
 
-static void is_mine(cvec_vector_seat *own, uint64_t start, uint64_t record) {
+static void is_mine(cvec_seat *own, uint64_t start, uint64_t record) {
     uint64_t there = ~record;
-    HOLDS(cvec_vector_at(own, start, &there) == CVEC_DONE && there == record);
+    HOLDS(cvec_seat_at(own, vector->type, start, &there) == CVEC_DONE && there == record);
 }
 
 /* One growth of one record, whose receipt is that of the only ones there are. Sizes and what is settled never fall. */
-static void grow_one(cvec_vector_seat *own, uint64_t record, uint64_t *size, uint64_t *durable) {
+static void grow_one(cvec_seat *own, uint64_t record, uint64_t *size, uint64_t *durable) {
     cvec_receipt receipt;
     uint64_t now = 0;
-    HOLDS(cvec_vector_grow(own, &record, 1, &receipt) == CVEC_DONE && receipt.number == receipt.start && receipt.len == 1);
-    HOLDS(receipt.start >= *size && cvec_vector_size(own, &now) == CVEC_DONE && now > receipt.start);
+    HOLDS(cvec_seat_grow_u64(own, &record, 1, &receipt) == CVEC_DONE && receipt.number == receipt.start && receipt.len == 1);
+    HOLDS(receipt.start >= *size && cvec_seat_size(own, &now) == CVEC_DONE && now > receipt.start);
     *size = now;
     is_mine(own, receipt.start, record);
-    if (record % 7 == 0) HOLDS(cvec_vector_await(own, receipt.number) == CVEC_DONE);
+    if (record % 7 == 0) HOLDS(cvec_seat_settle(own, receipt.number, CVEC_NO_LIMIT) == CVEC_DONE);
     HOLDS(cvec_seat_settled(own, &now) == CVEC_DONE && now >= *durable);
     HOLDS(record % 7 != 0 || now > receipt.number);
     *durable = now;
@@ -2018,15 +2016,15 @@ static void grow_one(cvec_vector_seat *own, uint64_t record, uint64_t *size, uin
 
 static void *run_renewer(void *unused) {
     const uint64_t name = __atomic_fetch_add(&name_of_next, 1, __ATOMIC_SEQ_CST);
-    cvec_vector_seat *own = NULL;
+    cvec_seat *own = NULL;
     uint64_t size = 0, durable = 0, k = 0;
     (void)unused;
     while (k < TURNS && !wrong) {
-        HOLDS(cvec_vector_seat_within(vector, 30000, &own) == CVEC_DONE && cvec_vector_push_block(own, 1) == CVEC_DONE);
+        HOLDS(cvec_seat_take_within(vector, 30000, &own) == CVEC_DONE && cvec_seat_push_block(own, 1) == CVEC_DONE);
         for (uint64_t turn = 0; turn < 100 && !wrong; turn++) grow_one(own, name << 32 | k++, &size, &durable);
         const uint64_t last = name << 32 | k++;
-        HOLDS(cvec_vector_push(own, &last) == CVEC_DONE);
-        HOLDS(cvec_vector_close_seat(own) == CVEC_DONE);
+        HOLDS(cvec_seat_push(own, vector->type, &last) == CVEC_DONE);
+        HOLDS(cvec_seat_close(&own) == CVEC_DONE);
     }
     return NULL;
 }
@@ -2034,7 +2032,7 @@ static void *run_renewer(void *unused) {
 static void *run_whole(void *ends) {
     const uint64_t none = 0;
     while (!__atomic_load_n((int *)ends, __ATOMIC_SEQ_CST)) {
-        HOLDS(cvec_vector_change(vector, 0, &none, 0) == CVEC_DONE);
+        HOLDS(cvec_vector_change_u64(vector, 0, &none, 0) == CVEC_DONE);
         nap();
     }
     return NULL;
@@ -2047,20 +2045,20 @@ static void renewals(const char *path) {
     uint64_t count = 0;
     int ends = 0;
     make_renewing(path, 0);
-    HOLDS(cvec_vector_close_seat(beside) == CVEC_DONE && cvec_vector_close_seat(seat) == CVEC_DONE);
-    HOLDS(cvec_vector_close(vector) == CVEC_DONE && cvec_vector_open_with(&vector, path, CVEC_U64, &narrow) == CVEC_DONE);
+    HOLDS(cvec_seat_close(&beside) == CVEC_DONE && cvec_seat_close(&seat) == CVEC_DONE);
+    HOLDS(cvec_vector_close(&vector) == CVEC_DONE && cvec_vector_open(&vector, path, CVEC_U64, &narrow) == CVEC_DONE);
     begin_flusher(&flusher, &soon);
     pthread_create(&whole, NULL, run_whole, &ends);
     for (int k = 0; k < RENEWERS; k++) pthread_create(&threads[k], NULL, run_renewer, NULL);
     for (int k = 0; k < RENEWERS; k++) pthread_join(threads[k], NULL);
     __atomic_store_n(&ends, 1, __ATOMIC_SEQ_CST);
     pthread_join(whole, NULL);
-    HOLDS(cvec_vector_close(vector) == CVEC_DONE && end_of_flusher(flusher) == CVEC_DONE);
-    HOLDS(cvec_vector_open(&vector, path, 1) == CVEC_DONE && cvec_vector_take_seat(vector, &seat) == CVEC_DONE);
-    HOLDS(cvec_vector_read(seat, 0, seen, sizeof seen / sizeof *seen, &count) == CVEC_DONE);
+    HOLDS(cvec_vector_close(&vector) == CVEC_DONE && end_of_flusher(flusher) == CVEC_DONE);
+    HOLDS(cvec_vector_open(&vector, path, CVEC_U64, &(cvec_options){.seats = 1}) == CVEC_DONE && cvec_seat_take(vector, &seat) == CVEC_DONE);
+    HOLDS(cvec_seat_read_u64(seat, 0, seen, sizeof seen / sizeof *seen, &count) == CVEC_DONE);
     for (uint64_t k = 0; k < count && !wrong; k++) HOLDS(seen[k] >> 32 < RENEWERS && (uint32_t)seen[k] == next[seen[k] >> 32]++);
     for (int k = 0; k < RENEWERS; k++) HOLDS(next[k] >= TURNS && next[k] < TURNS + 101);
-    HOLDS(cvec_vector_close_seat(seat) == CVEC_DONE && cvec_vector_close(vector) == CVEC_DONE);
+    HOLDS(cvec_seat_close(&seat) == CVEC_DONE && cvec_vector_close(&vector) == CVEC_DONE);
 }
 
 /* ---- holds: while there is one, nobody has the whole vector, nor closes it */
@@ -2072,9 +2070,9 @@ static const uint64_t *make_lent(const char *path) {
     cvec_piece lent = {9, NULL, 9};
     size_t count = 0;
     make_narrow(path, 2, 5);
-    HOLDS(cvec_vector_grow(seat, block, 3, &receipt) == CVEC_DONE && cvec_vector_await(seat, receipt.number) == CVEC_DONE);
-    HOLDS(cvec_vector_pieces(seat, 0, &lent, 1, &count) == CVEC_DONE && count == 1 && lent.len == 3);
-    HOLDS(cvec_vector_close_seat(seat) == CVEC_DONE);
+    HOLDS(cvec_seat_grow_u64(seat, block, 3, &receipt) == CVEC_DONE && cvec_seat_settle(seat, receipt.number, CVEC_NO_LIMIT) == CVEC_DONE);
+    HOLDS(cvec_seat_pieces(seat, 0, &lent, 1, &count) == CVEC_DONE && count == 1 && lent.len == 3);
+    HOLDS(cvec_seat_close(&seat) == CVEC_DONE);
     if (wrong) exit(1);
     return lent.records;
 }
@@ -2085,7 +2083,7 @@ static int are_lent(const uint64_t *lent) { return lent[0] == 0 && lent[1] == 1 
 static void is_held_back(const uint64_t *lent) {
     const int before = writes;
     all_answer(CVEC_BUSY);
-    HOLDS(cvec_vector_close(vector) == CVEC_BUSY);
+    HOLDS(cvec_vector_close(&vector) == CVEC_BUSY);
     if (wrong) exit(1);
     HOLDS(writes == before && are_lent(lent));
 }
@@ -2094,13 +2092,13 @@ static void is_held_back(const uint64_t *lent) {
 static void goes_on_held(uint64_t record) {
     pthread_t flusher;
     uint64_t number = 9;
-    HOLDS(cvec_vector_take_seat(vector, &seat) == CVEC_DONE && grow(record, &number) == CVEC_DONE);
-    HOLDS(cvec_vector_await(seat, number) == CVEC_DONE && grow(record + 1, &number) == CVEC_DONE);
+    HOLDS(cvec_seat_take(vector, &seat) == CVEC_DONE && grow(record, &number) == CVEC_DONE);
+    HOLDS(cvec_seat_settle(seat, number, CVEC_NO_LIMIT) == CVEC_DONE && grow(record + 1, &number) == CVEC_DONE);
     begin_flusher(&flusher, &soon);
     until_settled(number + 1);
     HOLDS(cvec_vector_stop_flusher(vector) == CVEC_DONE && end_of_flusher(flusher) == CVEC_DONE);
     vector->stopped = false; /* for the next one */
-    HOLDS(cvec_vector_close_seat(seat) == CVEC_DONE);
+    HOLDS(cvec_seat_close(&seat) == CVEC_DONE);
 }
 
 /* Until each of two holders has released. */
@@ -2120,7 +2118,7 @@ static void hold_refuses(const char *path) {
     /* So again, though nothing is lent. */
     HOLDS(cvec_vector_hold(vector) == CVEC_DONE);
     all_answer(CVEC_BUSY);
-    HOLDS(cvec_vector_release(vector) == CVEC_DONE && cvec_vector_close(vector) == CVEC_DONE);
+    HOLDS(cvec_vector_release(vector) == CVEC_DONE && cvec_vector_close(&vector) == CVEC_DONE);
 }
 
 static void *run_hold(void *answer) {
@@ -2140,18 +2138,18 @@ static void hold_waits(const char *path) {
     pthread_create(&holder, NULL, run_hold, &answer);
     while (__atomic_load_n(&waits, __ATOMIC_SEQ_CST) == before && __atomic_load_n(&answer, __ATOMIC_SEQ_CST) == CVEC_BUSY) nap();
     for (int k = 0; k < 20; k++) nap();
-    HOLDS(__atomic_load_n(&answer, __ATOMIC_SEQ_CST) == CVEC_BUSY && holds() == 1 && cvec_vector_close(vector) == CVEC_BUSY);
+    HOLDS(__atomic_load_n(&answer, __ATOMIC_SEQ_CST) == CVEC_BUSY && holds() == 1 && cvec_vector_close(&vector) == CVEC_BUSY);
     /* No close comes between that call's end and the hold. */
     __atomic_store_n(&dozing, 1, __ATOMIC_SEQ_CST);
     shut_gate(0);
     pthread_join(caller, NULL);
-    HOLDS(cvec_vector_close(vector) == CVEC_BUSY);
+    HOLDS(cvec_vector_close(&vector) == CVEC_BUSY);
     if (wrong) exit(1);
     __atomic_store_n(&dozing, 0, __ATOMIC_SEQ_CST);
     pthread_join(holder, NULL);
     HOLDS(cleared == CVEC_DONE && answer == CVEC_DONE && counted(0) == 0);
     all_answer(CVEC_BUSY);
-    HOLDS(cvec_vector_release(vector) == CVEC_DONE && cvec_vector_close(vector) == CVEC_DONE && found(path) == 0);
+    HOLDS(cvec_vector_release(vector) == CVEC_DONE && cvec_vector_close(&vector) == CVEC_DONE && found(path) == 0);
 }
 
 /* A call of the whole vector that waits for a flusher's commit hasn't begun: a hold that comes meanwhile waits for neither, and the
@@ -2161,21 +2159,21 @@ static void hold_comes_first(const char *path) {
     uint32_t cleared = CVEC_DONE;
     uint64_t number = 9;
     const uint64_t *const lent = make_lent(path);
-    HOLDS(cvec_vector_take_seat(vector, &seat) == CVEC_DONE && grow(3, &number) == CVEC_DONE);
-    HOLDS(cvec_vector_close_seat(seat) == CVEC_DONE);
+    HOLDS(cvec_seat_take(vector, &seat) == CVEC_DONE && grow(3, &number) == CVEC_DONE);
+    HOLDS(cvec_seat_close(&seat) == CVEC_DONE);
     shut_gate(1);
     begin_flusher(&flusher, &never);
     until_held();
     const int before = __atomic_load_n(&waits, __ATOMIC_SEQ_CST);
     pthread_create(&caller, NULL, run_clear, &cleared);
     while (__atomic_load_n(&waits, __ATOMIC_SEQ_CST) == before) nap();
-    HOLDS(cvec_vector_hold(vector) == CVEC_DONE && holds() == 1 && cvec_vector_close(vector) == CVEC_BUSY);
+    HOLDS(cvec_vector_hold(vector) == CVEC_DONE && holds() == 1 && cvec_vector_close(&vector) == CVEC_BUSY);
     if (wrong) exit(1);
     shut_gate(0);
     pthread_join(caller, NULL);
     HOLDS(cleared == CVEC_BUSY && are_lent(lent) && counted(3) == 1);
     HOLDS(cvec_vector_stop_flusher(vector) == CVEC_DONE && end_of_flusher(flusher) == CVEC_DONE);
-    HOLDS(cvec_vector_release(vector) == CVEC_DONE && cvec_vector_close(vector) == CVEC_DONE && found(path) == 4);
+    HOLDS(cvec_vector_release(vector) == CVEC_DONE && cvec_vector_close(&vector) == CVEC_DONE && found(path) == 4);
 }
 
 /* What nobody lent moves beside a hold: a phase ends as ever. */
@@ -2184,25 +2182,25 @@ static void hold_renews(const char *path) {
     make_narrow(path, 1, 5);
     HOLDS(cvec_vector_hold(vector) == CVEC_DONE);
     for (uint64_t k = 0; k < 22; k++) HOLDS(grow(k, &number) == CVEC_DONE && number == k && settled() == k / 5 * 5);
-    HOLDS(cvec_vector_close_seat(seat) == CVEC_DONE && cvec_vector_compact(vector) == CVEC_BUSY);
-    HOLDS(cvec_vector_release(vector) == CVEC_DONE && cvec_vector_close(vector) == CVEC_DONE && found(path) == 22);
+    HOLDS(cvec_seat_close(&seat) == CVEC_DONE && cvec_vector_compact(vector) == CVEC_BUSY);
+    HOLDS(cvec_vector_release(vector) == CVEC_DONE && cvec_vector_close(&vector) == CVEC_DONE && found(path) == 22);
 }
 
 /* What was lent stays in a broken vector too, and is held there. */
 static void hold_broken(const char *path) {
     uint64_t number = 9;
     const uint64_t *const lent = make_lent(path);
-    HOLDS(cvec_vector_take_seat(vector, &seat) == CVEC_DONE && grow(3, &number) == CVEC_DONE);
+    HOLDS(cvec_seat_take(vector, &seat) == CVEC_DONE && grow(3, &number) == CVEC_DONE);
     const uint64_t *const block = lend_one(4);
     left = 0;
-    HOLDS(cvec_vector_await(seat, number) == CVEC_DISK_WRITE && are_lent(lent));
+    HOLDS(cvec_seat_settle(seat, number, CVEC_NO_LIMIT) == CVEC_DISK_WRITE && are_lent(lent));
     HOLDS(publish_one(4, &number) == CVEC_BROKEN && publish_one(4, &number) == CVEC_BROKEN && *block == 4);
-    HOLDS(cvec_vector_drop(seat) == CVEC_DONE && cvec_vector_block(seat, 1, (void **)&number) == CVEC_BROKEN);
-    HOLDS(cvec_vector_close_seat(seat) == CVEC_DONE && cvec_vector_hold(vector) == CVEC_DONE);
+    HOLDS(cvec_seat_drop(seat) == CVEC_DONE && cvec_seat_block(seat, 1, (void **)&number) == CVEC_BROKEN);
+    HOLDS(cvec_seat_close(&seat) == CVEC_DONE && cvec_vector_hold(vector) == CVEC_DONE);
     is_held_back(lent);
     HOLDS(cvec_vector_release(vector) == CVEC_DONE);
     all_answer(CVEC_BROKEN);
-    HOLDS(are_lent(lent) && cvec_vector_close(vector) == CVEC_BROKEN && found(path) == 3);
+    HOLDS(are_lent(lent) && cvec_vector_close(&vector) == CVEC_BROKEN && found(path) == 3);
 }
 
 /* A forked process reads what was lent, also behind its close, and writes to a block of its own, which its parent's isn't. Its
@@ -2211,7 +2209,7 @@ static void hold_forks(const char *path) {
     uint64_t number = 9;
     int status = 1;
     const uint64_t *const lent = make_lent(path);
-    HOLDS(cvec_vector_hold(vector) == CVEC_DONE && cvec_vector_take_seat(vector, &seat) == CVEC_DONE);
+    HOLDS(cvec_vector_hold(vector) == CVEC_DONE && cvec_seat_take(vector, &seat) == CVEC_DONE);
     uint64_t *const block = lend_one(3);
     pid_t child = fork();
     if (child == 0) {
@@ -2220,9 +2218,9 @@ static void hold_forks(const char *path) {
         _exit(wrong);
     }
     HOLDS(waitpid(child, &status, 0) == child && status == 0);
-    HOLDS(*block == 3 && publish_one(3, &number) == CVEC_DONE && cvec_vector_close_seat(seat) == CVEC_DONE);
+    HOLDS(*block == 3 && publish_one(3, &number) == CVEC_DONE && cvec_seat_close(&seat) == CVEC_DONE);
     is_held_back(lent);
-    HOLDS(cvec_vector_release(vector) == CVEC_DONE && cvec_vector_close(vector) == CVEC_DONE && found(path) == 4);
+    HOLDS(cvec_vector_release(vector) == CVEC_DONE && cvec_vector_close(&vector) == CVEC_DONE && found(path) == 4);
 }
 
 /* ---- memory that is refused beside what is lent */
@@ -2233,21 +2231,21 @@ static int compaction_lacks(const char *path, int request) {
     uint64_t number = 9;
     remove(path);
     const uint64_t *const lent = make_lent(path);
-    HOLDS(cvec_vector_take_seat(vector, &seat) == CVEC_DONE);
+    HOLDS(cvec_seat_take(vector, &seat) == CVEC_DONE);
     for (uint64_t k = 3; k < 7; k++) HOLDS(grow(k, &number) == CVEC_DONE);
-    HOLDS(cvec_vector_close_seat(seat) == CVEC_DONE);
+    HOLDS(cvec_seat_close(&seat) == CVEC_DONE);
     requests = request;
     uint32_t answer = cvec_vector_compact(vector);
     const int was_refused = requests < 0;
     requests = -1;
     if (answer == CVEC_MEMORY && vector->lent) {
-        HOLDS(cvec_vector_take_seat(vector, &seat) == CVEC_DONE && grow(7, &number) == CVEC_FULL && are_lent(lent));
-        HOLDS(cvec_vector_close_seat(seat) == CVEC_DONE);
+        HOLDS(cvec_seat_take(vector, &seat) == CVEC_DONE && grow(7, &number) == CVEC_FULL && are_lent(lent));
+        HOLDS(cvec_seat_close(&seat) == CVEC_DONE);
         halfway++;
     }
     if (answer == CVEC_MEMORY) answer = cvec_vector_compact(vector);
     HOLDS(answer == CVEC_DONE || answer == CVEC_BROKEN);
-    HOLDS(cvec_vector_close(vector) == answer);
+    HOLDS(cvec_vector_close(&vector) == answer);
     number = found(path);
     HOLDS(number == 7 || (number == 3 && answer == CVEC_BROKEN));
     return was_refused;
@@ -2263,22 +2261,22 @@ static void compaction_memory(const char *path) {
  * lent stay, and a call of the whole vector makes seats. */
 static void seats_are_lost(const char *path) {
     uint64_t number = 9;
-    cvec_vector_seat *second = NULL;
+    cvec_seat *second = NULL;
     for (int is_lent = 0; is_lent < 2; is_lent++) {
         remove(path);
         const uint64_t *const lent = make_lent(path);
         if (!is_lent) HOLDS(cvec_vector_compact(vector) == CVEC_DONE);
-        HOLDS(cvec_vector_take_seat(vector, &seat) == CVEC_DONE && grow(3, &number) == CVEC_DONE);
+        HOLDS(cvec_seat_take(vector, &seat) == CVEC_DONE && grow(3, &number) == CVEC_DONE);
         requests = 0;
-        HOLDS(cvec_vector_take_seat(vector, &second) == CVEC_MEMORY && second == NULL && requests == -1);
-        const uint32_t answer = cvec_vector_take_seat(vector, &second);
+        HOLDS(cvec_seat_take(vector, &second) == CVEC_MEMORY && second == NULL && requests == -1);
+        const uint32_t answer = cvec_seat_take(vector, &second);
         HOLDS(answer == (is_lent ? CVEC_FULL : CVEC_DONE) && (second == NULL) == is_lent);
         HOLDS(grow(4, &number) == CVEC_DONE && (!is_lent || are_lent(lent)));
-        if (second != NULL) HOLDS(cvec_vector_close_seat(second) == CVEC_DONE);
-        HOLDS(cvec_vector_close_seat(seat) == CVEC_DONE && cvec_vector_compact(vector) == CVEC_DONE);
-        HOLDS(cvec_vector_take_seat(vector, &seat) == CVEC_DONE && cvec_vector_take_seat(vector, &second) == CVEC_DONE);
-        HOLDS(cvec_vector_close_seat(second) == CVEC_DONE && cvec_vector_close_seat(seat) == CVEC_DONE);
-        HOLDS(cvec_vector_close(vector) == CVEC_DONE && found(path) == 5);
+        if (second != NULL) HOLDS(cvec_seat_close(&second) == CVEC_DONE);
+        HOLDS(cvec_seat_close(&seat) == CVEC_DONE && cvec_vector_compact(vector) == CVEC_DONE);
+        HOLDS(cvec_seat_take(vector, &seat) == CVEC_DONE && cvec_seat_take(vector, &second) == CVEC_DONE);
+        HOLDS(cvec_seat_close(&second) == CVEC_DONE && cvec_seat_close(&seat) == CVEC_DONE);
+        HOLDS(cvec_vector_close(&vector) == CVEC_DONE && found(path) == 5);
     }
 }
 
@@ -2286,7 +2284,7 @@ static void seats_are_lost(const char *path) {
 
 struct want {
     pthread_t thread;
-    cvec_vector_seat *seat;
+    cvec_seat *seat;
     uint64_t milliseconds, waited; /* in milliseconds too */
     uint32_t answer;
 };
@@ -2300,7 +2298,7 @@ static uint64_t milliseconds_now(void) {
 static void *run_want(void *work) {
     struct want *want = work;
     const uint64_t begun = milliseconds_now();
-    want->answer = cvec_vector_seat_within(vector, want->milliseconds, &want->seat);
+    want->answer = cvec_seat_take_within(vector, want->milliseconds, &want->seat);
     want->waited = milliseconds_now() - begun;
     return NULL;
 }
@@ -2321,37 +2319,37 @@ static void begin_want(struct want *want, uint64_t milliseconds, uint32_t before
 /* Who came first has the seat that is closed, and a deadline is kept; the wait sleeps. */
 static void seat_within(const char *path) {
     struct want wants[3];
-    cvec_vector_seat *none = NULL;
+    cvec_seat *none = NULL;
     make(path, 1);
-    HOLDS(cvec_vector_seat_within(vector, 0, &none) == CVEC_LATE && none == NULL);
+    HOLDS(cvec_seat_take_within(vector, 0, &none) == CVEC_LATE && none == NULL);
     const uint64_t begun = milliseconds_now();
-    HOLDS(cvec_vector_seat_within(vector, 50, &none) == CVEC_LATE && none == NULL);
+    HOLDS(cvec_seat_take_within(vector, 50, &none) == CVEC_LATE && none == NULL);
     HOLDS(milliseconds_now() - begun >= 50 && milliseconds_now() - begun < 5000);
     begin_want(&wants[0], 100, 0);
     begin_want(&wants[1], UINT64_MAX, 1);
     begin_want(&wants[2], 60000, 2);
     pthread_join(wants[0].thread, NULL);
     HOLDS(wants[0].answer == CVEC_LATE && wants[0].seat == NULL && wants[0].waited >= 100 && wants[0].waited < 5000);
-    HOLDS(cvec_vector_close(vector) == CVEC_BUSY);
+    HOLDS(cvec_vector_close(&vector) == CVEC_BUSY);
     HOLDS(__atomic_load_n(&timed_waits, __ATOMIC_SEQ_CST) < 20);
-    HOLDS(cvec_vector_close_seat(seat) == CVEC_DONE);
+    HOLDS(cvec_seat_close(&seat) == CVEC_DONE);
     pthread_join(wants[1].thread, NULL);
     HOLDS(wants[1].answer == CVEC_DONE && wants[1].seat != NULL && queued() == 1);
-    HOLDS(cvec_vector_take_seat(vector, &none) == CVEC_NOT_SO && none == NULL && cvec_vector_close(vector) == CVEC_BUSY);
-    HOLDS(cvec_vector_close_seat(wants[1].seat) == CVEC_DONE);
+    HOLDS(cvec_seat_take(vector, &none) == CVEC_NOT_SO && none == NULL && cvec_vector_close(&vector) == CVEC_BUSY);
+    HOLDS(cvec_seat_close(&wants[1].seat) == CVEC_DONE);
     pthread_join(wants[2].thread, NULL);
-    HOLDS(wants[2].answer == CVEC_DONE && cvec_vector_close_seat(wants[2].seat) == CVEC_DONE);
-    HOLDS(cvec_vector_seat_within(vector, 0, &seat) == CVEC_DONE && cvec_vector_close_seat(seat) == CVEC_DONE);
-    HOLDS(cvec_vector_close(vector) == CVEC_DONE);
+    HOLDS(wants[2].answer == CVEC_DONE && cvec_seat_close(&wants[2].seat) == CVEC_DONE);
+    HOLDS(cvec_seat_take_within(vector, 0, &seat) == CVEC_DONE && cvec_seat_close(&seat) == CVEC_DONE);
+    HOLDS(cvec_vector_close(&vector) == CVEC_DONE);
 }
 
 /* A seat that is closed is for the first in line, whoever else is woken or comes before it runs; two are for the first two. No close
  * comes between. */
 static void seats_in_line(const char *path) {
     struct want first, second;
-    cvec_vector_seat *other = NULL;
+    cvec_seat *other = NULL;
     make(path, 2);
-    HOLDS(cvec_vector_take_seat(vector, &other) == CVEC_DONE);
+    HOLDS(cvec_seat_take(vector, &other) == CVEC_DONE);
     for (int turn = 0; turn < 20 && !wrong; turn++) {
         begin_want(&first, 30000, 0);
         begin_want(&second, 30000, 1);
@@ -2374,46 +2372,46 @@ static void seats_in_line(const char *path) {
         seat = first.seat;
         other = second.seat;
     }
-    HOLDS(cvec_vector_close_seat(other) == CVEC_DONE && cvec_vector_close_seat(seat) == CVEC_DONE);
-    HOLDS(cvec_vector_close(vector) == CVEC_DONE);
+    HOLDS(cvec_seat_close(&other) == CVEC_DONE && cvec_seat_close(&seat) == CVEC_DONE);
+    HOLDS(cvec_vector_close(&vector) == CVEC_DONE);
 }
 
 /* While the whole vector is changed, which is held in its sync, a wait for a seat has its deadline too. */
 static void seat_within_change(const char *path) {
     pthread_t caller;
     struct want want;
-    cvec_vector_seat *none = NULL;
+    cvec_seat *none = NULL;
     uint32_t answer = CVEC_BUSY;
     uint64_t number = 0;
     make(path, 1);
-    HOLDS(grow(0, &number) == CVEC_DONE && cvec_vector_close_seat(seat) == CVEC_DONE);
+    HOLDS(grow(0, &number) == CVEC_DONE && cvec_seat_close(&seat) == CVEC_DONE);
     shut_gate(1);
     pthread_create(&caller, NULL, run_clear, &answer);
     until_held();
-    HOLDS(cvec_vector_seat_within(vector, 20, &none) == CVEC_LATE && none == NULL);
+    HOLDS(cvec_seat_take_within(vector, 20, &none) == CVEC_LATE && none == NULL);
     begin_want(&want, UINT64_MAX, 0);
-    HOLDS(holds() == 1 && cvec_vector_close(vector) == CVEC_BUSY);
+    HOLDS(holds() == 1 && cvec_vector_close(&vector) == CVEC_BUSY);
     shut_gate(0);
     pthread_join(caller, NULL);
     pthread_join(want.thread, NULL);
     HOLDS(answer == CVEC_DONE && want.answer == CVEC_DONE);
     seat = want.seat;
     HOLDS(grow(0, &number) == CVEC_DONE && number == 1);
-    HOLDS(cvec_vector_close_seat(seat) == CVEC_DONE && cvec_vector_close(vector) == CVEC_DONE && found(path) == 1);
+    HOLDS(cvec_seat_close(&seat) == CVEC_DONE && cvec_vector_close(&vector) == CVEC_DONE && found(path) == 1);
 }
 
 /* A pool of 200 threads works by 64 seats: each grows 20 times, by a seat of its own each time. */
 enum { POOL = 200, WORK = 20 };
 
 static void *run_worker(void *name) {
-    cvec_vector_seat *own = NULL;
+    cvec_seat *own = NULL;
     for (uint64_t k = 0; k < WORK; k++) {
         const uint64_t record = (uint64_t)(uintptr_t)name * WORK + k;
-        HOLDS(cvec_vector_seat_within(vector, 60000, &own) == CVEC_DONE);
+        HOLDS(cvec_seat_take_within(vector, 60000, &own) == CVEC_DONE);
         if (own == NULL) return NULL;
-        HOLDS(cvec_vector_grow(own, &record, 1, NULL) == CVEC_DONE);
+        HOLDS(cvec_seat_grow_u64(own, &record, 1, NULL) == CVEC_DONE);
         if (k % 5 == 0) nap();
-        HOLDS(cvec_vector_close_seat(own) == CVEC_DONE);
+        HOLDS(cvec_seat_close(&own) == CVEC_DONE);
     }
     return NULL;
 }
@@ -2423,14 +2421,14 @@ static void pool(const char *path) {
     static int times[POOL * WORK];
     pthread_t threads[POOL];
     uint64_t count = 0;
-    HOLDS(cvec_vector_create(&vector, path, 1, 64) == CVEC_DONE);
+    HOLDS(cvec_vector_create(&vector, path, CVEC_U64, &(cvec_options){.version = 1, .seats = 64}) == CVEC_DONE);
     for (uintptr_t k = 0; k < POOL; k++) pthread_create(&threads[k], NULL, run_worker, (void *)k);
     for (int k = 0; k < POOL; k++) pthread_join(threads[k], NULL);
-    HOLDS(cvec_vector_close(vector) == CVEC_DONE && cvec_vector_open(&vector, path, 1) == CVEC_DONE);
-    HOLDS(cvec_vector_take_seat(vector, &seat) == CVEC_DONE);
-    HOLDS(cvec_vector_read(seat, 0, seen, POOL * WORK + 1, &count) == CVEC_DONE && count == POOL * WORK);
+    HOLDS(cvec_vector_close(&vector) == CVEC_DONE && cvec_vector_open(&vector, path, CVEC_U64, &(cvec_options){.seats = 1}) == CVEC_DONE);
+    HOLDS(cvec_seat_take(vector, &seat) == CVEC_DONE);
+    HOLDS(cvec_seat_read_u64(seat, 0, seen, POOL * WORK + 1, &count) == CVEC_DONE && count == POOL * WORK);
     for (uint64_t k = 0; k < count; k++) HOLDS(seen[k] < POOL * WORK && times[seen[k]]++ == 0);
-    HOLDS(cvec_vector_close_seat(seat) == CVEC_DONE && cvec_vector_close(vector) == CVEC_DONE);
+    HOLDS(cvec_seat_close(&seat) == CVEC_DONE && cvec_vector_close(&vector) == CVEC_DONE);
 }
 
 int main(int argc, char **argv) {

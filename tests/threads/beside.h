@@ -14,12 +14,12 @@ static void naps_for(int milliseconds) {
     for (int k = 0; k < milliseconds; k++) nap();
 }
 
-static void take(cvec_vector_seat **taken) {
-    HOLDS(cvec_vector_take_seat(vector, taken) == CVEC_DONE && *taken != NULL);
+static void take(cvec_seat **taken) {
+    HOLDS(cvec_seat_take(vector, taken) == CVEC_DONE && *taken != NULL);
     if (*taken == NULL) exit(1);
 }
 
-static void borrow(cvec_vector_seat **taken) {
+static void borrow(cvec_seat **taken) {
     HOLDS(cvec_seat_borrow(vector, 20000, taken) == CVEC_DONE && *taken != NULL);
     if (*taken == NULL) exit(1);
 }
@@ -29,10 +29,10 @@ static uint32_t is_enough;
 
 /* Takes and closes seats, and counts how often. */
 static void *run_taker(void *count) {
-    cvec_vector_seat *own = NULL;
+    cvec_seat *own = NULL;
     for (; !seen(&is_enough) && !wrong; ++*(uint64_t *)count) {
-        HOLDS(cvec_vector_seat_within(vector, 30000, &own) == CVEC_DONE);
-        if (own != NULL) HOLDS(cvec_vector_close_seat(own) == CVEC_DONE);
+        HOLDS(cvec_seat_take_within(vector, 30000, &own) == CVEC_DONE);
+        if (own != NULL) HOLDS(cvec_seat_close(&own) == CVEC_DONE);
     }
     return NULL;
 }
@@ -41,8 +41,9 @@ static void *run_taker(void *count) {
 
 struct settling {
     pthread_t thread;
-    cvec_vector_seat *seat; /* or NULL: without one */
+    cvec_seat *seat; /* or NULL: without one */
     uint64_t milliseconds, waited;
+    uint64_t number; /* of the growth that it waits for, by a seat */
     uint32_t answer;
 };
 
@@ -50,15 +51,19 @@ static void *run_settle(void *work) {
     struct settling *its = work;
     const uint64_t begun = milliseconds_now();
     const uint32_t answer =
-        its->seat == NULL ? cvec_vector_settle(vector, its->milliseconds) : cvec_vector_await_for(its->seat, 0, its->milliseconds);
+        its->seat == NULL ? cvec_vector_settle(vector, its->milliseconds) : cvec_seat_settle(its->seat, its->number, its->milliseconds);
     its->waited = milliseconds_now() - begun;
     __atomic_store_n(&its->answer, answer, __ATOMIC_SEQ_CST);
     return NULL;
 }
 
-static void begin_settle(struct settling *its, cvec_vector_seat *own, uint64_t milliseconds) {
+static void begin_settle_of(struct settling *its, cvec_seat *own, uint64_t number, uint64_t milliseconds) {
     its->seat = own;
+    its->number = number;
     its->milliseconds = milliseconds;
     its->answer = CVEC_BUSY;
     pthread_create(&its->thread, NULL, run_settle, its);
 }
+
+/* Of the first growth. */
+static void begin_settle(struct settling *its, cvec_seat *own, uint64_t milliseconds) { begin_settle_of(its, own, 0, milliseconds); }

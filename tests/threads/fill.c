@@ -33,23 +33,23 @@ static void tell(uint32_t name, uint64_t settled) {
     REQUIRE(write(STDOUT_FILENO, line, (size_t)len) == len);
 }
 
-static void grow_one(cvec_vector_seat *seat, uint32_t name, uint64_t turn) {
+static void grow_one(cvec_seat *seat, uint32_t name, uint64_t turn) {
     const uint32_t record = name << NAME_PLACE | (uint32_t)turn;
     cvec_receipt receipt;
-    REQUIRE(cvec_vector_grow_records(seat, &record, 1, &receipt) == CVEC_DONE);
+    REQUIRE(cvec_seat_grow(seat, CVEC_U32, &record, 1, &receipt) == CVEC_DONE);
     REQUIRE(receipt.number == receipt.start && receipt.len == 1 && receipt.serial == turn);
     const int waits = is_told ? turn == FIRST_TOLD || turn + 1 == each : turn % BETWEEN_WAITS == 0;
     if (!waits) return;
-    REQUIRE(cvec_vector_await(seat, receipt.number) == CVEC_DONE);
+    REQUIRE(cvec_seat_settle(seat, receipt.number, CVEC_NO_LIMIT) == CVEC_DONE);
     if (is_told) tell(name, turn + 1);
 }
 
 static void *run_grower(void *work) {
     const uint32_t name = (uint32_t)(uintptr_t)work;
-    cvec_vector_seat *seat;
-    REQUIRE(cvec_vector_take_seat(vector, &seat) == CVEC_DONE);
+    cvec_seat *seat;
+    REQUIRE(cvec_seat_take(vector, &seat) == CVEC_DONE);
     for (uint64_t turn = 0; turn < each; turn++) grow_one(seat, name, turn);
-    REQUIRE(cvec_vector_close_seat(seat) == CVEC_DONE);
+    REQUIRE(cvec_seat_close(&seat) == CVEC_DONE);
     return NULL;
 }
 
@@ -59,19 +59,19 @@ static int has_ended(void) { return __atomic_load_n(&ends, __ATOMIC_SEQ_CST); }
 static void *run_reader(void *unused) {
     uint64_t size = 0, durable = 0, now = 0;
     uint32_t record;
-    cvec_vector_seat *seat;
+    cvec_seat *seat;
     (void)unused;
-    REQUIRE(cvec_vector_take_seat(vector, &seat) == CVEC_DONE);
+    REQUIRE(cvec_seat_take(vector, &seat) == CVEC_DONE);
     while (!has_ended()) {
-        REQUIRE(cvec_vector_size(seat, &now) == CVEC_DONE && now >= size);
+        REQUIRE(cvec_seat_size(seat, &now) == CVEC_DONE && now >= size);
         size = now;
-        REQUIRE(size == 0 || cvec_vector_at(seat, size - 1, &record) == CVEC_DONE);
+        REQUIRE(size == 0 || cvec_seat_at(seat, CVEC_U32, size - 1, &record) == CVEC_DONE);
         REQUIRE(cvec_seat_settled(seat, &now) == CVEC_DONE && now >= durable);
         durable = now;
         const struct timespec time = {0, 100000};
         nanosleep(&time, NULL);
     }
-    REQUIRE(cvec_vector_close_seat(seat) == CVEC_DONE);
+    REQUIRE(cvec_seat_close(&seat) == CVEC_DONE);
     return NULL;
 }
 
@@ -81,7 +81,7 @@ static void *run_whole(void *unused) {
     (void)unused;
     while (!has_ended()) {
         REQUIRE(cvec_vector_hold(vector) == CVEC_DONE);
-        REQUIRE(cvec_vector_change_records(vector, 0, &record, 1) == CVEC_BUSY);
+        REQUIRE(cvec_vector_change(vector, CVEC_U32, 0, &record, 1) == CVEC_BUSY);
         REQUIRE(cvec_vector_compact(vector) == CVEC_BUSY);
         REQUIRE(cvec_vector_release(vector) == CVEC_DONE);
         const struct timespec time = {0, 1000000};
@@ -108,7 +108,7 @@ static void fill(uint32_t threads) {
     __atomic_store_n(&ends, 1, __ATOMIC_SEQ_CST);
     pthread_join(whole, NULL);
     pthread_join(reader, NULL);
-    REQUIRE(cvec_vector_close(vector) == CVEC_DONE);
+    REQUIRE(cvec_vector_close(&vector) == CVEC_DONE);
     if (!is_told) pthread_join(flusher, NULL);
 }
 
@@ -116,18 +116,18 @@ static void fill(uint32_t threads) {
 static void look(const char *path, uint32_t threads) {
     static uint32_t seen[1 << 16];
     uint64_t next[MOST_THREADS] = {0}, count = 0, from = 0;
-    cvec_vector_seat *seat;
-    REQUIRE(cvec_vector_open_as(&vector, path, CVEC_U32, 1) == CVEC_DONE);
-    REQUIRE(cvec_vector_take_seat(vector, &seat) == CVEC_DONE);
+    cvec_seat *seat;
+    REQUIRE(cvec_vector_open(&vector, path, CVEC_U32, &(cvec_options){.seats = 1}) == CVEC_DONE);
+    REQUIRE(cvec_seat_take(vector, &seat) == CVEC_DONE);
     do {
-        REQUIRE(cvec_vector_read_records(seat, from, seen, 1 << 16, &count) == CVEC_DONE);
+        REQUIRE(cvec_seat_read(seat, CVEC_U32, from, seen, 1 << 16, &count) == CVEC_DONE);
         for (uint64_t k = 0; k < count; k++)
             REQUIRE(seen[k] >> NAME_PLACE < threads && (seen[k] & ((1u << NAME_PLACE) - 1)) == next[seen[k] >> NAME_PLACE]++);
         from += count;
     } while (count > 0);
     for (uint32_t name = 0; name < threads; name++) REQUIRE(next[name] == each);
     printf("%u growths, each there once\n", (unsigned)from);
-    REQUIRE(cvec_vector_close_seat(seat) == CVEC_DONE && cvec_vector_close(vector) == CVEC_DONE);
+    REQUIRE(cvec_seat_close(&seat) == CVEC_DONE && cvec_vector_close(&vector) == CVEC_DONE);
 }
 
 int main(int argc, char **argv) {
@@ -137,7 +137,7 @@ int main(int argc, char **argv) {
     const cvec_options options = {2, (uint16_t)(threads + 1), 0, strtoull(argv[4], NULL, 10)};
     each = strtoull(argv[3], NULL, 10) / threads;
     is_told = argc > 5;
-    REQUIRE(cvec_vector_create_with(&vector, argv[1], CVEC_U32, &options) == CVEC_DONE);
+    REQUIRE(cvec_vector_create(&vector, argv[1], CVEC_U32, &options) == CVEC_DONE);
     fill(threads);
     look(argv[1], threads);
     return 0;

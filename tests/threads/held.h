@@ -82,6 +82,8 @@ static int test_wait(pthread_cond_t *condition, pthread_mutex_t *mutex) {
     return answer;
 }
 
+static int is_drowsy; /* who was woken goes on a millisecond later */
+
 static int test_timedwait(pthread_cond_t *condition, pthread_mutex_t *mutex, const struct timespec *until) {
     struct timespec moment = *until;
     __atomic_add_fetch(&timed_waits, 1, __ATOMIC_SEQ_CST);
@@ -90,7 +92,13 @@ static int test_timedwait(pthread_cond_t *condition, pthread_mutex_t *mutex, con
         moment.tv_sec++;
         moment.tv_nsec -= 1000000000;
     }
-    return pthread_cond_timedwait(condition, mutex, &moment);
+    const int answer = pthread_cond_timedwait(condition, mutex, &moment);
+    if (__atomic_load_n(&is_drowsy, __ATOMIC_SEQ_CST)) {
+        pthread_mutex_unlock(mutex);
+        nap();
+        pthread_mutex_lock(mutex);
+    }
+    return answer;
 }
 
 /* Whether the process is killed in place of a write or a sync, behind so many of them; none does below 0. */
@@ -114,7 +122,7 @@ static void look_for_lock(void) {
     close(other);
 }
 
-static int fails(void) { return left >= 0 && left-- == 0; }
+static int fails(void) { return __atomic_load_n(&left, __ATOMIC_SEQ_CST) >= 0 && __atomic_fetch_sub(&left, 1, __ATOMIC_SEQ_CST) == 0; }
 
 static int is_interrupted(void) {
     errno = EINTR;
@@ -299,14 +307,14 @@ static int wrong;
     while (0)
 
 static cvec_vector *vector;
-static cvec_vector_seat *seat;
+static cvec_seat *seat;
 
 /* A new vector with so many seats, one of them taken, and with phases of so many growths. */
 static void make_narrow(const char *path, uint16_t seats, uint64_t growths) {
     const cvec_options options = {1, seats, 0, growths};
-    HOLDS(cvec_vector_create_with(&vector, path, CVEC_U64, &options) == CVEC_DONE);
+    HOLDS(cvec_vector_create(&vector, path, CVEC_U64, &options) == CVEC_DONE);
     if (wrong) exit(1);
-    HOLDS(cvec_vector_take_seat(vector, &seat) == CVEC_DONE);
+    HOLDS(cvec_seat_take(vector, &seat) == CVEC_DONE);
     if (wrong) exit(1);
 }
 
@@ -315,7 +323,7 @@ static void make(const char *path, uint16_t seats) { make_narrow(path, seats, 0)
 
 static uint32_t grow(uint64_t record, uint64_t *number) {
     cvec_receipt receipt;
-    uint32_t status = cvec_vector_grow(seat, &record, 1, &receipt);
+    uint32_t status = cvec_seat_grow_u64(seat, &record, 1, &receipt);
     if (status == CVEC_DONE) *number = receipt.number;
     return status;
 }
@@ -324,14 +332,14 @@ static uint32_t grow(uint64_t record, uint64_t *number) {
 static uint64_t found(const char *path) {
     static uint64_t seen[1 << 18];
     uint64_t size = 0, count = 0;
-    HOLDS(cvec_vector_open(&vector, path, 1) == CVEC_DONE);
+    HOLDS(cvec_vector_open(&vector, path, CVEC_U64, &(cvec_options){.seats = 1}) == CVEC_DONE);
     if (wrong) return 0;
-    HOLDS(cvec_vector_take_seat(vector, &seat) == CVEC_DONE);
-    HOLDS(cvec_vector_size(seat, &size) == CVEC_DONE);
-    HOLDS(cvec_vector_read(seat, 0, seen, 1 << 18, &count) == CVEC_DONE);
+    HOLDS(cvec_seat_take(vector, &seat) == CVEC_DONE);
+    HOLDS(cvec_seat_size(seat, &size) == CVEC_DONE);
+    HOLDS(cvec_seat_read_u64(seat, 0, seen, 1 << 18, &count) == CVEC_DONE);
     HOLDS(count == size);
     for (uint64_t k = 0; k < count; k++) HOLDS(seen[k] == k);
-    HOLDS(cvec_vector_close_seat(seat) == CVEC_DONE);
-    HOLDS(cvec_vector_close(vector) == CVEC_DONE);
+    HOLDS(cvec_seat_close(&seat) == CVEC_DONE);
+    HOLDS(cvec_vector_close(&vector) == CVEC_DONE);
     return size;
 }

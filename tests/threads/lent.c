@@ -26,26 +26,26 @@ static int is_wrong(void) { return __atomic_load_n(&wrong, __ATOMIC_RELAXED); }
     while (0)
 
 static cvec_vector *vector;
-static cvec_vector_seat *seat, *other;
+static cvec_seat *seat, *other;
 
 /* A new vector of this type, with two seats, both taken, and with phases of so many growths. */
 static void make(const char *path, cvec_type type, uint64_t growths) {
     const cvec_options options = {2, 8, 0, growths};
     remove(path);
-    HOLDS(cvec_vector_create_with(&vector, path, type, &options) == CVEC_DONE);
+    HOLDS(cvec_vector_create(&vector, path, type, &options) == CVEC_DONE);
     if (is_wrong()) exit(1);
-    HOLDS(cvec_vector_take_seat(vector, &seat) == CVEC_DONE && cvec_vector_take_seat(vector, &other) == CVEC_DONE);
+    HOLDS(cvec_seat_take(vector, &seat) == CVEC_DONE && cvec_seat_take(vector, &other) == CVEC_DONE);
     if (is_wrong()) exit(1);
 }
 
 static void close_all(void) {
-    HOLDS(cvec_vector_close_seat(other) == CVEC_DONE && cvec_vector_close_seat(seat) == CVEC_DONE);
-    HOLDS(cvec_vector_close(vector) == CVEC_DONE);
+    HOLDS(cvec_seat_close(&other) == CVEC_DONE && cvec_seat_close(&seat) == CVEC_DONE);
+    HOLDS(cvec_vector_close(&vector) == CVEC_DONE);
 }
 
-static uint64_t size_by(cvec_vector_seat *own) {
+static uint64_t size_by(cvec_seat *own) {
     uint64_t size = UINT64_MAX;
-    HOLDS(cvec_vector_size(own, &size) == CVEC_DONE);
+    HOLDS(cvec_seat_size(own, &size) == CVEC_DONE);
     return size;
 }
 
@@ -70,20 +70,20 @@ static bool are_numbers(cvec_type type, const void *records, uint64_t from, uint
 }
 
 /* Grows by copies of the records of the numbers from this one on: 16 at most. */
-static uint32_t grow_from(cvec_vector_seat *own, cvec_type type, uint64_t from, size_t len, cvec_receipt *receipt) {
+static uint32_t grow_from(cvec_seat *own, cvec_type type, uint64_t from, size_t len, cvec_receipt *receipt) {
     union record records[16];
     fill(type, records, from, len);
-    return cvec_vector_grow_records(own, records, len, receipt);
+    return cvec_seat_grow(own, type, records, len, receipt);
 }
 
 /* One record of u64, which is this number. */
-static uint32_t grow(cvec_vector_seat *own, uint64_t number) { return cvec_vector_grow(own, &number, 1, NULL); }
+static uint32_t grow(cvec_seat *own, uint64_t number) { return cvec_seat_grow_u64(own, &number, 1, NULL); }
 
 /* Where this record of the vector stands. */
-static const void *place_of(cvec_vector_seat *own, uint64_t position) {
+static const void *place_of(cvec_seat *own, uint64_t position) {
     cvec_piece piece = {0, NULL, 0};
     size_t count = 0;
-    HOLDS(cvec_vector_pieces(own, position, &piece, 1, &count) == CVEC_DONE && count == 1 && piece.start == position);
+    HOLDS(cvec_seat_pieces(own, position, &piece, 1, &count) == CVEC_DONE && count == 1 && piece.start == position);
     return piece.records;
 }
 
@@ -114,13 +114,13 @@ static uint64_t are_pieces(const cvec_piece *pieces, uint64_t from, size_t count
 }
 
 /* From there on to the end, so many pieces at a time: each call goes on where the last one ended. What is behind them stays. */
-static void are_told_by(cvec_vector_seat *own, uint64_t from, size_t room) {
+static void are_told_by(cvec_seat *own, uint64_t from, size_t room) {
     cvec_piece pieces[GROWTHS + 1];
     const uint8_t before = 0xa5;
     size_t count = room;
     while (count == room && !is_wrong()) {
         memset(pieces, before, sizeof pieces);
-        HOLDS(cvec_vector_pieces(own, from, pieces, room, &count) == CVEC_DONE && count <= room);
+        HOLDS(cvec_seat_pieces(own, from, pieces, room, &count) == CVEC_DONE && count <= room);
         from = are_pieces(pieces, from, count);
         for (const uint8_t *at = (const uint8_t *)&pieces[count]; at < (const uint8_t *)(pieces + GROWTHS + 1); at++)
             if (*at != before) HOLDS(!"nothing is written behind the pieces");
@@ -129,10 +129,10 @@ static void are_told_by(cvec_vector_seat *own, uint64_t from, size_t room) {
 }
 
 /* Nothing is told from there on. */
-static void are_none(cvec_vector_seat *own, uint64_t from, size_t room) {
+static void are_none(cvec_seat *own, uint64_t from, size_t room) {
     cvec_piece piece = {7, &piece, 7};
     size_t count = 7;
-    HOLDS(cvec_vector_pieces(own, from, &piece, room, &count) == CVEC_DONE && count == 0);
+    HOLDS(cvec_seat_pieces(own, from, &piece, room, &count) == CVEC_DONE && count == 0);
     HOLDS(piece.start == 7 && piece.records == &piece && piece.len == 7);
 }
 
@@ -156,9 +156,9 @@ static void make_told(const char *path, cvec_type type) {
 
 /* What was in the file stands elsewhere, in any pieces. */
 static void open_told(const char *path) {
-    HOLDS(cvec_vector_open_as(&vector, path, told.type, 2) == CVEC_DONE);
+    HOLDS(cvec_vector_open(&vector, path, told.type, &(cvec_options){.seats = 2}) == CVEC_DONE);
     if (is_wrong()) exit(1);
-    HOLDS(cvec_vector_take_seat(vector, &seat) == CVEC_DONE && cvec_vector_take_seat(vector, &other) == CVEC_DONE);
+    HOLDS(cvec_seat_take(vector, &seat) == CVEC_DONE && cvec_seat_take(vector, &other) == CVEC_DONE);
     for (uint64_t at = 0; at < told.len; at++) {
         told.places[at] = place_of(at % 2 == 0 ? seat : other, at);
         told.is_end[at + 1] = true;
@@ -194,25 +194,25 @@ static int growing; /* by __atomic: so many threads grow yet */
 static uint64_t row(uint64_t name, uint64_t turn) { return name << 32 | turn; }
 
 /* By a block in place, or by copies. */
-static void grow_rows(cvec_vector_seat *own, const uint64_t *rows, size_t len, bool is_block, cvec_receipt *receipt) {
+static void grow_rows(cvec_seat *own, const uint64_t *rows, size_t len, bool is_block, cvec_receipt *receipt) {
     void *block = NULL;
     if (!is_block) {
-        HOLDS(cvec_vector_grow(own, rows, len, receipt) == CVEC_DONE);
+        HOLDS(cvec_seat_grow_u64(own, rows, len, receipt) == CVEC_DONE);
         return;
     }
-    HOLDS(cvec_vector_block(own, len, &block) == CVEC_DONE);
+    HOLDS(cvec_seat_block(own, len, &block) == CVEC_DONE);
     if (block == NULL) return;
     memcpy(block, rows, len * sizeof *rows);
-    HOLDS(cvec_vector_publish(own, receipt) == CVEC_DONE);
+    HOLDS(cvec_seat_publish(own, receipt) == CVEC_DONE);
     HOLDS(place_of(own, receipt->start) == block);
 }
 
 static void *run_grower(void *work) {
     const uint64_t name = (uint64_t)(uintptr_t)work;
-    cvec_vector_seat *own = NULL;
+    cvec_seat *own = NULL;
     cvec_receipt receipt = {0, 0, 0, 0, 0};
     uint64_t next = 0;
-    HOLDS(cvec_vector_take_seat(vector, &own) == CVEC_DONE);
+    HOLDS(cvec_seat_take(vector, &own) == CVEC_DONE);
     for (uint64_t turn = 0; turn < TURNS && !is_wrong(); turn++) {
         uint64_t rows[LONGEST];
         const size_t len = 1 + (size_t)(turn % LONGEST);
@@ -220,16 +220,16 @@ static void *run_grower(void *work) {
         grow_rows(own, rows, len, turn % 3 == 0, &receipt);
         HOLDS(receipt.serial == turn && receipt.len == len && memcmp(place_of(own, receipt.start), rows, len * sizeof *rows) == 0);
     }
-    HOLDS(cvec_vector_close_seat(own) == CVEC_DONE);
+    HOLDS(cvec_seat_close(&own) == CVEC_DONE);
     __atomic_sub_fetch(&growing, 1, __ATOMIC_RELEASE);
     return NULL;
 }
 
 /* Reads what is new where it stands: of each thread its rows in order, from `next` on. Where it ends. */
-static uint64_t follow(cvec_vector_seat *own, uint64_t from, uint64_t *next) {
+static uint64_t follow(cvec_seat *own, uint64_t from, uint64_t *next) {
     cvec_piece found[MOST_PIECES];
     size_t count = 0;
-    HOLDS(cvec_vector_pieces(own, from, found, MOST_PIECES, &count) == CVEC_DONE);
+    HOLDS(cvec_seat_pieces(own, from, found, MOST_PIECES, &count) == CVEC_DONE);
     for (size_t k = 0; k < count && !is_wrong(); k++) {
         const uint64_t *rows = found[k].records;
         HOLDS(found[k].start == from);
@@ -241,14 +241,14 @@ static uint64_t follow(cvec_vector_seat *own, uint64_t from, uint64_t *next) {
 }
 
 static void *run_reader(void *unused) {
-    cvec_vector_seat *own = NULL;
+    cvec_seat *own = NULL;
     uint64_t next[GROWERS + 1] = {0}, at = 0, end = UINT64_MAX;
-    HOLDS(cvec_vector_take_seat(vector, &own) == CVEC_DONE);
+    HOLDS(cvec_seat_take(vector, &own) == CVEC_DONE);
     while (!is_wrong() && at < end) {
         if (end == UINT64_MAX && __atomic_load_n(&growing, __ATOMIC_ACQUIRE) == 0) end = size_by(own);
         at = follow(own, at, next);
     }
-    HOLDS(cvec_vector_close_seat(own) == CVEC_DONE);
+    HOLDS(cvec_seat_close(&own) == CVEC_DONE);
     return unused;
 }
 
@@ -277,7 +277,7 @@ static void stays(const char *path) {
     size_t count = 0;
     make(path, CVEC_U64, 0);
     grow_early();
-    HOLDS(cvec_vector_pieces(other, 0, early, EARLY, &count) == CVEC_DONE);
+    HOLDS(cvec_seat_pieces(other, 0, early, EARLY, &count) == CVEC_DONE);
     are_early(early, count);
     growing = GROWERS;
     for (uintptr_t k = 0; k < GROWERS; k++) pthread_create(&growers[k], NULL, run_grower, (void *)k);
@@ -285,7 +285,7 @@ static void stays(const char *path) {
     while (__atomic_load_n(&growing, __ATOMIC_ACQUIRE) > 0 && !is_wrong()) are_early(early, count);
     for (int k = 0; k < GROWERS; k++) pthread_join(growers[k], NULL);
     for (int k = 0; k < READERS; k++) pthread_join(readers[k], NULL);
-    HOLDS(cvec_vector_await(seat, EARLY + GROWERS * TURNS - 1) == CVEC_DONE && settled() > 10000);
+    HOLDS(cvec_seat_settle(seat, EARLY + GROWERS * TURNS - 1, CVEC_NO_LIMIT) == CVEC_DONE && settled() > 10000);
     are_early(early, count);
     close_all();
 }
@@ -297,17 +297,17 @@ enum { COUNTED = 1000 };
 /* Each growth is the number of its thread, and one that all have. */
 static void *run_counted(void *work) {
     const uint64_t rows[2] = {1 + (uint64_t)(uintptr_t)work, 77};
-    cvec_vector_seat *own = NULL;
+    cvec_seat *own = NULL;
     cvec_receipt receipt = {0, 0, 0, 0, 0};
     uint64_t count = 0, place = 0;
-    HOLDS(cvec_vector_take_seat(vector, &own) == CVEC_DONE);
+    HOLDS(cvec_seat_take(vector, &own) == CVEC_DONE);
     for (uint64_t turn = 0; turn < COUNTED && !is_wrong(); turn++) {
         grow_rows(own, rows, 2, turn % 2 == 0, &receipt);
         if (turn % 50 != 0) continue;
-        HOLDS(cvec_vector_count(own, rows[0], &count) == CVEC_DONE && count == turn + 1);
-        HOLDS(cvec_vector_find(own, rows[0], receipt.start, &place) == CVEC_DONE && place == receipt.start);
+        HOLDS(cvec_seat_count_u64(own, rows[0], &count) == CVEC_DONE && count == turn + 1);
+        HOLDS(cvec_seat_find_u64(own, rows[0], receipt.start, &place) == CVEC_DONE && place == receipt.start);
     }
-    HOLDS(cvec_vector_close_seat(own) == CVEC_DONE);
+    HOLDS(cvec_seat_close(&own) == CVEC_DONE);
     __atomic_sub_fetch(&growing, 1, __ATOMIC_RELEASE);
     return NULL;
 }
@@ -315,28 +315,28 @@ static void *run_counted(void *work) {
 /* Beside threads that grow, without a pause for them: what was grown before is counted, and the first one stays the first. */
 static void counts(const char *path) {
     pthread_t growers[GROWERS];
-    cvec_vector_seat *third = NULL;
+    cvec_seat *third = NULL;
     uint64_t before = 0, count = 0, place = 9;
     make(path, CVEC_U64, 0);
-    HOLDS(cvec_vector_take_seat(vector, &third) == CVEC_DONE);
-    HOLDS(cvec_vector_count(seat, 77, &count) == CVEC_DONE && count == 0);
-    HOLDS(cvec_vector_find(seat, 77, 0, &place) == CVEC_DONE && place == 0);
+    HOLDS(cvec_seat_take(vector, &third) == CVEC_DONE);
+    HOLDS(cvec_seat_count_u64(seat, 77, &count) == CVEC_DONE && count == 0);
+    HOLDS(cvec_seat_find_u64(seat, 77, 0, &place) == CVEC_DONE && place == 0);
     growing = GROWERS;
     for (uintptr_t k = 0; k < GROWERS; k++) pthread_create(&growers[k], NULL, run_counted, (void *)k);
     while (__atomic_load_n(&growing, __ATOMIC_ACQUIRE) > 0 && !is_wrong()) {
-        HOLDS(cvec_vector_count(seat, 77, &count) == CVEC_DONE && count >= before && count <= GROWERS * COUNTED);
+        HOLDS(cvec_seat_count_u64(seat, 77, &count) == CVEC_DONE && count >= before && count <= GROWERS * COUNTED);
         before = count;
-        HOLDS(cvec_vector_find(seat, 77, 0, &place) == CVEC_DONE && (place == 1 || (place == 0 && before == 0)));
+        HOLDS(cvec_seat_find_u64(seat, 77, 0, &place) == CVEC_DONE && (place == 1 || (place == 0 && before == 0)));
     }
     for (int k = 0; k < GROWERS; k++) pthread_join(growers[k], NULL);
     /* By seats that have looked at nothing before. */
-    HOLDS(cvec_vector_count(third, 77, &count) == CVEC_DONE && count == GROWERS * COUNTED);
-    HOLDS(cvec_vector_close_seat(third) == CVEC_DONE);
-    HOLDS(cvec_vector_find(other, 77, GROWERS * COUNTED * 2 - 1, &place) == CVEC_DONE && place == GROWERS * COUNTED * 2 - 1);
-    for (uint64_t k = 1; k <= GROWERS; k++) HOLDS(cvec_vector_count(other, k, &count) == CVEC_DONE && count == COUNTED);
+    HOLDS(cvec_seat_count_u64(third, 77, &count) == CVEC_DONE && count == GROWERS * COUNTED);
+    HOLDS(cvec_seat_close(&third) == CVEC_DONE);
+    HOLDS(cvec_seat_find_u64(other, 77, GROWERS * COUNTED * 2 - 1, &place) == CVEC_DONE && place == GROWERS * COUNTED * 2 - 1);
+    for (uint64_t k = 1; k <= GROWERS; k++) HOLDS(cvec_seat_count_u64(other, k, &count) == CVEC_DONE && count == COUNTED);
     for (uint64_t from = GROWERS * COUNTED * 2; from < GROWERS * COUNTED * 2 + 3; from++)
-        HOLDS(cvec_vector_find(other, 77, from, &place) == CVEC_DONE && place == GROWERS * COUNTED * 2);
-    HOLDS(cvec_vector_find(other, 78, 0, &place) == CVEC_DONE && place == GROWERS * COUNTED * 2);
+        HOLDS(cvec_seat_find_u64(other, 77, from, &place) == CVEC_DONE && place == GROWERS * COUNTED * 2);
+    HOLDS(cvec_seat_find_u64(other, 78, 0, &place) == CVEC_DONE && place == GROWERS * COUNTED * 2);
     close_all();
 }
 
@@ -351,26 +351,26 @@ static bool is_blank(cvec_type type, const void *records, size_t len) {
 }
 
 /* Lends a block of so many blank records to this seat. */
-static void *block_of(cvec_vector_seat *own, cvec_type type, size_t len) {
+static void *block_of(cvec_seat *own, cvec_type type, size_t len) {
     void *records = NULL;
-    HOLDS(cvec_vector_block(own, len, &records) == CVEC_DONE && records != NULL);
+    HOLDS(cvec_seat_block(own, len, &records) == CVEC_DONE && records != NULL);
     if (records == NULL) exit(1);
     HOLDS(is_blank(type, records, len));
     return records;
 }
 
 /* The seat has no block. */
-static void has_no_block(cvec_vector_seat *own) {
+static void has_no_block(cvec_seat *own) {
     cvec_receipt receipt = {9, 9, 9, 9, 9};
-    HOLDS(cvec_vector_publish(own, &receipt) == CVEC_NOT_SO && receipt.number == 9 && receipt.len == 9);
-    HOLDS(cvec_vector_drop(own) == CVEC_NOT_SO);
+    HOLDS(cvec_seat_publish(own, &receipt) == CVEC_NOT_SO && receipt.number == 9 && receipt.len == 9);
+    HOLDS(cvec_seat_drop(own) == CVEC_NOT_SO);
 }
 
 /* The vector has just the records of the numbers from 0 on, so many. */
-static void has_numbers(cvec_vector_seat *own, cvec_type type, uint64_t len) {
+static void has_numbers(cvec_seat *own, cvec_type type, uint64_t len) {
     static uint8_t seen[64 * sizeof(union record)];
     uint64_t count = 0;
-    HOLDS(size_by(own) == len && cvec_vector_read_records(own, 0, seen, 64, &count) == CVEC_DONE && count == len);
+    HOLDS(size_by(own) == len && cvec_seat_read(own, type, 0, seen, 64, &count) == CVEC_DONE && count == len);
     HOLDS(are_numbers(type, seen, 0, len));
 }
 
@@ -380,12 +380,12 @@ static void grows_in_place(cvec_type type) {
     void *second = &receipt;
     HOLDS(grow_from(seat, type, 0, 3, NULL) == CVEC_DONE);
     void *const records = block_of(seat, type, 5);
-    HOLDS(cvec_vector_block(seat, 1, &second) == CVEC_NOT_SO && second == &receipt);
+    HOLDS(cvec_seat_block(seat, 1, &second) == CVEC_NOT_SO && second == &receipt);
     fill(type, records, 5, 5);
     HOLDS(grow_from(other, type, 3, 2, NULL) == CVEC_DONE);
     has_numbers(seat, type, 5);
     has_numbers(other, type, 5);
-    HOLDS(cvec_vector_publish(seat, &receipt) == CVEC_DONE);
+    HOLDS(cvec_seat_publish(seat, &receipt) == CVEC_DONE);
     HOLDS(receipt.number == 2 && receipt.start == 5 && receipt.len == 5 && receipt.serial == 1 && receipt.seat == 0);
     HOLDS(place_of(other, 5) == records && place_of(seat, 5) == records);
     has_numbers(other, type, 10);
@@ -396,13 +396,13 @@ static void grows_in_place(cvec_type type) {
 /* Of a block that is dropped nothing is left, nor of one of a seat that is closed; who has that seat next has none. */
 static void is_dropped(cvec_type type) {
     fill(type, block_of(seat, type, 4), 10, 4);
-    HOLDS(cvec_vector_drop(seat) == CVEC_DONE && size_by(other) == 10);
+    HOLDS(cvec_seat_drop(seat) == CVEC_DONE && size_by(other) == 10);
     has_no_block(seat);
     fill(type, block_of(seat, type, 4), 10, 4);
-    HOLDS(cvec_vector_close_seat(seat) == CVEC_DONE && cvec_vector_take_seat(vector, &seat) == CVEC_DONE);
+    HOLDS(cvec_seat_close(&seat) == CVEC_DONE && cvec_seat_take(vector, &seat) == CVEC_DONE);
     has_no_block(seat);
     fill(type, block_of(seat, type, 4), 10, 4);
-    HOLDS(grow_from(seat, type, 10, 2, NULL) == CVEC_DONE && cvec_vector_drop(seat) == CVEC_DONE);
+    HOLDS(grow_from(seat, type, 10, 2, NULL) == CVEC_DONE && cvec_seat_drop(seat) == CVEC_DONE);
     has_numbers(seat, type, 12);
 }
 
@@ -413,17 +413,17 @@ static void blocks_of(const char *path, cvec_type type) {
     grows_in_place(type);
     is_dropped(type);
     fill(type, block_of(other, type, 2), 12, 2);
-    HOLDS(cvec_vector_publish(other, &receipt) == CVEC_DONE && receipt.start == 12);
-    HOLDS(cvec_vector_await(other, receipt.number) == CVEC_DONE && settled() == receipt.number + 1);
+    HOLDS(cvec_seat_publish(other, &receipt) == CVEC_DONE && receipt.start == 12);
+    HOLDS(cvec_seat_settle(other, receipt.number, CVEC_NO_LIMIT) == CVEC_DONE && settled() == receipt.number + 1);
     fill(type, block_of(seat, type, 1), 14, 1);
-    HOLDS(cvec_vector_publish(seat, NULL) == CVEC_DONE);
+    HOLDS(cvec_seat_publish(seat, NULL) == CVEC_DONE);
     fill(type, block_of(seat, type, 1), 15, 1);
     close_all();
-    HOLDS(cvec_vector_open_as(&vector, path, type, 1) == CVEC_DONE);
+    HOLDS(cvec_vector_open(&vector, path, type, &(cvec_options){.seats = 1}) == CVEC_DONE);
     if (is_wrong()) exit(1);
-    HOLDS(cvec_vector_take_seat(vector, &seat) == CVEC_DONE);
+    HOLDS(cvec_seat_take(vector, &seat) == CVEC_DONE);
     has_numbers(seat, type, 15);
-    HOLDS(cvec_vector_close_seat(seat) == CVEC_DONE && cvec_vector_close(vector) == CVEC_DONE);
+    HOLDS(cvec_seat_close(&seat) == CVEC_DONE && cvec_vector_close(&vector) == CVEC_DONE);
 }
 
 static void blocks(const char *path) {
@@ -439,12 +439,12 @@ static void has_blocks_of_lengths(const char *path, cvec_type type) {
     cvec_receipt receipt = {9, 9, 9, 9, 9};
     void *records = &receipt;
     make(path, type, 0);
-    HOLDS(cvec_vector_block(seat, 0, &records) == CVEC_EMPTY && cvec_vector_block(seat, most + 1, &records) == CVEC_TOO_LARGE);
-    HOLDS(cvec_vector_block(seat, SIZE_MAX, &records) == CVEC_TOO_LARGE && records == &receipt);
+    HOLDS(cvec_seat_block(seat, 0, &records) == CVEC_EMPTY && cvec_seat_block(seat, most + 1, &records) == CVEC_TOO_LARGE);
+    HOLDS(cvec_seat_block(seat, SIZE_MAX, &records) == CVEC_TOO_LARGE && records == &receipt);
     has_no_block(seat);
     records = block_of(seat, type, most);
     fill(type, records, 0, most);
-    HOLDS(cvec_vector_publish(seat, &receipt) == CVEC_DONE && receipt.start == 0 && receipt.len == most && size_by(other) == most);
+    HOLDS(cvec_seat_publish(seat, &receipt) == CVEC_DONE && receipt.start == 0 && receipt.len == most && size_by(other) == most);
     HOLDS(place_of(other, 0) == records && are_numbers(type, records, 0, most));
     close_all();
 }
@@ -456,10 +456,10 @@ static void keeps_a_flag_out(const char *path) {
     cvec_flagged *const records = block_of(seat, CVEC_FLAGGED, 3);
     fill(CVEC_FLAGGED, records, 0, 3);
     ((uint8_t *)&records[2])[8] = 2;
-    for (int k = 0; k < 2; k++) HOLDS(cvec_vector_publish(seat, &receipt) == CVEC_NO_RECORD && receipt.number == 9);
+    for (int k = 0; k < 2; k++) HOLDS(cvec_seat_publish(seat, &receipt) == CVEC_NO_RECORD && receipt.number == 9);
     HOLDS(size_by(other) == 0 && are_numbers(CVEC_FLAGGED, records, 0, 2) && ((uint8_t *)&records[2])[8] == 2);
     fill(CVEC_FLAGGED, records + 2, 2, 1);
-    HOLDS(cvec_vector_publish(seat, &receipt) == CVEC_DONE && receipt.number == 0 && receipt.serial == 0 && receipt.len == 3);
+    HOLDS(cvec_seat_publish(seat, &receipt) == CVEC_DONE && receipt.number == 0 && receipt.serial == 0 && receipt.len == 3);
     has_numbers(other, CVEC_FLAGGED, 3);
     close_all();
 }
@@ -482,7 +482,7 @@ static void blocks_renewed(const char *path) {
     HOLDS(settled() == PHASE && is_blank(CVEC_U64, records, 3));
     fill(CVEC_U64, records, 2 * PHASE, 3);
     /* The second phase is full: it ends, and the block is published in the third. */
-    HOLDS(cvec_vector_publish(seat, &receipt) == CVEC_DONE && receipt.number == 2 * PHASE && receipt.start == 2 * PHASE);
+    HOLDS(cvec_seat_publish(seat, &receipt) == CVEC_DONE && receipt.number == 2 * PHASE && receipt.start == 2 * PHASE);
     HOLDS(receipt.serial == 0 && settled() == 2 * PHASE && place_of(other, 2 * PHASE) == records);
     has_numbers(other, CVEC_U64, 2 * PHASE + 3);
     close_all();
@@ -503,10 +503,10 @@ static void goes_on(const char *path) {
         grow_all(k * 5, 5);
         HOLDS(settled() == (k * 5 + 4) / PHASE * PHASE);
         block_of(seat, CVEC_U64, 3);
-        HOLDS(cvec_vector_drop(seat) == CVEC_DONE);
-        HOLDS(cvec_vector_count(seat, UINT64_MAX - k, &found) == CVEC_DONE && found == 1);
-        HOLDS(cvec_vector_find(other, UINT64_MAX - k, 0, &found) == CVEC_DONE && found == k);
-        HOLDS(cvec_vector_at(other, k, &copy) == CVEC_DONE && copy == UINT64_MAX - k);
+        HOLDS(cvec_seat_drop(seat) == CVEC_DONE);
+        HOLDS(cvec_seat_count_u64(seat, UINT64_MAX - k, &found) == CVEC_DONE && found == 1);
+        HOLDS(cvec_seat_find_u64(other, UINT64_MAX - k, 0, &found) == CVEC_DONE && found == k);
+        HOLDS(cvec_seat_at(other, CVEC_U64, k, &copy) == CVEC_DONE && copy == UINT64_MAX - k);
         are_none(other, 5 * k + 5, 1);
         are_none(other, 0, 0);
     }
@@ -516,28 +516,28 @@ static void goes_on(const char *path) {
 /* The phase is full, and what was lent stays: no call of a seat moves it. */
 static void is_full(const uint64_t *lent, uint64_t value, uint64_t size) {
     cvec_receipt receipt = {9, 9, 9, 9, 9};
-    cvec_vector_seat *third = NULL;
+    cvec_seat *third = NULL;
     const uint64_t pushed = 5;
     for (int k = 0; k < 2; k++) {
         HOLDS(grow(k == 0 ? seat : other, 5) == CVEC_FULL && *lent == value);
         uint64_t *const records = block_of(seat, CVEC_U64, 2);
         fill(CVEC_U64, records, 3, 2);
-        for (int turn = 0; turn < 2; turn++) HOLDS(cvec_vector_publish(seat, &receipt) == CVEC_FULL && receipt.number == 9);
-        HOLDS(are_numbers(CVEC_U64, records, 3, 2) && cvec_vector_drop(seat) == CVEC_DONE && *lent == value);
-        HOLDS(cvec_vector_push_block(other, 1) == CVEC_DONE && cvec_vector_push(other, &pushed) == CVEC_FULL && *lent == value);
-        HOLDS(cvec_vector_take_seat(vector, &third) == CVEC_DONE && size_by(third) == size);
-        HOLDS(cvec_vector_close_seat(third) == CVEC_DONE && *lent == value && cvec_vector_hold(vector) == CVEC_DONE);
+        for (int turn = 0; turn < 2; turn++) HOLDS(cvec_seat_publish(seat, &receipt) == CVEC_FULL && receipt.number == 9);
+        HOLDS(are_numbers(CVEC_U64, records, 3, 2) && cvec_seat_drop(seat) == CVEC_DONE && *lent == value);
+        HOLDS(cvec_seat_push_block(other, 1) == CVEC_DONE && cvec_seat_push(other, CVEC_U64, &pushed) == CVEC_FULL && *lent == value);
+        HOLDS(cvec_seat_take(vector, &third) == CVEC_DONE && size_by(third) == size);
+        HOLDS(cvec_seat_close(&third) == CVEC_DONE && *lent == value && cvec_vector_hold(vector) == CVEC_DONE);
         HOLDS(cvec_vector_compact(vector) == CVEC_BUSY && cvec_vector_release(vector) == CVEC_DONE);
     }
-    HOLDS(cvec_vector_await(seat, size - 1) == CVEC_DONE && settled() == size && *lent == value);
+    HOLDS(cvec_seat_settle(seat, size - 1, CVEC_NO_LIMIT) == CVEC_DONE && settled() == size && *lent == value);
     HOLDS(place_of(seat, 0) == lent && place_of(other, 0) == lent);
     has_numbers(other, CVEC_U64, size);
 }
 
 static void compact(void) {
-    HOLDS(cvec_vector_close_seat(seat) == CVEC_DONE && cvec_vector_close_seat(other) == CVEC_DONE);
+    HOLDS(cvec_seat_close(&seat) == CVEC_DONE && cvec_seat_close(&other) == CVEC_DONE);
     HOLDS(cvec_vector_compact(vector) == CVEC_DONE);
-    HOLDS(cvec_vector_take_seat(vector, &seat) == CVEC_DONE && cvec_vector_take_seat(vector, &other) == CVEC_DONE);
+    HOLDS(cvec_seat_take(vector, &seat) == CVEC_DONE && cvec_seat_take(vector, &other) == CVEC_DONE);
 }
 
 /* A call of the whole vector makes room, and from then on nothing is lent; the growths of the phase are one piece. */
@@ -550,7 +550,7 @@ static void makes_room(uint64_t size) {
     compact();
     grow_all(size + 3 * PHASE, 5);
     compact();
-    HOLDS(cvec_vector_pieces(other, size + 3 * PHASE, found, 2, &count) == CVEC_DONE && count == 1 && found[0].len == 5);
+    HOLDS(cvec_seat_pieces(other, size + 3 * PHASE, found, 2, &count) == CVEC_DONE && count == 1 && found[0].len == 5);
     HOLDS(are_numbers(CVEC_U64, found[0].records, size + 3 * PHASE, 5));
     has_numbers(seat, CVEC_U64, size + 3 * PHASE + 5);
 }
@@ -571,7 +571,7 @@ static void full_by_blocks(const char *path) {
     make(path, CVEC_U64, PHASE);
     uint64_t *const records = block_of(other, CVEC_U64, 1);
     *records = UINT64_MAX;
-    HOLDS(cvec_vector_publish(other, NULL) == CVEC_DONE);
+    HOLDS(cvec_seat_publish(other, NULL) == CVEC_DONE);
     grow_all(1, PHASE - 1);
     is_full(records, UINT64_MAX, PHASE);
     makes_room(PHASE);
@@ -584,18 +584,18 @@ static void full_by_pushes(const char *path) {
     uint64_t copies[2] = {0, 0};
     size_t count = 0;
     make(path, CVEC_U64, PHASE);
-    HOLDS(cvec_vector_push_block(seat, 10) == CVEC_DONE);
-    for (uint64_t k = PHASE; k < PHASE + 2; k++) HOLDS(cvec_vector_push(seat, &(uint64_t){UINT64_MAX - k}) == CVEC_DONE);
+    HOLDS(cvec_seat_push_block(seat, 10) == CVEC_DONE);
+    for (uint64_t k = PHASE; k < PHASE + 2; k++) HOLDS(cvec_seat_push(seat, CVEC_U64, &(uint64_t){UINT64_MAX - k}) == CVEC_DONE);
     for (uint64_t k = 0; k < PHASE; k++) HOLDS(grow(other, UINT64_MAX - k) == CVEC_DONE);
     const uint64_t *const lent = place_of(other, 0);
-    for (int k = 0; k < 2; k++) HOLDS(cvec_vector_grow_pushed(seat, NULL) == CVEC_FULL && *lent == UINT64_MAX);
-    HOLDS(cvec_vector_pushed(seat, &waiting, &count) == CVEC_DONE && count == 2);
+    for (int k = 0; k < 2; k++) HOLDS(cvec_seat_flush(seat, NULL) == CVEC_FULL && *lent == UINT64_MAX);
+    HOLDS(cvec_seat_waiting(seat, &waiting, &count) == CVEC_DONE && count == 2);
     memcpy(copies, waiting, sizeof copies);
-    HOLDS(cvec_vector_close_seat(seat) == CVEC_FULL && *lent == UINT64_MAX);
-    HOLDS(cvec_vector_close_seat(other) == CVEC_DONE && cvec_vector_compact(vector) == CVEC_DONE);
-    HOLDS(cvec_vector_take_seat(vector, &seat) == CVEC_DONE && cvec_vector_take_seat(vector, &other) == CVEC_DONE);
+    HOLDS(cvec_seat_close(&seat) == CVEC_FULL && *lent == UINT64_MAX);
+    HOLDS(cvec_seat_close(&other) == CVEC_DONE && cvec_vector_compact(vector) == CVEC_DONE);
+    HOLDS(cvec_seat_take(vector, &seat) == CVEC_DONE && cvec_seat_take(vector, &other) == CVEC_DONE);
     has_numbers(other, CVEC_U64, PHASE);
-    HOLDS(cvec_vector_grow(seat, copies, 2, NULL) == CVEC_DONE);
+    HOLDS(cvec_seat_grow_u64(seat, copies, 2, NULL) == CVEC_DONE);
     has_numbers(other, CVEC_U64, PHASE + 2);
     close_all();
 }
@@ -606,12 +606,12 @@ static void stays_beside_refusals(const char *path) {
     make(path, CVEC_U64, PHASE);
     grow_all(0, PHASE);
     const uint64_t *const lent = place_of(seat, 0);
-    HOLDS(cvec_vector_close_seat(seat) == CVEC_DONE && cvec_vector_hold(vector) == CVEC_DONE);
+    HOLDS(cvec_seat_close(&seat) == CVEC_DONE && cvec_vector_hold(vector) == CVEC_DONE);
     HOLDS(cvec_vector_compact(vector) == CVEC_BUSY && cvec_vector_clear(vector) == CVEC_BUSY);
-    HOLDS(cvec_vector_change(vector, 0, &record, 1) == CVEC_BUSY && cvec_vector_close(vector) == CVEC_BUSY);
+    HOLDS(cvec_vector_change_u64(vector, 0, &record, 1) == CVEC_BUSY && cvec_vector_close(&vector) == CVEC_BUSY);
     HOLDS(cvec_vector_release(vector) == CVEC_DONE);
     HOLDS(grow(other, 5) == CVEC_FULL && *lent == UINT64_MAX && place_of(other, 0) == lent);
-    HOLDS(cvec_vector_take_seat(vector, &seat) == CVEC_DONE);
+    HOLDS(cvec_seat_take(vector, &seat) == CVEC_DONE);
     close_all();
 }
 
@@ -627,25 +627,25 @@ static void options(const char *path) {
       some[] = {{{0, 0, 0, 0}, CVEC_DONE}, {{2, 1, 0, 536870904}, CVEC_DONE}, {{0, 1, 0, 1}, CVEC_DONE}, {{1, 64, 131071, 0}, CVEC_DONE}};
     for (size_t k = 0; k < sizeof none / sizeof *none; k++) {
         vector = (cvec_vector *)&vector;
-        HOLDS(cvec_vector_create_with(&vector, path, CVEC_U64, &none[k].options) == none[k].answer && vector == NULL);
+        HOLDS(cvec_vector_create(&vector, path, CVEC_U64, &none[k].options) == none[k].answer && vector == NULL);
         HOLDS(access(path, F_OK) != 0);
         vector = (cvec_vector *)&vector;
-        HOLDS(cvec_vector_open_with(&vector, path, CVEC_U64, &none[k].options) == none[k].answer && vector == NULL);
+        HOLDS(cvec_vector_open(&vector, path, CVEC_U64, &none[k].options) == none[k].answer && vector == NULL);
     }
-    HOLDS(cvec_vector_create_with(&vector, path, CVEC_BYTES24, NULL) == CVEC_NOT_SO && vector == NULL && access(path, F_OK) != 0);
+    HOLDS(cvec_vector_create(&vector, path, CVEC_BYTES24, NULL) == CVEC_NOT_SO && vector == NULL && access(path, F_OK) != 0);
     for (size_t k = 0; k < sizeof some / sizeof *some && !is_wrong(); k++) {
         remove(path);
-        HOLDS(cvec_vector_create_with(&vector, path, CVEC_U64, &some[k].options) == CVEC_DONE);
-        HOLDS(!is_wrong() && cvec_vector_close(vector) == CVEC_DONE);
+        HOLDS(cvec_vector_create(&vector, path, CVEC_U64, &some[k].options) == CVEC_DONE);
+        HOLDS(!is_wrong() && cvec_vector_close(&vector) == CVEC_DONE);
     }
 }
 
 /* How many seats a vector has. */
 static uint16_t all_seats(void) {
-    cvec_vector_seat *taken[65];
+    cvec_seat *taken[65];
     uint16_t count = 0;
-    while (count < 65 && cvec_vector_take_seat(vector, &taken[count]) == CVEC_DONE) count++;
-    for (uint16_t k = 0; k < count; k++) HOLDS(cvec_vector_close_seat(taken[k]) == CVEC_DONE);
+    while (count < 65 && cvec_seat_take(vector, &taken[count]) == CVEC_DONE) count++;
+    for (uint16_t k = 0; k < count; k++) HOLDS(cvec_seat_close(&taken[k]) == CVEC_DONE);
     return count;
 }
 
@@ -660,18 +660,18 @@ static int version_of(const char *path) {
 /* What isn't said is the default: 64 seats, a file of version 1; and a file is opened with options too. */
 static void defaults(const char *path) {
     const cvec_options version_2 = {2, 0, 0, 0}, seats_3 = {2, 3, 0, 1};
-    HOLDS(cvec_vector_create_with(&vector, path, CVEC_U64, NULL) == CVEC_DONE && all_seats() == 64);
-    HOLDS(cvec_vector_close(vector) == CVEC_DONE && version_of(path) == 1);
-    HOLDS(cvec_vector_open_with(&vector, path, CVEC_U64, NULL) == CVEC_DONE && all_seats() == 64);
-    HOLDS(cvec_vector_close(vector) == CVEC_DONE);
-    HOLDS(cvec_vector_open_with(&vector, path, CVEC_PAIR, NULL) == CVEC_WIDTH && vector == NULL);
-    HOLDS(cvec_vector_open_with(&vector, path, CVEC_U64, &seats_3) == CVEC_DONE && all_seats() == 3);
+    HOLDS(cvec_vector_create(&vector, path, CVEC_U64, NULL) == CVEC_DONE && all_seats() == 64);
+    HOLDS(cvec_vector_close(&vector) == CVEC_DONE && version_of(path) == 1);
+    HOLDS(cvec_vector_open(&vector, path, CVEC_U64, NULL) == CVEC_DONE && all_seats() == 64);
+    HOLDS(cvec_vector_close(&vector) == CVEC_DONE);
+    HOLDS(cvec_vector_open(&vector, path, CVEC_PAIR, NULL) == CVEC_WIDTH && vector == NULL);
+    HOLDS(cvec_vector_open(&vector, path, CVEC_U64, &seats_3) == CVEC_DONE && all_seats() == 3);
     /* Phases of one growth: each settles the one before it. */
-    HOLDS(cvec_vector_take_seat(vector, &seat) == CVEC_DONE);
+    HOLDS(cvec_seat_take(vector, &seat) == CVEC_DONE);
     for (uint64_t k = 0; k < 5; k++) HOLDS(grow(seat, UINT64_MAX - k) == CVEC_DONE && settled() == k);
-    HOLDS(cvec_vector_close_seat(seat) == CVEC_DONE && cvec_vector_close(vector) == CVEC_DONE && version_of(path) == 1);
+    HOLDS(cvec_seat_close(&seat) == CVEC_DONE && cvec_vector_close(&vector) == CVEC_DONE && version_of(path) == 1);
     remove(path);
-    HOLDS(cvec_vector_create_with(&vector, path, CVEC_U64, &version_2) == CVEC_DONE && cvec_vector_close(vector) == CVEC_DONE);
+    HOLDS(cvec_vector_create(&vector, path, CVEC_U64, &version_2) == CVEC_DONE && cvec_vector_close(&vector) == CVEC_DONE);
     HOLDS(version_of(path) == 2);
 }
 
@@ -692,11 +692,11 @@ static uint64_t addresses_of(const char *path, uint16_t seats, uint64_t growths)
     const cvec_options options = {1, seats, 0, growths};
     remove(path);
     const uint64_t before = addresses();
-    HOLDS(cvec_vector_create_with(&vector, path, CVEC_U64, &options) == CVEC_DONE);
+    HOLDS(cvec_vector_create(&vector, path, CVEC_U64, &options) == CVEC_DONE);
     if (is_wrong()) exit(1);
-    HOLDS(cvec_vector_take_seat(vector, &seat) == CVEC_DONE);
+    HOLDS(cvec_seat_take(vector, &seat) == CVEC_DONE);
     const uint64_t taken = addresses() - before;
-    HOLDS(cvec_vector_close_seat(seat) == CVEC_DONE && cvec_vector_close(vector) == CVEC_DONE);
+    HOLDS(cvec_seat_close(&seat) == CVEC_DONE && cvec_vector_close(&vector) == CVEC_DONE);
     return taken;
 }
 
@@ -710,11 +710,11 @@ static void reserves(const char *path) {
 static void forks_by_default(const char *path) {
     int status = -1;
     remove(path);
-    HOLDS(cvec_vector_create_with(&vector, path, CVEC_U64, NULL) == CVEC_DONE);
+    HOLDS(cvec_vector_create(&vector, path, CVEC_U64, NULL) == CVEC_DONE);
     const pid_t child = is_wrong() ? -1 : fork();
     if (child == 0) _exit(7);
     HOLDS(child > 0 && waitpid(child, &status, 0) == child && WIFEXITED(status) && WEXITSTATUS(status) == 7);
-    HOLDS(cvec_vector_close(vector) == CVEC_DONE);
+    HOLDS(cvec_vector_close(&vector) == CVEC_DONE);
 }
 
 /* ---- where the system refuses the addresses for wide phases, as under `ulimit -v` */
@@ -736,10 +736,10 @@ static void narrow(const char *path) {
     const uint64_t *const lent = place_of(seat, 5);
     HOLDS(*lent == 5);
     HOLDS(grow_until(&next, 3 * NARROW) == CVEC_FULL && next == 2 * NARROW && *lent == 5 && size_by(other) == next);
-    HOLDS(cvec_vector_await(seat, next - 1) == CVEC_DONE && *lent == 5 && place_of(other, 5) == lent);
-    HOLDS(cvec_vector_close_seat(other) == CVEC_DONE && cvec_vector_close_seat(seat) == CVEC_DONE);
+    HOLDS(cvec_seat_settle(seat, next - 1, CVEC_NO_LIMIT) == CVEC_DONE && *lent == 5 && place_of(other, 5) == lent);
+    HOLDS(cvec_seat_close(&other) == CVEC_DONE && cvec_seat_close(&seat) == CVEC_DONE);
     HOLDS(cvec_vector_compact(vector) == CVEC_DONE);
-    HOLDS(cvec_vector_take_seat(vector, &seat) == CVEC_DONE && cvec_vector_take_seat(vector, &other) == CVEC_DONE);
+    HOLDS(cvec_seat_take(vector, &seat) == CVEC_DONE && cvec_seat_take(vector, &other) == CVEC_DONE);
     HOLDS(grow_until(&next, 2 * NARROW + 5) == CVEC_DONE && size_by(other) == next);
     close_all();
 }

@@ -22,7 +22,7 @@ enum { MOST_THREADS = 16, MOST_TURNS = 256, MOST_CALLS = 400, MOST_SEATS = 64, L
 /* A thread, and what it knows. */
 struct thread {
     pthread_t id;
-    cvec_vector_seat *seat;
+    cvec_seat *seat;
     uint64_t *room; /* for one growth, and one record more */
     uint64_t name, random, calls, turns, size, settled;
     cvec_receipt receipts[MOST_TURNS];
@@ -39,7 +39,7 @@ struct round {
 
 static struct round *round_of;
 static cvec_vector *vector;
-static cvec_vector_seat *common; /* which each thread may call at any time */
+static cvec_seat *common; /* which each thread may call at any time */
 
 #define HOLDS(claim) \
     do \
@@ -81,7 +81,7 @@ static void grow(struct thread *own) {
     const uint64_t most = below(&own->random, 500) == 0 ? LARGEST : below(&own->random, 40) == 0 ? 5000 : 60;
     const uint64_t len = 1 + below(&own->random, most);
     for (uint64_t at = 0; at < len; at++) own->room[at] = record(own->name, own->turns, len, at);
-    HOLDS(cvec_vector_grow(own->seat, own->room, len, &own->receipts[own->turns]) == CVEC_DONE);
+    HOLDS(cvec_seat_grow_u64(own->seat, own->room, len, &own->receipts[own->turns]) == CVEC_DONE);
     note_growth(own, len);
 }
 
@@ -89,12 +89,12 @@ static void grow(struct thread *own) {
 static void push(struct thread *own) {
     if (own->turns == MOST_TURNS) return;
     const uint64_t len = 1 + below(&own->random, 60);
-    HOLDS(cvec_vector_push_block(own->seat, len + below(&own->random, 2)) == CVEC_DONE);
+    HOLDS(cvec_seat_push_block(own->seat, len + below(&own->random, 2)) == CVEC_DONE);
     for (uint64_t at = 0; at < len; at++) {
         const uint64_t next = record(own->name, own->turns, len, at);
-        HOLDS(cvec_vector_push(own->seat, &next) == CVEC_DONE);
+        HOLDS(cvec_seat_push(own->seat, CVEC_U64, &next) == CVEC_DONE);
     }
-    HOLDS(cvec_vector_grow_pushed(own->seat, &own->receipts[own->turns]) == CVEC_DONE);
+    HOLDS(cvec_seat_flush(own->seat, &own->receipts[own->turns]) == CVEC_DONE);
     note_growth(own, len);
 }
 
@@ -103,21 +103,21 @@ static void grow_in_place(struct thread *own) {
     void *block = NULL;
     if (own->turns == MOST_TURNS) return;
     const uint64_t len = 1 + below(&own->random, below(&own->random, 40) == 0 ? 5000 : 60);
-    HOLDS(cvec_vector_block(own->seat, len, &block) == CVEC_DONE && block != NULL);
+    HOLDS(cvec_seat_block(own->seat, len, &block) == CVEC_DONE && block != NULL);
     if (block == NULL) return;
     for (uint64_t at = 0; at < len; at++) ((uint64_t *)block)[at] = record(own->name, own->turns, len, at);
     if (below(&own->random, 4) == 0) {
-        HOLDS(cvec_vector_drop(own->seat) == CVEC_DONE && cvec_vector_publish(own->seat, NULL) == CVEC_NOT_SO);
+        HOLDS(cvec_seat_drop(own->seat) == CVEC_DONE && cvec_seat_publish(own->seat, NULL) == CVEC_NOT_SO);
         return;
     }
-    HOLDS(cvec_vector_publish(own->seat, &own->receipts[own->turns]) == CVEC_DONE);
+    HOLDS(cvec_seat_publish(own->seat, &own->receipts[own->turns]) == CVEC_DONE);
     note_growth(own, len);
 }
 
 static void grow_what_is_refused(struct thread *own) {
     cvec_receipt receipt = {7, 7, 7, 7, 7};
-    HOLDS(cvec_vector_grow(own->seat, own->room, 0, &receipt) == CVEC_EMPTY);
-    HOLDS(cvec_vector_grow(own->seat, own->room, LARGEST + 1, &receipt) == CVEC_TOO_LARGE);
+    HOLDS(cvec_seat_grow_u64(own->seat, own->room, 0, &receipt) == CVEC_EMPTY);
+    HOLDS(cvec_seat_grow_u64(own->seat, own->room, LARGEST + 1, &receipt) == CVEC_TOO_LARGE);
     HOLDS(receipt.number == 7 && receipt.start == 7 && receipt.len == 7);
 }
 
@@ -132,7 +132,7 @@ static void read_own(struct thread *own) {
     if (own->turns == 0) return;
     const cvec_receipt *receipt = any(own, &turn);
     const uint64_t skipped = below(&own->random, receipt->len);
-    HOLDS(cvec_vector_read(own->seat, receipt->start + skipped, own->room, receipt->len - skipped, &count) == CVEC_DONE);
+    HOLDS(cvec_seat_read_u64(own->seat, receipt->start + skipped, own->room, receipt->len - skipped, &count) == CVEC_DONE);
     HOLDS(count == receipt->len - skipped);
     for (uint64_t at = 0; at < count; at++)
         if (own->room[at] != record(own->name, turn, receipt->len, skipped + at)) HOLDS(!"its own growth is read");
@@ -143,14 +143,14 @@ static void read_one(struct thread *own) {
     if (own->turns == 0) return;
     const cvec_receipt *receipt = any(own, &turn);
     const uint64_t skipped = below(&own->random, receipt->len);
-    HOLDS(cvec_vector_at(own->seat, receipt->start + skipped, &seen) == CVEC_DONE);
+    HOLDS(cvec_seat_at(own->seat, CVEC_U64, receipt->start + skipped, &seen) == CVEC_DONE);
     HOLDS(seen == record(own->name, turn, receipt->len, skipped));
-    HOLDS(cvec_vector_at(own->seat, UINT64_C(1) << 32, &seen) == CVEC_OUT_OF_RANGE);
+    HOLDS(cvec_seat_at(own->seat, CVEC_U64, UINT64_C(1) << 32, &seen) == CVEC_OUT_OF_RANGE);
 }
 
 static void ask_size(struct thread *own) {
     uint64_t size = 0;
-    HOLDS(cvec_vector_size(own->seat, &size) == CVEC_DONE && size >= own->size);
+    HOLDS(cvec_seat_size(own->seat, &size) == CVEC_DONE && size >= own->size);
     own->size = size;
 }
 
@@ -163,7 +163,7 @@ static void read_lent(struct thread *own) {
     if (own->turns == 0) return;
     const cvec_receipt *receipt = any(own, &turn);
     const size_t room = 1 + below(&own->random, PIECES);
-    HOLDS(cvec_vector_pieces(own->seat, receipt->start, pieces, room, &count) == CVEC_DONE && count > 0 && count <= room);
+    HOLDS(cvec_seat_pieces(own->seat, receipt->start, pieces, room, &count) == CVEC_DONE && count > 0 && count <= room);
     if (count == 0) return;
     HOLDS(pieces[0].start == receipt->start && pieces[0].len >= receipt->len);
     for (size_t k = 1; k < count; k++) HOLDS(pieces[k].start == pieces[k - 1].start + pieces[k - 1].len && pieces[k].len > 0);
@@ -184,7 +184,7 @@ static void count_a_head(struct thread *own) {
     uint64_t turn, count = 0;
     if (own->turns == 0) return;
     const cvec_receipt *receipt = any(own, &turn);
-    HOLDS(cvec_vector_count(own->seat, record(own->name, turn, receipt->len, 0), &count) == CVEC_DONE && count == 1);
+    HOLDS(cvec_seat_count_u64(own->seat, record(own->name, turn, receipt->len, 0), &count) == CVEC_DONE && count == 1);
 }
 
 static void find_a_head(struct thread *own) {
@@ -192,13 +192,13 @@ static void find_a_head(struct thread *own) {
     if (own->turns == 0) return;
     const cvec_receipt *receipt = any(own, &turn);
     const uint64_t from = below(&own->random, receipt->start + 1);
-    HOLDS(cvec_vector_find(own->seat, record(own->name, turn, receipt->len, 0), from, &place) == CVEC_DONE && place == receipt->start);
+    HOLDS(cvec_seat_find_u64(own->seat, record(own->name, turn, receipt->len, 0), from, &place) == CVEC_DONE && place == receipt->start);
 }
 
 static void read_any(struct thread *own) {
     const uint64_t from = below(&own->random, own->size + 100), room = below(&own->random, 500);
     uint64_t count = UINT64_MAX;
-    HOLDS(cvec_vector_read(own->seat, from, own->room, room, &count) == CVEC_DONE && count <= room);
+    HOLDS(cvec_seat_read_u64(own->seat, from, own->room, room, &count) == CVEC_DONE && count <= room);
     HOLDS(from >= own->size || count >= (own->size - from < room ? own->size - from : room));
 }
 
@@ -212,7 +212,7 @@ static void await_own(struct thread *own) {
     uint64_t turn;
     if (own->turns == 0) return;
     const uint64_t number = any(own, &turn)->number;
-    HOLDS(cvec_vector_await(own->seat, number) == CVEC_DONE);
+    HOLDS(cvec_seat_settle(own->seat, number, CVEC_NO_LIMIT) == CVEC_DONE);
     own->settled = greatest(own->settled, number + 1);
     ask_settled(own);
 }
@@ -221,39 +221,39 @@ static void await_own_for(struct thread *own) {
     uint64_t turn;
     if (own->turns == 0) return;
     const uint64_t number = any(own, &turn)->number;
-    const uint32_t status = cvec_vector_await_for(own->seat, number, below(&own->random, 3));
+    const uint32_t status = cvec_seat_settle(own->seat, number, below(&own->random, 3));
     HOLDS(status == CVEC_DONE || status == CVEC_LATE);
     if (status == CVEC_DONE) own->settled = greatest(own->settled, number + 1);
     ask_settled(own);
 }
 
 static void await_none(struct thread *own) {
-    HOLDS(cvec_vector_await(own->seat, UINT64_MAX) == CVEC_OUT_OF_RANGE);
-    HOLDS(cvec_vector_await(own->seat, 1048568 + below(&own->random, 1000)) == CVEC_OUT_OF_RANGE);
+    HOLDS(cvec_seat_settle(own->seat, UINT64_MAX, CVEC_NO_LIMIT) == CVEC_OUT_OF_RANGE);
+    HOLDS(cvec_seat_settle(own->seat, 1048568 + below(&own->random, 1000), CVEC_NO_LIMIT) == CVEC_OUT_OF_RANGE);
 }
 
 /* A number of a seat isn't given again. */
 static void change_seat(struct thread *own) {
     if (__atomic_add_fetch(&round_of->seats, 1, __ATOMIC_SEQ_CST) > MOST_SEATS) return;
-    HOLDS(cvec_vector_close_seat(own->seat) == CVEC_DONE);
-    HOLDS(cvec_vector_take_seat(vector, &own->seat) == CVEC_DONE);
+    HOLDS(cvec_seat_close(&own->seat) == CVEC_DONE);
+    HOLDS(cvec_seat_take(vector, &own->seat) == CVEC_DONE);
 }
 
 static void call_common(struct thread *own) {
     uint64_t answer = 0;
     const uint64_t which = below(&own->random, 5);
-    const uint32_t status = which == 0   ? cvec_vector_size(common, &answer)
+    const uint32_t status = which == 0   ? cvec_seat_size(common, &answer)
                             : which == 1 ? cvec_seat_settled(common, &answer)
-                            : which == 2 ? cvec_vector_read(common, below(&own->random, own->size + 1), own->room, 50, &answer)
-                            : which == 3 ? cvec_vector_at(common, below(&own->random, own->size + 1), own->room)
-                                         : cvec_vector_await_for(common, 0, 0);
+                            : which == 2 ? cvec_seat_read_u64(common, below(&own->random, own->size + 1), own->room, 50, &answer)
+                            : which == 3 ? cvec_seat_at(common, CVEC_U64, below(&own->random, own->size + 1), own->room)
+                                         : cvec_seat_settle(common, 0, 0);
     HOLDS(status == CVEC_DONE || status == CVEC_BUSY || (which >= 3 && status == CVEC_OUT_OF_RANGE) ||
           (which == 4 && status == CVEC_LATE));
 }
 
 static void close_too_early(struct thread *own) {
     (void)own;
-    HOLDS(cvec_vector_close(vector) == CVEC_BUSY);
+    HOLDS(cvec_vector_close(&vector) == CVEC_BUSY);
 }
 
 static uint32_t change_own(struct thread *own) {
@@ -261,7 +261,7 @@ static uint32_t change_own(struct thread *own) {
     const cvec_receipt *receipt = any(own, &turn);
     const uint64_t skipped = below(&own->random, receipt->len), left = receipt->len - skipped, count = left < 1000 ? left : 1000;
     for (uint64_t at = 0; at < count; at++) own->room[at] = record(own->name, turn, receipt->len, skipped + at);
-    return cvec_vector_change(vector, receipt->start + skipped, own->room, count);
+    return cvec_vector_change_u64(vector, receipt->start + skipped, own->room, count);
 }
 
 /* A call of the whole vector beside those by seats. It leaves each record as it is. */
@@ -283,12 +283,12 @@ static void settle_all(struct thread *own) {
 
 /* Another growth of this thread, by a seat that is borrowed where there is one. */
 static void grow_by_any(struct thread *own) {
-    cvec_vector_seat *seat = NULL;
-    const cvec_vector_seat *const its = own->seat;
+    cvec_seat *seat = NULL;
+    const cvec_seat *const its = own->seat;
     const uint32_t status = cvec_seat_borrow(vector, below(&own->random, 20), &seat);
     HOLDS((status == CVEC_DONE && seat != NULL && seat != its) || (status == CVEC_LATE && seat == NULL));
     if (seat == NULL) return;
-    cvec_vector_seat *const kept = own->seat;
+    cvec_seat *const kept = own->seat;
     own->seat = seat;
     (below(&own->random, 2) == 0 ? grow : push)(own);
     own->seat = kept;
@@ -348,14 +348,14 @@ static void *flush(void *every) { return (void *)(uintptr_t)cvec_vector_run_flus
 
 static void begin_threads(const char *path) {
     const uint32_t status = round_of->base == 0 && access(path, F_OK) != 0
-                                ? cvec_vector_create(&vector, path, round_of->version, MOST_SEATS)
-                                : cvec_vector_open(&vector, path, MOST_SEATS);
-    HOLDS(status == CVEC_DONE && cvec_vector_take_seat(vector, &common) == CVEC_DONE);
+                                ? cvec_vector_create(&vector, path, CVEC_U64, &(cvec_options){.version = round_of->version, .seats = MOST_SEATS})
+                                : cvec_vector_open(&vector, path, CVEC_U64, &(cvec_options){.seats = MOST_SEATS});
+    HOLDS(status == CVEC_DONE && cvec_seat_take(vector, &common) == CVEC_DONE);
     if (round_of->wrong) exit(1);
     for (unsigned k = 0; k < round_of->threads; k++) {
         struct thread *own = &round_of->all[k];
         own->room = malloc((LARGEST + 1) * sizeof *own->room);
-        HOLDS(own->room != NULL && cvec_vector_take_seat(vector, &own->seat) == CVEC_DONE);
+        HOLDS(own->room != NULL && cvec_seat_take(vector, &own->seat) == CVEC_DONE);
         if (round_of->wrong) exit(1);
         memset(own->room, 1, (LARGEST + 1) * sizeof *own->room);
     }
@@ -370,9 +370,9 @@ static void live(const char *path) {
     for (unsigned k = 0; k < round_of->threads; k++) pthread_create(&round_of->all[k].id, NULL, run, &round_of->all[k]);
     for (unsigned k = 0; k < round_of->threads; k++) {
         pthread_join(round_of->all[k].id, NULL);
-        HOLDS(cvec_vector_close_seat(round_of->all[k].seat) == CVEC_DONE);
+        HOLDS(cvec_seat_close(&round_of->all[k].seat) == CVEC_DONE);
     }
-    HOLDS(cvec_vector_close_seat(common) == CVEC_DONE);
+    HOLDS(cvec_seat_close(&common) == CVEC_DONE);
     call_alone();
     for (unsigned k = 0; k < round_of->threads; k++) free(round_of->all[k].room);
     if (round_of->has_flusher) {
@@ -380,7 +380,7 @@ static void live(const char *path) {
         pthread_join(flusher, &flushed);
         HOLDS(flushed == NULL);
     }
-    HOLDS(cvec_vector_close(vector) == CVEC_DONE);
+    HOLDS(cvec_vector_close(&vector) == CVEC_DONE);
     fflush(stdout);
 }
 
@@ -388,15 +388,15 @@ static void live(const char *path) {
 
 /* The records of the file. */
 static uint64_t *read_all(const char *path, uint64_t *size) {
-    cvec_vector_seat *seat;
+    cvec_seat *seat;
     uint64_t count = 0;
     *size = 0;
-    HOLDS(cvec_vector_open(&vector, path, 1) == CVEC_DONE);
+    HOLDS(cvec_vector_open(&vector, path, CVEC_U64, &(cvec_options){.seats = 1}) == CVEC_DONE);
     if (round_of->wrong) return NULL;
-    HOLDS(cvec_vector_take_seat(vector, &seat) == CVEC_DONE && cvec_vector_size(seat, size) == CVEC_DONE);
+    HOLDS(cvec_seat_take(vector, &seat) == CVEC_DONE && cvec_seat_size(seat, size) == CVEC_DONE);
     uint64_t *records = malloc((*size + 1) * sizeof *records);
-    HOLDS(records != NULL && cvec_vector_read(seat, 0, records, *size, &count) == CVEC_DONE && count == *size);
-    HOLDS(cvec_vector_close_seat(seat) == CVEC_DONE && cvec_vector_close(vector) == CVEC_DONE);
+    HOLDS(records != NULL && cvec_seat_read_u64(seat, 0, records, *size, &count) == CVEC_DONE && count == *size);
+    HOLDS(cvec_seat_close(&seat) == CVEC_DONE && cvec_vector_close(&vector) == CVEC_DONE);
     return records;
 }
 

@@ -57,13 +57,13 @@ static const size_t lengths[GROWTHS] = {3, 4, 1, 5, 4, 1, 2, 4, 1, 3, 4, 1};
 static uint64_t records[ROOM];
 
 static cvec_vector *vector;
-static cvec_vector_seat *seat, *other;
+static cvec_seat *seat, *other;
 
 /* The push that fills a block grows by it, and of fewer records who asks for the receipt. */
 static uint32_t push(uint64_t start, uint64_t end, cvec_receipt *receipt) {
     uint32_t answer = CVEC_DONE;
-    for (uint64_t at = start; at < end && answer == CVEC_DONE; at++) AGAIN(cvec_vector_push(seat, &at), answer);
-    if (answer == CVEC_DONE) AGAIN(cvec_vector_grow_pushed(seat, receipt), answer);
+    for (uint64_t at = start; at < end && answer == CVEC_DONE; at++) AGAIN(cvec_seat_push(seat, CVEC_U64, &at), answer);
+    if (answer == CVEC_DONE) AGAIN(cvec_seat_flush(seat, receipt), answer);
     return answer;
 }
 
@@ -71,11 +71,11 @@ static uint32_t push(uint64_t start, uint64_t end, cvec_receipt *receipt) {
 static uint32_t publish(uint64_t start, size_t len, cvec_receipt *receipt) {
     void *block = NULL;
     uint32_t answer;
-    AGAIN(cvec_vector_block(seat, len, &block), answer);
+    AGAIN(cvec_seat_block(seat, len, &block), answer);
     HOLDS(answer == CVEC_DONE && block != NULL);
     for (uint64_t at = 0; at < len; at++) ((uint64_t *)block)[at] = start + at;
-    AGAIN(cvec_vector_publish(seat, receipt), answer);
-    HOLDS(answer == CVEC_DONE && cvec_vector_drop(seat) == CVEC_NOT_SO);
+    AGAIN(cvec_seat_publish(seat, receipt), answer);
+    HOLDS(answer == CVEC_DONE && cvec_seat_drop(seat) == CVEC_NOT_SO);
     return answer;
 }
 
@@ -88,7 +88,7 @@ static void grow(size_t number, uint64_t start) {
     } else if (number % 2 != 0) {
         answer = publish(start, lengths[number], &receipt);
     } else {
-        AGAIN(cvec_vector_grow(seat, records + start, lengths[number], &receipt), answer);
+        AGAIN(cvec_seat_grow_u64(seat, records + start, lengths[number], &receipt), answer);
     }
     HOLDS(answer == CVEC_DONE && receipt.number == number && receipt.start == start && receipt.len == lengths[number]);
 }
@@ -99,7 +99,7 @@ static void expect_pieces(uint64_t count) {
     uint64_t end = 0;
     size_t told = 0;
     uint32_t answer;
-    AGAIN(cvec_vector_pieces(other, 0, pieces, ROOM, &told), answer);
+    AGAIN(cvec_seat_pieces(other, 0, pieces, ROOM, &told), answer);
     HOLDS(answer == CVEC_DONE);
     for (size_t k = 0; k < told; k++) {
         HOLDS(pieces[k].start == end);
@@ -112,16 +112,16 @@ static void expect_pieces(uint64_t count) {
 static void expect_each(uint64_t count) {
     uint64_t equal = 9, place = 9;
     uint32_t answer;
-    AGAIN(cvec_vector_count(other, count - 1, &equal), answer);
+    AGAIN(cvec_seat_count_u64(other, count - 1, &equal), answer);
     HOLDS(answer == CVEC_DONE && equal == 1);
-    AGAIN(cvec_vector_find(other, count - 1, 0, &place), answer);
+    AGAIN(cvec_seat_find_u64(other, count - 1, 0, &place), answer);
     HOLDS(answer == CVEC_DONE && place == count - 1);
 }
 
 /* The vector has just so many records. By turns the other seat learns it by each call first. */
 static void expect(uint64_t count, size_t turn) {
     uint64_t found[ROOM + 1], there = 0;
-    HOLDS(cvec_vector_read(seat, 0, found, ROOM + 1, &there) == CVEC_DONE && there == count);
+    HOLDS(cvec_seat_read_u64(seat, 0, found, ROOM + 1, &there) == CVEC_DONE && there == count);
     for (uint64_t at = 0; at < count; at++) HOLDS(found[at] == at);
     if (turn % 2 == 0) expect_pieces(count);
     if (count > 0) expect_each(count);
@@ -130,9 +130,9 @@ static void expect(uint64_t count, size_t turn) {
 
 static void take_seats(void) {
     uint32_t answer;
-    AGAIN(cvec_vector_take_seat(vector, &seat), answer);
-    HOLDS(answer == CVEC_DONE && cvec_vector_push_block(seat, BLOCK) == CVEC_DONE);
-    AGAIN(cvec_vector_take_seat(vector, &other), answer);
+    AGAIN(cvec_seat_take(vector, &seat), answer);
+    HOLDS(answer == CVEC_DONE && cvec_seat_push_block(seat, BLOCK) == CVEC_DONE);
+    AGAIN(cvec_seat_take(vector, &other), answer);
     HOLDS(answer == CVEC_DONE);
 }
 
@@ -146,7 +146,7 @@ static uint64_t grow_all(void) {
         start += lengths[number];
         expect(start, number);
         if (number % 2 == 0) continue;
-        AGAIN(cvec_vector_await(seat, number), answer);
+        AGAIN(cvec_seat_settle(seat, number, CVEC_NO_LIMIT), answer);
         if (answer == CVEC_BROKEN) return durable;
         HOLDS(answer == CVEC_DONE);
         durable = start;
@@ -157,14 +157,14 @@ static uint64_t grow_all(void) {
 /* What is in the file: what was durable, and whole growths alone. */
 static void expect_file(const char *path, uint64_t durable) {
     uint64_t size = 0, whole = 0;
-    HOLDS(cvec_vector_open(&vector, path, 2) == CVEC_DONE);
+    HOLDS(cvec_vector_open(&vector, path, CVEC_U64, &(cvec_options){.seats = 2}) == CVEC_DONE);
     take_seats();
-    HOLDS(cvec_vector_size(seat, &size) == CVEC_DONE && size >= durable);
+    HOLDS(cvec_seat_size(seat, &size) == CVEC_DONE && size >= durable);
     for (size_t number = 0; number < GROWTHS && whole < size; number++) whole += lengths[number];
     HOLDS(whole == size);
     expect(size, 0);
-    HOLDS(cvec_vector_close_seat(other) == CVEC_DONE);
-    HOLDS(cvec_vector_close_seat(seat) == CVEC_DONE && cvec_vector_close(vector) == CVEC_DONE);
+    HOLDS(cvec_seat_close(&other) == CVEC_DONE);
+    HOLDS(cvec_seat_close(&seat) == CVEC_DONE && cvec_vector_close(&vector) == CVEC_DONE);
 }
 
 /* Whether there was such a request. */
@@ -172,14 +172,14 @@ static bool refuse(const char *path, uint64_t number) {
     uint32_t answer;
     seen = 0;
     refused = number;
-    AGAIN(cvec_vector_create(&vector, path, 1, 2), answer);
-    if (answer == CVEC_BROKEN) answer = cvec_vector_create(&vector, path, 1, 2); /* of its commit the calls couldn't be listed */
+    AGAIN(cvec_vector_create(&vector, path, CVEC_U64, &(cvec_options){.version = 1, .seats = 2}), answer);
+    if (answer == CVEC_BROKEN) answer = cvec_vector_create(&vector, path, CVEC_U64, &(cvec_options){.version = 1, .seats = 2}); /* of its commit the calls couldn't be listed */
     HOLDS(answer == CVEC_DONE);
     take_seats();
     const uint64_t durable = grow_all();
-    cvec_vector_close_seat(other);
-    cvec_vector_close_seat(seat);
-    cvec_vector_close(vector);
+    cvec_seat_close(&other);
+    cvec_seat_close(&seat);
+    cvec_vector_close(&vector);
     const bool was_refused = seen >= number;
     refused = 0;
     expect_file(path, durable);

@@ -13,7 +13,7 @@
 enum { MOST_THREADS = 64, MOST_LEN = 60, LINE = 64, TURNS_TOLD = 3 };
 
 struct writer {
-    cvec_vector_seat *seat;
+    cvec_seat *seat;
     uint64_t round, name, turns;
 };
 
@@ -26,7 +26,7 @@ static size_t block(uint64_t *out, const struct writer *own, uint64_t turn) {
 
 static void require(uint32_t status) {
     if (status == CVEC_DONE) return;
-    fprintf(stderr, "%s\n", cvec_vector_status_text(status));
+    fprintf(stderr, "%s\n", cvec_status_text(status));
     exit(1);
 }
 
@@ -37,11 +37,11 @@ static void *run(void *work) {
     uint64_t records[MOST_LEN];
     cvec_receipt receipt;
     for (uint64_t turn = 0; turn < own->turns; turn++) {
-        require(cvec_vector_grow(own->seat, records, block(records, own, turn), &receipt));
+        require(cvec_seat_grow_u64(own->seat, records, block(records, own, turn), &receipt));
         size_t len = strlen(lines);
         snprintf(lines + len, sizeof lines - len, "%" PRIu64 " %" PRIu64 " %" PRIu64 "\n", own->name, turn, receipt.start);
         if (turn % TURNS_TOLD != TURNS_TOLD - 1 && turn + 1 != own->turns) continue;
-        require(cvec_vector_await(own->seat, receipt.number));
+        require(cvec_seat_settle(own->seat, receipt.number, CVEC_NO_LIMIT));
         len = strlen(lines);
         if (write(1, lines, len) != (ssize_t)len) exit(1);
         lines[0] = '\0';
@@ -61,20 +61,20 @@ int main(int argc, char **argv) {
     if (argc != 5) return 2;
     const uint64_t round = strtoull(argv[2], NULL, 10), count = strtoull(argv[3], NULL, 10), turns = strtoull(argv[4], NULL, 10);
     if (count == 0 || count > MOST_THREADS) return 2;
-    uint32_t status = cvec_vector_create(&vector, argv[1], 1, (uint16_t)count);
-    require(status == CVEC_EXISTS ? cvec_vector_open(&vector, argv[1], (uint16_t)count) : status);
+    uint32_t status = cvec_vector_create(&vector, argv[1], CVEC_U64, &(cvec_options){.version = 1, .seats = (uint16_t)count});
+    require(status == CVEC_EXISTS ? cvec_vector_open(&vector, argv[1], CVEC_U64, &(cvec_options){.seats = (uint16_t)count}) : status);
     pthread_create(&flusher, NULL, flush, vector);
     for (uint64_t k = 0; k < count; k++) {
         writers[k] = (struct writer){NULL, round, k, turns};
-        require(cvec_vector_take_seat(vector, &writers[k].seat));
+        require(cvec_seat_take(vector, &writers[k].seat));
         pthread_create(&threads[k], NULL, run, &writers[k]);
     }
     for (uint64_t k = 0; k < count; k++) {
         pthread_join(threads[k], NULL);
-        require(cvec_vector_close_seat(writers[k].seat));
+        require(cvec_seat_close(&writers[k].seat));
     }
     require(cvec_vector_stop_flusher(vector));
     pthread_join(flusher, NULL);
-    require(cvec_vector_close(vector));
+    require(cvec_vector_close(&vector));
     return 0;
 }

@@ -75,7 +75,7 @@ static uint32_t phase_find(cvec_type type, cvec_handle *grower, const void *reco
 
 /* For a call by this seat: it is inside once its grower is one of another phase than this. Where another thread is at that it
  * waits for it, and else begins that phase. Refused, it is aside. */
-static uint32_t come_in(cvec_vector_seat *seat, uint64_t past_phase) {
+static uint32_t come_in(cvec_seat *seat, uint64_t past_phase) {
     cvec_vector *vector = seat->vector;
     uint32_t answer = CVEC_DONE;
     set_busy(seat, ASIDE);
@@ -91,7 +91,7 @@ static uint32_t come_in(cvec_vector_seat *seat, uint64_t past_phase) {
 }
 
 /* For a call that uses its grower. */
-static uint32_t enter(cvec_vector_seat *seat) {
+static uint32_t enter(cvec_seat *seat) {
     uint32_t answer = enter_so(seat, INSIDE);
     if (answer != CVEC_DONE || !__atomic_load_n(&seat->vector->shut, __ATOMIC_SEQ_CST)) return answer;
     answer = come_in(seat, NO_PHASE);
@@ -99,9 +99,16 @@ static uint32_t enter(cvec_vector_seat *seat) {
     return answer;
 }
 
+/* The same for one that names records of this type, and passes these. Of a handle that is none nothing is asked. */
+static uint32_t enter_with(cvec_seat *seat, cvec_type type, const void *records, size_t count) {
+    if (seat == NULL) return CVEC_NOT_SO;
+    if (!has_width_of(seat->vector, type)) return CVEC_WIDTH;
+    return are_records(seat->vector->type, records, count) ? enter(seat) : CVEC_NO_RECORD;
+}
+
 /* ---- growths */
 
-static uint32_t begin_growth(cvec_vector_seat *seat) {
+static uint32_t begin_growth(cvec_seat *seat) {
     if (is_broken(seat->vector)) return CVEC_BROKEN;
     count_begun(seat, seat->begun + 1);
     return CVEC_DONE;
@@ -113,7 +120,7 @@ static uint32_t begin_growth(cvec_vector_seat *seat) {
  *
  * The first touch of a page is dear: for small growths all of them are touched by one call. In that, threads would wait for one
  * another, so that larger growths touch theirs themselves. */
-static void make_room(cvec_vector_seat *seat, size_t count) {
+static void make_room(cvec_seat *seat, size_t count) {
     const size_t each = size_of(seat->vector->type);
     if (count > LARGE_GROWTH / each) return;
     const size_t len = count * each + BESIDE_RECORDS;
@@ -133,7 +140,7 @@ struct growth {
     size_t count;
 };
 
-static uint32_t try_growth(cvec_vector_seat *seat, const struct growth *growth, cvec_receipt *receipt) {
+static uint32_t try_growth(cvec_seat *seat, const struct growth *growth, cvec_receipt *receipt) {
     __tsan_release(seat->vector);
     AnnotateIgnoreWritesBegin(__FILE__, __LINE__);
     uint32_t answer = growth->is_block
@@ -144,13 +151,13 @@ static uint32_t try_growth(cvec_vector_seat *seat, const struct growth *growth, 
 }
 
 /* Learns what others grew, and how many records there are. */
-static uint32_t look(cvec_vector_seat *seat, uint64_t *size) {
+static uint32_t look(cvec_seat *seat, uint64_t *size) {
     uint32_t answer = cvec_phase_size(&seat->grower, size);
     __tsan_acquire(seat->vector);
     return answer;
 }
 
-static uint32_t grow_in_turn(cvec_vector_seat *seat, const struct growth *growth, cvec_receipt *receipt) {
+static uint32_t grow_in_turn(cvec_seat *seat, const struct growth *growth, cvec_receipt *receipt) {
     uint64_t size;
     long nap = FIRST_NAP;
     for (int tries = 1;; tries++) {
@@ -164,7 +171,7 @@ static uint32_t grow_in_turn(cvec_vector_seat *seat, const struct growth *growth
 }
 
 /* Where the phase takes no more growths, it is made in the next one. */
-static uint32_t grow_by(cvec_vector_seat *seat, const struct growth *growth, cvec_receipt *receipt) {
+static uint32_t grow_by(cvec_seat *seat, const struct growth *growth, cvec_receipt *receipt) {
     for (;;) {
         const uint64_t phase = seat->vector->phases;
         uint32_t answer = grow_in_turn(seat, growth, receipt);
@@ -175,7 +182,7 @@ static uint32_t grow_by(cvec_vector_seat *seat, const struct growth *growth, cve
 }
 
 /* For a call inside: all of the records are grown, or none. What the library counts of a phase is counted on here. */
-static uint32_t grow_counted(cvec_vector_seat *seat, const struct growth *growth, cvec_receipt *receipt) {
+static uint32_t grow_counted(cvec_seat *seat, const struct growth *growth, cvec_receipt *receipt) {
     uint32_t answer = begin_growth(seat);
     if (answer != CVEC_DONE) return answer;
     if (!growth->is_block) make_room(seat, growth->count); /* a block has its memory */
@@ -191,23 +198,18 @@ static uint32_t grow_counted(cvec_vector_seat *seat, const struct growth *growth
     return answer;
 }
 
-static uint32_t grow_copies(cvec_vector_seat *seat, const void *records, size_t count, cvec_receipt *receipt) {
+static uint32_t grow_copies(cvec_seat *seat, const void *records, size_t count, cvec_receipt *receipt) {
     const struct growth growth = {false, count > 0 ? records : no_records, count};
     return grow_counted(seat, &growth, receipt);
 }
 
-uint32_t cvec_vector_grow_records(cvec_vector_seat *seat, const void *records, size_t count, cvec_receipt *receipt) {
+cvec_status cvec_seat_grow(cvec_seat *seat, cvec_type type, const void *records, size_t count, cvec_receipt *receipt) {
     cvec_receipt unasked;
-    if (!are_records(seat->vector->type, records, count)) return CVEC_NO_RECORD;
-    uint32_t answer = enter(seat);
+    uint32_t answer = enter_with(seat, type, records, count);
     if (answer != CVEC_DONE) return answer;
     answer = grow_copies(seat, records, count, receipt ? receipt : &unasked);
     leave_seat(seat);
     return answer;
-}
-
-uint32_t cvec_vector_grow(cvec_vector_seat *seat, const uint64_t *records, size_t count, cvec_receipt *receipt) {
-    return has_words(seat->vector) ? cvec_vector_grow_records(seat, records, count, receipt) : CVEC_WIDTH;
 }
 
 /* ---- growth in place: who calls has the seat */
@@ -217,7 +219,7 @@ static void note_lent(cvec_vector *vector) {
     if (!has_lent(vector)) __atomic_store_n(&vector->lent, 1, __ATOMIC_RELAXED);
 }
 
-static uint32_t lend_block(cvec_vector_seat *seat, size_t count, void **records) {
+static uint32_t lend_block(cvec_seat *seat, size_t count, void **records) {
     if (is_broken(seat->vector)) return CVEC_BROKEN;
     if (seat->block.full) return CVEC_NOT_SO;
     make_room(seat, count);
@@ -228,7 +230,7 @@ static uint32_t lend_block(cvec_vector_seat *seat, size_t count, void **records)
     return answer;
 }
 
-uint32_t cvec_vector_block(cvec_vector_seat *seat, size_t count, void **records) {
+cvec_status cvec_seat_block(cvec_seat *seat, size_t count, void **records) {
     uint32_t answer = enter(seat);
     if (answer != CVEC_DONE) return answer;
     answer = lend_block(seat, count, records);
@@ -237,7 +239,7 @@ uint32_t cvec_vector_block(cvec_vector_seat *seat, size_t count, void **records)
 }
 
 /* Who wrote the records has their place, and may go on reading them: they are lent. */
-static uint32_t publish(cvec_vector_seat *seat, cvec_receipt *receipt) {
+static uint32_t publish(cvec_seat *seat, cvec_receipt *receipt) {
     const struct growth growth = {true, NULL, 0};
     if (!seat->block.full) return CVEC_NOT_SO;
     if (!are_records(seat->vector->type, seat->blank, seat->blank_len)) return CVEC_NO_RECORD;
@@ -246,7 +248,7 @@ static uint32_t publish(cvec_vector_seat *seat, cvec_receipt *receipt) {
     return answer;
 }
 
-uint32_t cvec_vector_publish(cvec_vector_seat *seat, cvec_receipt *receipt) {
+cvec_status cvec_seat_publish(cvec_seat *seat, cvec_receipt *receipt) {
     cvec_receipt unasked;
     uint32_t answer = enter(seat);
     if (answer != CVEC_DONE) return answer;
@@ -255,7 +257,7 @@ uint32_t cvec_vector_publish(cvec_vector_seat *seat, cvec_receipt *receipt) {
     return answer;
 }
 
-uint32_t cvec_vector_drop(cvec_vector_seat *seat) {
+cvec_status cvec_seat_drop(cvec_seat *seat) {
     uint32_t answer = enter_so(seat, ASIDE);
     if (answer != CVEC_DONE) return answer;
     answer = cvec_phase_close(&seat->block); /* CVEC_NOT_SO: it has nothing */
@@ -263,7 +265,7 @@ uint32_t cvec_vector_drop(cvec_vector_seat *seat) {
     return answer;
 }
 
-uint32_t cvec_seat_detach(cvec_vector_seat *seat, cvec_block *block) {
+cvec_status cvec_seat_detach(cvec_seat *seat, cvec_block *block) {
     uint32_t answer = enter_so(seat, ASIDE);
     if (answer != CVEC_DONE) return answer;
     const cvec_block its = {seat->block.at, seat->blank, seat->blank_len};
@@ -274,7 +276,7 @@ uint32_t cvec_seat_detach(cvec_vector_seat *seat, cvec_block *block) {
     return answer;
 }
 
-uint32_t cvec_seat_attach(cvec_vector_seat *seat, cvec_block *block) {
+cvec_status cvec_seat_attach(cvec_seat *seat, cvec_block *block) {
     const cvec_handle its = {block->at, true};
     uint32_t answer = enter_so(seat, ASIDE);
     if (answer != CVEC_DONE) return answer;
@@ -298,19 +300,19 @@ void cvec_block_drop(cvec_block *block) {
 /* ---- records that were pushed: who calls has the seat */
 
 /* Grows by the first so many of the buffer, which are all that it has. Where that is refused, what waits is as it was. */
-static uint32_t grow_front(cvec_vector_seat *seat, size_t count) {
+static uint32_t grow_front(cvec_seat *seat, size_t count) {
     uint32_t answer = grow_copies(seat, seat->pushed, count, &seat->last);
     if (answer == CVEC_DONE) seat->waiting = 0;
     return answer;
 }
 
-static uint32_t grow_waiting(cvec_vector_seat *seat) {
+static uint32_t grow_waiting(cvec_seat *seat) {
     return seat->waiting > 0 ? grow_front(seat, seat->waiting) : CVEC_DONE;
 }
 
 /* The record that fills a block is none that waits: where its growth is refused, a caller that pushes it again would have it
  * twice. */
-static uint32_t put_behind(cvec_vector_seat *seat, const void *record) {
+static uint32_t put_behind(cvec_seat *seat, const void *record) {
     const size_t each = size_of(seat->vector->type);
     if (seat->pushed == NULL) seat->pushed = malloc(seat->at_once * each);
     if (seat->pushed == NULL) return CVEC_MEMORY;
@@ -320,9 +322,8 @@ static uint32_t put_behind(cvec_vector_seat *seat, const void *record) {
     return CVEC_DONE;
 }
 
-uint32_t cvec_vector_push(cvec_vector_seat *seat, const void *record) {
-    if (!are_records(seat->vector->type, record, 1)) return CVEC_NO_RECORD;
-    uint32_t answer = enter(seat);
+cvec_status cvec_seat_push(cvec_seat *seat, cvec_type type, const void *record) {
+    uint32_t answer = enter_with(seat, type, record, 1);
     if (answer != CVEC_DONE) return answer;
     answer = put_behind(seat, record);
     leave_seat(seat);
@@ -330,7 +331,8 @@ uint32_t cvec_vector_push(cvec_vector_seat *seat, const void *record) {
 }
 
 /* A block that no growth can have is refused here: else each push that fills one would be. */
-uint32_t cvec_vector_push_block(cvec_vector_seat *seat, size_t records) {
+cvec_status cvec_seat_push_block(cvec_seat *seat, size_t records) {
+    if (seat == NULL) return CVEC_NOT_SO;
     if (records == 0) return CVEC_EMPTY;
     if (records > (size_t)LARGEST_GROWTH / width_of(seat->vector->type)) return CVEC_TOO_LARGE;
     uint32_t answer = enter(seat);
@@ -345,7 +347,7 @@ uint32_t cvec_vector_push_block(cvec_vector_seat *seat, size_t records) {
     return answer;
 }
 
-uint32_t cvec_vector_grow_pushed(cvec_vector_seat *seat, cvec_receipt *receipt) {
+cvec_status cvec_seat_flush(cvec_seat *seat, cvec_receipt *receipt) {
     uint32_t answer = enter(seat);
     if (answer != CVEC_DONE) return answer;
     answer = grow_waiting(seat);
@@ -355,7 +357,7 @@ uint32_t cvec_vector_grow_pushed(cvec_vector_seat *seat, cvec_receipt *receipt) 
     return answer;
 }
 
-uint32_t cvec_vector_pushed(cvec_vector_seat *seat, const void **records, size_t *count) {
+cvec_status cvec_seat_waiting(cvec_seat *seat, const void **records, size_t *count) {
     uint32_t answer = enter_so(seat, ASIDE);
     if (answer != CVEC_DONE) return answer;
     *records = seat->waiting > 0 ? (const void *)seat->pushed : no_records;
@@ -364,7 +366,7 @@ uint32_t cvec_vector_pushed(cvec_vector_seat *seat, const void **records, size_t
     return answer;
 }
 
-uint32_t cvec_empty_seat(cvec_vector_seat *seat) {
+uint32_t cvec_empty_seat(cvec_seat *seat) {
     uint32_t answer = seat->waiting > 0 ? come_in(seat, NO_PHASE) : CVEC_DONE;
     if (answer == CVEC_DONE) answer = grow_waiting(seat);
     set_busy(seat, ASIDE);
@@ -379,7 +381,7 @@ uint32_t cvec_empty_seat(cvec_vector_seat *seat) {
 
 /* ---- reading */
 
-uint32_t cvec_seat_settled(cvec_vector_seat *seat, uint64_t *count) {
+cvec_status cvec_seat_settled(cvec_seat *seat, uint64_t *count) {
     uint32_t state;
     uint32_t answer = enter(seat);
     if (answer != CVEC_DONE) return answer;
@@ -389,7 +391,7 @@ uint32_t cvec_seat_settled(cvec_vector_seat *seat, uint64_t *count) {
     return answer;
 }
 
-uint32_t cvec_vector_size(cvec_vector_seat *seat, uint64_t *size) {
+cvec_status cvec_seat_size(cvec_seat *seat, uint64_t *size) {
     uint32_t answer = enter(seat);
     if (answer != CVEC_DONE) return answer;
     answer = look(seat, size);
@@ -398,7 +400,7 @@ uint32_t cvec_vector_size(cvec_vector_seat *seat, uint64_t *size) {
 }
 
 /* Piece by piece, as the records stand. */
-static uint32_t read_pieces(cvec_vector_seat *seat, uint64_t from, uint8_t *out, size_t room, uint64_t *count) {
+static uint32_t read_pieces(cvec_seat *seat, uint64_t from, uint8_t *out, size_t room, uint64_t *count) {
     const cvec_type type = seat->vector->type;
     uint64_t size, copied = 0, part = 1;
     uint32_t answer = look(seat, &size);
@@ -411,19 +413,15 @@ static uint32_t read_pieces(cvec_vector_seat *seat, uint64_t from, uint8_t *out,
     return answer;
 }
 
-uint32_t cvec_vector_read_records(cvec_vector_seat *seat, uint64_t from, void *out, size_t room, uint64_t *count) {
-    uint32_t answer = enter(seat);
+cvec_status cvec_seat_read(cvec_seat *seat, cvec_type type, uint64_t from, void *out, size_t room, uint64_t *count) {
+    uint32_t answer = enter_with(seat, type, NULL, 0);
     if (answer != CVEC_DONE) return answer;
     answer = read_pieces(seat, from, room > 0 ? out : (void *)no_room, room, count);
     leave_seat(seat);
     return answer;
 }
 
-uint32_t cvec_vector_read(cvec_vector_seat *seat, uint64_t from, uint64_t *out, size_t room, uint64_t *count) {
-    return has_words(seat->vector) ? cvec_vector_read_records(seat, from, out, room, count) : CVEC_WIDTH;
-}
-
-static uint32_t lend_pieces(cvec_vector_seat *seat, uint64_t from, cvec_piece *out, size_t room, size_t *count) {
+static uint32_t lend_pieces(cvec_seat *seat, uint64_t from, cvec_piece *out, size_t room, size_t *count) {
     uint64_t size, found = 0;
     uint32_t answer = look(seat, &size);
     if (answer == CVEC_DONE && from < size && room > 0) {
@@ -434,7 +432,7 @@ static uint32_t lend_pieces(cvec_vector_seat *seat, uint64_t from, cvec_piece *o
     return answer;
 }
 
-uint32_t cvec_vector_pieces(cvec_vector_seat *seat, uint64_t from, cvec_piece *out, size_t room, size_t *count) {
+cvec_status cvec_seat_pieces(cvec_seat *seat, uint64_t from, cvec_piece *out, size_t room, size_t *count) {
     uint32_t answer = enter(seat);
     if (answer != CVEC_DONE) return answer;
     answer = lend_pieces(seat, from, out, room, count);
@@ -443,7 +441,7 @@ uint32_t cvec_vector_pieces(cvec_vector_seat *seat, uint64_t from, cvec_piece *o
 }
 
 /* What a seat knows of the vector stays in it: what others grew is looked for only where the position is behind that. */
-static uint32_t read_one(cvec_vector_seat *seat, uint64_t position, void *record) {
+static uint32_t read_one(cvec_seat *seat, uint64_t position, void *record) {
     const cvec_type type = seat->vector->type;
     uint64_t size, count = 0;
     uint32_t answer = phase_read(type, &seat->grower, position, record, 1, &count);
@@ -453,48 +451,38 @@ static uint32_t read_one(cvec_vector_seat *seat, uint64_t position, void *record
     return answer == CVEC_DONE && count == 0 ? CVEC_OUT_OF_RANGE : answer;
 }
 
-uint32_t cvec_vector_at(cvec_vector_seat *seat, uint64_t position, void *record) {
-    uint32_t answer = enter(seat);
+cvec_status cvec_seat_at(cvec_seat *seat, cvec_type type, uint64_t position, void *record) {
+    uint32_t answer = enter_with(seat, type, NULL, 0);
     if (answer != CVEC_DONE) return answer;
     answer = read_one(seat, position, record);
     leave_seat(seat);
     return answer;
 }
 
-static uint32_t count_equal(cvec_vector_seat *seat, const void *record, uint64_t *count) {
+static uint32_t count_equal(cvec_seat *seat, const void *record, uint64_t *count) {
     uint64_t size;
     uint32_t answer = look(seat, &size);
     return answer == CVEC_DONE ? phase_count(seat->vector->type, &seat->grower, record, count) : answer;
 }
 
-uint32_t cvec_vector_count_record(cvec_vector_seat *seat, const void *record, uint64_t *count) {
-    if (!are_records(seat->vector->type, record, 1)) return CVEC_NO_RECORD;
-    uint32_t answer = enter(seat);
+cvec_status cvec_seat_count(cvec_seat *seat, cvec_type type, const void *record, uint64_t *count) {
+    uint32_t answer = enter_with(seat, type, record, 1);
     if (answer != CVEC_DONE) return answer;
     answer = count_equal(seat, record, count);
     leave_seat(seat);
     return answer;
 }
 
-uint32_t cvec_vector_count(cvec_vector_seat *seat, uint64_t record, uint64_t *count) {
-    return has_words(seat->vector) ? cvec_vector_count_record(seat, &record, count) : CVEC_WIDTH;
-}
-
-static uint32_t find_equal(cvec_vector_seat *seat, const void *record, uint64_t from, uint64_t *place) {
+static uint32_t find_equal(cvec_seat *seat, const void *record, uint64_t from, uint64_t *place) {
     uint64_t size;
     uint32_t answer = look(seat, &size);
     return answer == CVEC_DONE ? phase_find(seat->vector->type, &seat->grower, record, from, place) : answer;
 }
 
-uint32_t cvec_vector_find_record(cvec_vector_seat *seat, const void *record, uint64_t from, uint64_t *place) {
-    if (!are_records(seat->vector->type, record, 1)) return CVEC_NO_RECORD;
-    uint32_t answer = enter(seat);
+cvec_status cvec_seat_find(cvec_seat *seat, cvec_type type, const void *record, uint64_t from, uint64_t *place) {
+    uint32_t answer = enter_with(seat, type, record, 1);
     if (answer != CVEC_DONE) return answer;
     answer = find_equal(seat, record, from, place);
     leave_seat(seat);
     return answer;
-}
-
-uint32_t cvec_vector_find(cvec_vector_seat *seat, uint64_t record, uint64_t from, uint64_t *place) {
-    return has_words(seat->vector) ? cvec_vector_find_record(seat, &record, from, place) : CVEC_WIDTH;
 }

@@ -13,10 +13,10 @@ enum { PATIENCE = 1000000 };
 /* ---- seats that are made, and closed */
 
 /* Threads write to their seats with each call. */
-static cvec_vector_seat *new_seat(cvec_vector *vector) {
+static cvec_seat *new_seat(cvec_vector *vector) {
     void *made = NULL;
-    if (posix_memalign(&made, APART, (sizeof(cvec_vector_seat) + APART - 1) / APART * APART) != 0) return NULL;
-    cvec_vector_seat *seat = made;
+    if (posix_memalign(&made, APART, (sizeof(cvec_seat) + APART - 1) / APART * APART) != 0) return NULL;
+    cvec_seat *seat = made;
     memset(seat, 0, sizeof *seat);
     seat->vector = vector;
     seat->at_once = vector->pushes;
@@ -24,7 +24,7 @@ static cvec_vector_seat *new_seat(cvec_vector *vector) {
 }
 
 /* With the mutex. */
-static void list_seat(cvec_vector *vector, cvec_vector_seat *seat) {
+static void list_seat(cvec_vector *vector, cvec_seat *seat) {
     seat->next = vector->first;
     vector->first = seat;
     seat->number = (uint16_t)vector->taken++;
@@ -32,8 +32,8 @@ static void list_seat(cvec_vector *vector, cvec_vector_seat *seat) {
 }
 
 /* While nobody has all handles. What was grown by the seat is counted on, and the next one has its grower. */
-void cvec_drop_seat(cvec_vector *vector, cvec_vector_seat *seat) {
-    cvec_vector_seat **at = &vector->first;
+void cvec_drop_seat(cvec_vector *vector, cvec_seat *seat) {
+    cvec_seat **at = &vector->first;
     while (*at != seat) at = &(*at)->next;
     *at = seat->next;
     vector->begun += seat->begun;
@@ -50,8 +50,8 @@ void cvec_drop_seat(cvec_vector *vector, cvec_vector_seat *seat) {
 }
 
 /* With the mutex, while nobody has all handles: a seat of the phase, or, where each of its seats was given, of a new one. */
-static uint32_t fresh_seat(cvec_vector *vector, cvec_vector_seat **taken) {
-    cvec_vector_seat *seat = new_seat(vector);
+static uint32_t fresh_seat(cvec_vector *vector, cvec_seat **taken) {
+    cvec_seat *seat = new_seat(vector);
     if (seat == NULL) return CVEC_MEMORY;
     uint32_t answer = cvec_phase_seat(&vector->phase, &seat->grower);
     if (answer == CVEC_NOT_SO) answer = cvec_renew(vector);
@@ -64,8 +64,8 @@ static uint32_t fresh_seat(cvec_vector *vector, cvec_vector_seat **taken) {
 }
 
 /* With the mutex: a seat that was closed, with its grower, and with nothing else of the thread that had it. */
-static cvec_vector_seat *reused_seat(cvec_vector *vector) {
-    cvec_vector_seat *seat = vector->idle;
+static cvec_seat *reused_seat(cvec_vector *vector) {
+    cvec_seat *seat = vector->idle;
     vector->idle = seat->next;
     count_begun(seat, 0);
     set_busy(seat, FREE);
@@ -78,7 +78,7 @@ static cvec_vector_seat *reused_seat(cvec_vector *vector) {
 }
 
 /* With the mutex, while nobody has all handles. */
-static uint32_t seat_of(cvec_vector *vector, cvec_vector_seat **taken) {
+static uint32_t seat_of(cvec_vector *vector, cvec_seat **taken) {
     uint32_t answer = CVEC_DONE;
     if (vector->seats == vector->most_seats) return CVEC_NOT_SO;
     if (vector->idle != NULL)
@@ -124,11 +124,11 @@ static struct slot *idle_slot(cvec_vector *vector) {
     return NULL;
 }
 
-/* With the mutex: one whose call waits, so that another may have its seat. */
+/* With the mutex: one whose call waits, so that another may have its seat, and that nobody wants back. */
 static struct slot *lendable_slot(cvec_vector *vector) {
     for (uint32_t k = 0; k < vector->slotted; k++) {
         struct slot *slot = &vector->slots[k];
-        if (state_of(slot) != LENDABLE) continue;
+        if (state_of(slot) != LENDABLE || slot->wanted > 0) continue;
         set_state(slot, LENT);
         return slot;
     }
@@ -136,7 +136,7 @@ static struct slot *lendable_slot(cvec_vector *vector) {
 }
 
 /* With the mutex: puts the seat into an empty one, which is the caller's. There are as many as seats. */
-static struct slot *put_in_slot(cvec_vector *vector, cvec_vector_seat *seat) {
+static struct slot *put_in_slot(cvec_vector *vector, cvec_seat *seat) {
     struct slot *slot = vector->slots;
     while (slot->seat != NULL) slot++;
     const uint32_t behind = (uint32_t)(slot - vector->slots) + 1;
@@ -150,7 +150,7 @@ static struct slot *put_in_slot(cvec_vector *vector, cvec_vector_seat *seat) {
 
 /* With the mutex, while nobody has all handles, of one that is the caller's: it is empty then. */
 static void empty_slot(cvec_vector *vector, struct slot *slot) {
-    cvec_vector_seat *seat = slot->seat;
+    cvec_seat *seat = slot->seat;
     slot->seat = NULL;
     vector->slot_seats--;
     cvec_drop_seat(vector, seat);
@@ -223,11 +223,20 @@ static void end_line(cvec_vector *vector, struct in_line *mine) {
 
 /* ---- who has a seat next. Each may give up the mutex and have it again */
 
+/* With the mutex: so many slots are idle, whose seats are for who comes. */
+static uint32_t count_idle(const cvec_vector *vector) {
+    uint32_t count = 0;
+    for (uint32_t k = 0; k < vector->slotted; k++) count += state_of(&vector->slots[k]) == IDLE;
+    return count;
+}
+
 /* With the mutex: whether there is a seat for who hasn't waited for one. */
-static bool is_one_spare(const cvec_vector *vector) { return vector->seats + vector->queued < vector->most_seats; }
+static bool is_one_spare(const cvec_vector *vector) {
+    return vector->seats + vector->queued < vector->most_seats + count_idle(vector);
+}
 
 /* With the mutex, for who is the first: a seat of its own, also in place of one to be borrowed that is idle. CVEC_LATE: there is none. */
-static uint32_t find_own(cvec_vector *vector, cvec_vector_seat **found) {
+static uint32_t find_own(cvec_vector *vector, cvec_seat **found) {
     if (vector->claimed) return CVEC_LATE;
     struct slot *slot = vector->seats < vector->most_seats ? NULL : idle_slot(vector);
     if (slot != NULL) empty_slot(vector, slot);
@@ -236,8 +245,8 @@ static uint32_t find_own(cvec_vector *vector, cvec_vector_seat **found) {
 
 /* With the mutex, for who is the first: a seat to borrow that is idle, a further one, or one whose call waits. Memory that is refused
  * for a further one is no refusal while there are others. */
-static uint32_t find_borrowed(cvec_vector *vector, cvec_vector_seat **found) {
-    cvec_vector_seat *seat = NULL;
+static uint32_t find_borrowed(cvec_vector *vector, cvec_seat **found) {
+    cvec_seat *seat = NULL;
     struct slot *slot = idle_slot(vector);
     if (slot == NULL && !vector->claimed && vector->seats < vector->most_seats) {
         const uint32_t answer = seat_of(vector, &seat);
@@ -249,7 +258,7 @@ static uint32_t find_borrowed(cvec_vector *vector, cvec_vector_seat **found) {
     return slot != NULL ? CVEC_DONE : CVEC_LATE;
 }
 
-static uint32_t find_seat(cvec_vector *vector, bool borrows, cvec_vector_seat **found) {
+static uint32_t find_seat(cvec_vector *vector, bool borrows, cvec_seat **found) {
     return borrows ? find_borrowed(vector, found) : find_own(vector, found);
 }
 
@@ -262,6 +271,7 @@ static bool is_before(const struct timespec *one, const struct timespec *other) 
 static void await_call(cvec_vector *vector, struct in_line *mine, const struct timespec *until) {
     const struct timespec look = cvec_moment_behind(0, PATIENCE);
     const bool looks = vector->line == mine && vector->slot_seats > 0 && is_before(&look, until);
+    if (vector->line == mine) __atomic_store_n(&vector->called, 0, __ATOMIC_RELAXED); /* as it looked it may have called itself */
     const bool is_called = pthread_cond_timedwait(&mine->turn, &vector->mutex, looks ? &look : until) == 0;
     if (is_called || !looks || mine->is_overdue) return;
     mine->is_overdue = true;
@@ -269,7 +279,7 @@ static void await_call(cvec_vector *vector, struct in_line *mine, const struct t
 }
 
 /* With the mutex: waits in line for a seat, and while another call has all handles, and no longer than to this moment. */
-static uint32_t await_turn(cvec_vector *vector, const struct timespec *until, bool borrows, cvec_vector_seat **found) {
+static uint32_t await_turn(cvec_vector *vector, const struct timespec *until, bool borrows, cvec_seat **found) {
     struct in_line mine;
     uint32_t answer = CVEC_LATE;
     begin_line(vector, &mine);
@@ -285,22 +295,22 @@ static uint32_t await_turn(cvec_vector *vector, const struct timespec *until, bo
 
 /* ---- seats of callers' own */
 
-uint32_t cvec_vector_take_seat(cvec_vector *vector, cvec_vector_seat **taken) {
+cvec_status cvec_seat_take(cvec_vector *vector, cvec_seat **taken) {
     uint32_t answer = CVEC_LATE;
     *taken = NULL;
-    if (!is_of_this_process(vector)) return CVEC_FORKED;
+    if (refusal_of(vector) != CVEC_DONE) return refusal_of(vector);
     pthread_mutex_lock(&vector->mutex);
     cvec_await_pause(vector);
-    if (!vector->over && (vector->queued == 0 || is_one_spare(vector))) answer = find_own(vector, taken);
+    if (!vector->over && is_one_spare(vector)) answer = find_own(vector, taken);
     pthread_mutex_unlock(&vector->mutex);
     return answer == CVEC_LATE ? CVEC_NOT_SO : answer;
 }
 
-uint32_t cvec_vector_seat_within(cvec_vector *vector, uint64_t milliseconds, cvec_vector_seat **taken) {
+cvec_status cvec_seat_take_within(cvec_vector *vector, uint64_t milliseconds, cvec_seat **taken) {
     const struct timespec until = cvec_moment_in(milliseconds);
     uint32_t answer = CVEC_LATE;
     *taken = NULL;
-    if (!is_of_this_process(vector)) return CVEC_FORKED;
+    if (refusal_of(vector) != CVEC_DONE) return refusal_of(vector);
     pthread_mutex_lock(&vector->mutex);
     if (!vector->over && is_one_spare(vector)) answer = find_own(vector, taken);
     if (answer == CVEC_LATE) answer = await_turn(vector, &until, false, taken);
@@ -309,12 +319,13 @@ uint32_t cvec_vector_seat_within(cvec_vector *vector, uint64_t milliseconds, cve
     return answer;
 }
 
-uint32_t cvec_vector_close_seat(cvec_vector_seat *seat) {
-    if (seat == NULL) return CVEC_NOT_SO;
-    if (seat->slot != NULL) return cvec_seat_return(&seat);
+cvec_status cvec_seat_close(cvec_seat **closed) {
+    cvec_seat *seat = *closed;
+    if (seat != NULL && seat->slot != NULL) return cvec_seat_return(closed);
     uint32_t answer = enter_so(seat, ASIDE);
     if (answer != CVEC_DONE) return answer;
     cvec_vector *vector = seat->vector;
+    *closed = NULL;
     answer = cvec_empty_seat(seat);
     pthread_mutex_lock(&vector->mutex);
     cvec_await_release(vector);
@@ -325,7 +336,7 @@ uint32_t cvec_vector_close_seat(cvec_vector_seat *seat) {
 
 /* ---- seats that are borrowed */
 
-static uint32_t borrow_in_turn(cvec_vector *vector, uint64_t milliseconds, cvec_vector_seat **borrowed) {
+static uint32_t borrow_in_turn(cvec_vector *vector, uint64_t milliseconds, cvec_seat **borrowed) {
     const struct timespec until = cvec_moment_in(milliseconds);
     uint32_t answer = CVEC_LATE;
     pthread_mutex_lock(&vector->mutex);
@@ -336,9 +347,9 @@ static uint32_t borrow_in_turn(cvec_vector *vector, uint64_t milliseconds, cvec_
     return answer;
 }
 
-uint32_t cvec_seat_borrow(cvec_vector *vector, uint64_t milliseconds, cvec_vector_seat **borrowed) {
+cvec_status cvec_seat_borrow(cvec_vector *vector, uint64_t milliseconds, cvec_seat **borrowed) {
     *borrowed = NULL;
-    if (!is_of_this_process(vector)) return CVEC_FORKED;
+    if (refusal_of(vector) != CVEC_DONE) return refusal_of(vector);
     struct slot *slot = __atomic_load_n(&vector->overdue, __ATOMIC_RELAXED) == 0 ? idle_slot(vector) : NULL;
     if (slot == NULL) return borrow_in_turn(vector, milliseconds, borrowed);
     *borrowed = slot->seat;
@@ -363,8 +374,8 @@ static void make_idle(cvec_vector *vector, struct slot *slot) {
     pthread_mutex_unlock(&vector->mutex);
 }
 
-uint32_t cvec_seat_return(cvec_vector_seat **returned) {
-    cvec_vector_seat *seat = *returned;
+cvec_status cvec_seat_return(cvec_seat **returned) {
+    cvec_seat *seat = *returned;
     uint32_t answer = CVEC_DONE;
     if (seat == NULL || seat->slot == NULL) return CVEC_NOT_SO;
     if (!is_of_this_process(seat->vector)) return CVEC_FORKED;
@@ -385,19 +396,21 @@ uint32_t cvec_seat_return(cvec_vector_seat **returned) {
 
 /* ---- a seat whose call waits */
 
-bool cvec_lend_on(cvec_vector_seat *seat) {
+bool cvec_lend_on(cvec_seat *seat) {
     struct slot *slot = seat->slot;
     if (slot == NULL || keeps_something(seat)) return false;
     leave_seat(seat);
-    slot->away++;
     set_state(slot, LENDABLE);
+    if (slot->away++ > 0) pthread_cond_broadcast(&seat->vector->handed); /* one who wants it back may have it */
     cvec_call_first(seat->vector);
     return true;
 }
 
-void cvec_have_again(cvec_vector_seat *seat) {
+void cvec_have_again(cvec_seat *seat) {
     struct slot *slot = seat->slot;
+    slot->wanted++;
     while (state_of(slot) != LENDABLE) pthread_cond_wait(&seat->vector->handed, &seat->vector->mutex);
+    slot->wanted--;
     set_state(slot, LENT);
     slot->away--;
     set_busy(seat, ASIDE);

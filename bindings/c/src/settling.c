@@ -38,14 +38,23 @@ static uint32_t await_count(cvec_vector *vector, uint64_t count, const struct ti
 }
 
 /* With the mutex, of a call by this seat that is aside: others may borrow it meanwhile. */
-static uint32_t await_beside_others(cvec_vector_seat *seat, uint64_t count, const struct timespec *until) {
+static uint32_t await_beside_others(cvec_seat *seat, uint64_t count, const struct timespec *until) {
     const bool is_lent = seat->vector->durable < count && cvec_lend_on(seat);
     const uint32_t answer = await_count(seat->vector, count, until);
     if (is_lent) cvec_have_again(seat);
     return answer;
 }
 
-static uint32_t await_until(cvec_vector_seat *seat, uint64_t number, const struct timespec *until) {
+/* A deadline, or NULL: as long as it takes. */
+static const struct timespec *deadline(uint64_t milliseconds, struct timespec *moment) {
+    if (milliseconds == CVEC_NO_LIMIT) return NULL;
+    *moment = cvec_moment_in(milliseconds);
+    return moment;
+}
+
+cvec_status cvec_seat_settle(cvec_seat *seat, uint64_t number, uint64_t milliseconds) {
+    struct timespec moment;
+    const struct timespec *until = deadline(milliseconds, &moment);
     uint32_t answer = enter_so(seat, ASIDE);
     if (answer != CVEC_DONE) return answer;
     pthread_mutex_lock(&seat->vector->mutex);
@@ -55,36 +64,36 @@ static uint32_t await_until(cvec_vector_seat *seat, uint64_t number, const struc
     return answer;
 }
 
-uint32_t cvec_vector_await(cvec_vector_seat *seat, uint64_t number) { return await_until(seat, number, NULL); }
-
-uint32_t cvec_vector_await_for(cvec_vector_seat *seat, uint64_t number, uint64_t milliseconds) {
-    struct timespec until = cvec_moment_in(milliseconds);
-    return await_until(seat, number, &until);
-}
-
 /* With the mutex: behind so many growths the last one stands that has returned. */
 static uint64_t all_grown(const cvec_vector *vector) {
     uint64_t most = vector->grown;
-    for (const cvec_vector_seat *seat = vector->first; seat != NULL; seat = seat->next) {
+    for (const cvec_seat *seat = vector->first; seat != NULL; seat = seat->next) {
         const uint64_t its = __atomic_load_n(&seat->grown, __ATOMIC_ACQUIRE);
         if (most < its) most = its;
     }
     return most;
 }
 
-uint32_t cvec_vector_settle(cvec_vector *vector, uint64_t milliseconds) {
-    const struct timespec until = cvec_moment_in(milliseconds);
-    if (!is_of_this_process(vector)) return CVEC_FORKED;
+/* With the mutex. Of a broken vector it isn't known whether all is durable that was changed. */
+static uint32_t settle_all(cvec_vector *vector, const struct timespec *until) {
+    if (vector->over) return CVEC_NOT_SO;
+    return is_broken(vector) ? CVEC_BROKEN : await_count(vector, all_grown(vector), until);
+}
+
+cvec_status cvec_vector_settle(cvec_vector *vector, uint64_t milliseconds) {
+    struct timespec moment;
+    const struct timespec *until = deadline(milliseconds, &moment);
+    if (refusal_of(vector) != CVEC_DONE) return refusal_of(vector);
     pthread_mutex_lock(&vector->mutex);
     vector->asking++;
-    uint32_t answer = vector->over ? CVEC_NOT_SO : await_count(vector, all_grown(vector), milliseconds == CVEC_NO_LIMIT ? NULL : &until);
+    uint32_t answer = settle_all(vector, until);
     vector->asking--;
     pthread_mutex_unlock(&vector->mutex);
     return answer;
 }
 
-uint32_t cvec_vector_settled(cvec_vector *vector, uint64_t *count) {
-    if (!is_of_this_process(vector)) return CVEC_FORKED;
+cvec_status cvec_vector_settled(cvec_vector *vector, uint64_t *count) {
+    if (refusal_of(vector) != CVEC_DONE) return refusal_of(vector);
     pthread_mutex_lock(&vector->mutex);
     const uint32_t answer = vector->over ? CVEC_NOT_SO : CVEC_DONE;
     if (answer == CVEC_DONE) *count = vector->durable;
@@ -97,7 +106,7 @@ uint32_t cvec_vector_settled(cvec_vector *vector, uint64_t *count) {
 /* With the mutex: so many growths there are, or are coming. */
 static uint64_t all_begun(const cvec_vector *vector) {
     uint64_t count = vector->begun;
-    for (const cvec_vector_seat *seat = vector->first; seat != NULL; seat = seat->next)
+    for (const cvec_seat *seat = vector->first; seat != NULL; seat = seat->next)
         count += __atomic_load_n(&seat->begun, __ATOMIC_RELAXED);
     return count;
 }
@@ -126,10 +135,16 @@ static void rest(cvec_vector *vector, struct timespec until) {
     while (!vector->stopped && !cvec_has_passed(&until)) pthread_cond_timedwait(&vector->flushing, &vector->mutex, &until);
 }
 
-/* A close waits until it has left. */
-static void enter_flushers(cvec_vector *vector) {
+/* A close waits until it has left. It has the mutex where it answers CVEC_DONE. */
+static uint32_t enter_flushers(cvec_vector *vector) {
+    if (refusal_of(vector) != CVEC_DONE) return refusal_of(vector);
     pthread_mutex_lock(&vector->mutex);
-    vector->flushers++;
+    if (!vector->over) {
+        vector->flushers++;
+        return CVEC_DONE;
+    }
+    pthread_mutex_unlock(&vector->mutex);
+    return CVEC_NOT_SO;
 }
 
 static void leave_flushers(cvec_vector *vector) {
@@ -143,10 +158,9 @@ static uint32_t flush_once(cvec_vector *vector) { return is_broken(vector) ? CVE
 
 static struct timespec end_of_rest(uint64_t milliseconds) { return cvec_moment_in(milliseconds > 0 ? milliseconds : 1); }
 
-uint32_t cvec_vector_run_flusher(cvec_vector *vector, uint64_t every_milliseconds) {
-    uint32_t answer = CVEC_DONE;
-    if (!is_of_this_process(vector)) return CVEC_FORKED;
-    enter_flushers(vector);
+cvec_status cvec_vector_run_flusher(cvec_vector *vector, uint64_t every_milliseconds) {
+    uint32_t answer = enter_flushers(vector);
+    if (answer != CVEC_DONE) return answer;
     while (answer == CVEC_DONE && !vector->stopped) {
         answer = flush_once(vector);
         if (answer == CVEC_DONE) rest(vector, end_of_rest(every_milliseconds));
@@ -155,21 +169,20 @@ uint32_t cvec_vector_run_flusher(cvec_vector *vector, uint64_t every_millisecond
     return answer;
 }
 
-uint32_t cvec_vector_flush(cvec_vector *vector) {
-    if (!is_of_this_process(vector)) return CVEC_FORKED;
-    enter_flushers(vector);
-    uint32_t answer = flush_once(vector);
+cvec_status cvec_vector_flush(cvec_vector *vector) {
+    uint32_t answer = enter_flushers(vector);
+    if (answer != CVEC_DONE) return answer;
+    answer = flush_once(vector);
     leave_flushers(vector);
     return answer;
 }
 
-uint32_t cvec_vector_stop_flusher(cvec_vector *vector) {
-    if (!is_of_this_process(vector)) return CVEC_FORKED;
-    pthread_mutex_lock(&vector->mutex);
+cvec_status cvec_vector_stop_flusher(cvec_vector *vector) {
+    const uint32_t answer = enter_flushers(vector);
+    if (answer != CVEC_DONE) return answer;
     vector->stopped = true;
-    pthread_cond_broadcast(&vector->flushing);
-    pthread_mutex_unlock(&vector->mutex);
-    return CVEC_DONE;
+    leave_flushers(vector);
+    return answer;
 }
 
 void cvec_end_flushers(cvec_vector *vector) {
@@ -226,8 +239,8 @@ static uint32_t start_own(cvec_vector *vector, uint64_t every_milliseconds) {
     return CVEC_DONE;
 }
 
-uint32_t cvec_vector_start_flusher(cvec_vector *vector, uint64_t every_milliseconds) {
-    if (!is_of_this_process(vector)) return CVEC_FORKED;
+cvec_status cvec_vector_start_flusher(cvec_vector *vector, uint64_t every_milliseconds) {
+    if (refusal_of(vector) != CVEC_DONE) return refusal_of(vector);
     pthread_mutex_lock(&vector->mutex);
     uint32_t answer = vector->over ? CVEC_NOT_SO : is_broken(vector) ? CVEC_BROKEN : start_own(vector, every_milliseconds);
     pthread_mutex_unlock(&vector->mutex);
@@ -251,8 +264,8 @@ static void await_hold(cvec_vector *vector) {
     if (vector->yields) pthread_cond_broadcast(&vector->settled);
 }
 
-uint32_t cvec_vector_hold(cvec_vector *vector) {
-    if (!is_of_this_process(vector)) return CVEC_FORKED;
+cvec_status cvec_vector_hold(cvec_vector *vector) {
+    if (refusal_of(vector) != CVEC_DONE) return refusal_of(vector);
     pthread_mutex_lock(&vector->mutex);
     await_hold(vector);
     const uint32_t answer = vector->over ? CVEC_NOT_SO : CVEC_DONE;
@@ -261,8 +274,8 @@ uint32_t cvec_vector_hold(cvec_vector *vector) {
     return answer;
 }
 
-uint32_t cvec_vector_release(cvec_vector *vector) {
-    if (!is_of_this_process(vector)) return CVEC_FORKED;
+cvec_status cvec_vector_release(cvec_vector *vector) {
+    if (refusal_of(vector) != CVEC_DONE) return refusal_of(vector);
     pthread_mutex_lock(&vector->mutex);
     uint32_t answer = vector->holds > 0 ? CVEC_DONE : CVEC_NOT_SO;
     if (answer == CVEC_DONE) vector->holds--;

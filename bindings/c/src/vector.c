@@ -170,16 +170,16 @@ static uint32_t begin_with(cvec_vector **begun, const char *path, cvec_type type
     return answer;
 }
 
-uint32_t cvec_vector_create_with(cvec_vector **vector, const char *path, cvec_type type, const cvec_options *options) {
+cvec_status cvec_vector_create(cvec_vector **vector, const char *path, cvec_type type, const cvec_options *options) {
     return begin_with(vector, path, type, true, options);
 }
 
-uint32_t cvec_vector_open_with(cvec_vector **vector, const char *path, cvec_type type, const cvec_options *options) {
+cvec_status cvec_vector_open(cvec_vector **vector, const char *path, cvec_type type, const cvec_options *options) {
     return begin_with(vector, path, type, false, options);
 }
 
 /* What a stopped creation has left isn't opened, but created over, as a file that isn't there. Another may make it between. */
-uint32_t cvec_vector_open_or_create(cvec_vector **vector, const char *path, cvec_type type, const cvec_options *options) {
+cvec_status cvec_vector_open_or_create(cvec_vector **vector, const char *path, cvec_type type, const cvec_options *options) {
     const uint32_t opened = begin_with(vector, path, type, false, options);
     const bool is_missing = opened == CVEC_DISK_OPEN && errno == ENOENT;
     if (!is_missing && opened != CVEC_UNBORN) return opened;
@@ -187,30 +187,9 @@ uint32_t cvec_vector_open_or_create(cvec_vector **vector, const char *path, cvec
     return created == CVEC_EXISTS ? begin_with(vector, path, type, false, options) : created;
 }
 
-/* Where options are passed one by one, 0 is none of them. */
-uint32_t cvec_vector_create_as(cvec_vector **vector, const char *path, cvec_type type, uint8_t version, uint16_t seats) {
-    const cvec_options options = {version, seats, 0, 0};
-    *vector = NULL;
-    if (version == 0) return CVEC_NOT_SO;
-    return seats == 0 ? CVEC_TOO_LARGE : cvec_vector_create_with(vector, path, type, &options);
-}
-
-uint32_t cvec_vector_create(cvec_vector **vector, const char *path, uint8_t version, uint16_t seats) {
-    return cvec_vector_create_as(vector, path, CVEC_U64, version, seats);
-}
-
-uint32_t cvec_vector_open_as(cvec_vector **vector, const char *path, cvec_type type, uint16_t seats) {
-    const cvec_options options = {0, seats, 0, 0};
-    *vector = NULL;
-    return seats == 0 ? CVEC_TOO_LARGE : cvec_vector_open_with(vector, path, type, &options);
-}
-
-uint32_t cvec_vector_open(cvec_vector **vector, const char *path, uint16_t seats) {
-    return cvec_vector_open_as(vector, path, CVEC_U64, seats);
-}
-
-uint32_t cvec_vector_identity(const cvec_vector *vector, uint64_t *device, uint64_t *file) {
-    return is_of_this_process(vector) ? cvec_system_identity(vector->fd, device, file) : CVEC_FORKED;
+cvec_status cvec_vector_identity(const cvec_vector *vector, uint64_t *device, uint64_t *file) {
+    if (refusal_of(vector) != CVEC_DONE) return refusal_of(vector);
+    return vector->over ? CVEC_NOT_SO : cvec_system_identity(vector->fd, device, file);
 }
 
 /* ---- ending */
@@ -254,13 +233,19 @@ static uint32_t finish(cvec_vector *vector) {
 }
 
 /* Of one that was ended there is nothing more to commit. */
-uint32_t cvec_vector_close(cvec_vector *vector) {
-    if (!is_of_this_process(vector)) return leave(vector);
+cvec_status cvec_vector_close(cvec_vector **closed) {
+    cvec_vector *vector = *closed;
+    if (vector == NULL) return CVEC_NOT_SO;
+    if (!is_of_this_process(vector)) {
+        *closed = NULL;
+        return leave(vector);
+    }
     pthread_mutex_lock(&vector->mutex);
-    const bool was_ended = vector->over, busy = !was_ended && !is_idle(vector);
+    const bool was_ended = vector->ended, busy = !was_ended && (vector->over || !is_idle(vector));
     uint32_t answer = busy ? CVEC_BUSY : was_ended ? CVEC_DONE : finish(vector);
     pthread_mutex_unlock(&vector->mutex);
     if (busy) return answer;
+    *closed = NULL;
     cvec_join_flushers(vector);
     give_up(vector);
     return answer;
@@ -279,7 +264,8 @@ static void await_calls(cvec_vector *vector) {
     }
 }
 
-uint32_t cvec_vector_end(cvec_vector *vector) {
+cvec_status cvec_vector_end(cvec_vector *vector) {
+    if (vector == NULL) return CVEC_NOT_SO;
     if (!is_of_this_process(vector)) return leave(vector);
     pthread_mutex_lock(&vector->mutex);
     uint32_t answer = vector->over ? CVEC_NOT_SO : is_used(vector) ? CVEC_BUSY : CVEC_DONE;
@@ -287,13 +273,8 @@ uint32_t cvec_vector_end(cvec_vector *vector) {
         await_calls(vector);
         answer = finish(vector);
         give_up_file(vector);
+        vector->ended = true;
     }
     pthread_mutex_unlock(&vector->mutex);
     return answer;
 }
-
-/* ---- by names of before: what cvec.h has */
-
-uint64_t cvec_vector_process(void) { return cvec_process(); }
-
-const char *cvec_vector_status_text(uint32_t status) { return cvec_status_text(status); }

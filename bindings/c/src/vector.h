@@ -34,8 +34,8 @@ struct cvec_vector {
     uint64_t phases;    /* so many began, this one too */
     bool unseated;      /* a phase has ended, or its renewal was refused halfway: the seats have no growers until the next one */
     bool alone;         /* `committer` has a vault, and `phase` nothing */
-    cvec_vector_seat *first; /* of the seats that aren't closed */
-    cvec_vector_seat *idle;  /* of those that are, and have a grower for the next one */
+    cvec_seat *first; /* of the seats that aren't closed */
+    cvec_seat *idle;  /* of those that are, and have a grower for the next one */
     struct slot *slots;      /* MOST_SEATS, of seats that are borrowed */
     uint32_t slotted;        /* by __atomic: behind the first so many slots each is empty */
     uint32_t slot_seats;     /* so many seats are in slots */
@@ -59,7 +59,8 @@ struct cvec_vector {
     size_t pushes;    /* so many records that were pushed are grown at once, where a seat says nothing else */
     uint64_t growths; /* for so many a phase has room, where the system gives the addresses */
     bool committing, stopped; /* stopped: no loop of a flusher goes on */
-    bool over;       /* it was ended: each later call is refused */
+    bool over;       /* it is ended: each later call is refused */
+    bool ended;      /* it was: nothing is left but to give it up */
     bool claimed;    /* one call has all handles, those of the seats too, or waits for them: it commits then */
     bool yields;     /* that one waits for a commit, and gives up where somebody holds the vector */
     uint32_t shut;   /* by __atomic: it is claimed or unseated */
@@ -73,14 +74,14 @@ enum { FREE, INSIDE, ASIDE };
 /* The first phase is 1. */
 enum { NO_PHASE, FIRST_PHASE };
 
-struct cvec_vector_seat {
+struct cvec_seat {
     cvec_vector *vector;
     cvec_handle grower;
     struct slot *slot; /* where it is to be borrowed, or NULL: it is one call's own until it is closed */
     uint64_t begun; /* by __atomic: so many growths of this seat there are, or are coming */
     uint64_t grown; /* by __atomic: behind so many growths of the vector the last one stands that returned by this seat */
     size_t room;    /* so many bytes are left of the memory that was asked for at once */
-    cvec_vector_seat *next; /* of those that aren't closed, or of those that are: with the vector's mutex */
+    cvec_seat *next; /* of those that aren't closed, or of those that are: with the vector's mutex */
     uint16_t number;        /* how many were taken before it */
     uint8_t *pushed; /* room for a block of records, or NULL: none was pushed since it was given back */
     size_t waiting;  /* so many of them were pushed and aren't grown: fewer than a block */
@@ -169,8 +170,14 @@ void cvec_begin_condition(pthread_cond_t *condition);
 
 static inline bool is_of_this_process(const cvec_vector *vector) { return vector->process == cvec_process(); }
 
-/* Whether what names records of u64 is for this vector. */
-static inline bool has_words(const cvec_vector *vector) { return width_of(vector->type) == sizeof(uint64_t); }
+/* Why nothing is asked of this handle. */
+static inline uint32_t refusal_of(const cvec_vector *vector) {
+    if (vector == NULL) return CVEC_NOT_SO;
+    return is_of_this_process(vector) ? CVEC_DONE : CVEC_FORKED;
+}
+
+/* Whether what names records of this type is for the vector. */
+static inline bool has_width_of(const cvec_vector *vector, cvec_type type) { return width_of(vector->type) == width_of(type); }
 
 static inline void set_broken(cvec_vector *vector) { __atomic_store_n(&vector->broken, 1, __ATOMIC_RELAXED); }
 
@@ -226,16 +233,17 @@ enum { IDLE, LENT, LENDABLE };
 struct slot {
     uint32_t state; /* by __atomic */
     uint32_t away;  /* who has it writes: so many calls that wait have lent it on, and want it back */
-    cvec_vector_seat *seat;
-    uint32_t ended; /* 1: who ends the vector has it */
-    uint8_t apart[APART - 3 * sizeof(uint32_t) - sizeof(void *)];
+    cvec_seat *seat;
+    uint32_t wanted; /* with the mutex: so many of those wait for it: nobody else has it then */
+    uint32_t ended;  /* 1: who ends the vector has it */
+    uint8_t apart[APART - 4 * sizeof(uint32_t) - sizeof(void *)];
 };
 
 /* With the mutex: who came first to wait for a seat looks again. */
 void cvec_call_first(cvec_vector *vector);
 
 /* With the mutex, and with nobody's call under way by it: this seat is no more. */
-void cvec_drop_seat(cvec_vector *vector, cvec_vector_seat *seat);
+void cvec_drop_seat(cvec_vector *vector, cvec_seat *seat);
 
 /* With the mutex: takes each idle slot, so that nobody borrows; whether those are all that have seats. */
 bool cvec_take_slots(cvec_vector *vector);
@@ -245,35 +253,36 @@ void cvec_give_slots_back(cvec_vector *vector);
 void cvec_drop_slots(cvec_vector *vector);
 
 /* With the mutex, for a call by this seat that is to wait: others may borrow it meanwhile, where it was borrowed and keeps nothing. */
-bool cvec_lend_on(cvec_vector_seat *seat);
+bool cvec_lend_on(cvec_seat *seat);
 
 /* With the mutex: it has its seat again. */
-void cvec_have_again(cvec_vector_seat *seat);
+void cvec_have_again(cvec_seat *seat);
 
 /* ---- growing.c: a call by a seat */
 
-static inline void set_busy(cvec_vector_seat *seat, uint32_t busy) { __atomic_store_n(&seat->busy, busy, __ATOMIC_RELEASE); }
+static inline void set_busy(cvec_seat *seat, uint32_t busy) { __atomic_store_n(&seat->busy, busy, __ATOMIC_RELEASE); }
 
 /* Takes the seat for one call, that is inside or aside. Two calls at once on one handle would be undefined. */
-static inline uint32_t enter_so(cvec_vector_seat *seat, uint32_t busy) {
+static inline uint32_t enter_so(cvec_seat *seat, uint32_t busy) {
     uint32_t was = FREE;
+    if (seat == NULL) return CVEC_NOT_SO;
     if (!is_of_this_process(seat->vector)) return CVEC_FORKED;
     return __atomic_compare_exchange_n(&seat->busy, &was, busy, false, __ATOMIC_SEQ_CST, __ATOMIC_RELAXED) ? CVEC_DONE : CVEC_BUSY;
 }
 
-static inline void leave_seat(cvec_vector_seat *seat) { set_busy(seat, FREE); }
+static inline void leave_seat(cvec_seat *seat) { set_busy(seat, FREE); }
 
 /* For who has the seat: it alone counts. */
-static inline void count_begun(cvec_vector_seat *seat, uint64_t count) { __atomic_store_n(&seat->begun, count, __ATOMIC_RELAXED); }
+static inline void count_begun(cvec_seat *seat, uint64_t count) { __atomic_store_n(&seat->begun, count, __ATOMIC_RELAXED); }
 
 /* Whether something waits in it, or is its own, that nobody who borrows it next is to find. */
-static inline bool keeps_something(const cvec_vector_seat *seat) {
+static inline bool keeps_something(const cvec_seat *seat) {
     return seat->pushed != NULL || seat->block.full || seat->last.len > 0 || seat->at_once != seat->vector->pushes;
 }
 
 /* For a call that is aside: grows by what was pushed and waits, gives its memory and its block up, and is aside again. Where a growth
  * is refused, what waited is lost. */
-uint32_t cvec_empty_seat(cvec_vector_seat *seat);
+uint32_t cvec_empty_seat(cvec_seat *seat);
 
 /* ---- settling.c */
 

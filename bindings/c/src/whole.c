@@ -126,7 +126,7 @@ static void shut(cvec_vector *vector) {
 
 /* With the mutex. Of a call that begins later it sees that, or the call sees that it is shut out, and goes aside. */
 static bool is_somebody_inside(const cvec_vector *vector) {
-    for (const cvec_vector_seat *seat = vector->first; seat != NULL; seat = seat->next)
+    for (const cvec_seat *seat = vector->first; seat != NULL; seat = seat->next)
         if (__atomic_load_n(&seat->busy, __ATOMIC_SEQ_CST) == INSIDE) return true;
     return false;
 }
@@ -205,7 +205,7 @@ uint32_t cvec_settle_listed(cvec_vector *vector) {
 
 void cvec_drop_idle(cvec_vector *vector) {
     while (vector->idle != NULL) {
-        cvec_vector_seat *seat = vector->idle;
+        cvec_seat *seat = vector->idle;
         vector->idle = seat->next;
         cvec_phase_close(&seat->grower);
         free(seat);
@@ -215,7 +215,7 @@ void cvec_drop_idle(cvec_vector *vector) {
 /* Closes the phase and each grower: what was lent of it may go then. What seats keep and have counted stays, and their blocks. */
 static void unseat(cvec_vector *vector) {
     cvec_drop_idle(vector);
-    for (cvec_vector_seat *seat = vector->first; seat != NULL; seat = seat->next) cvec_phase_close(&seat->grower);
+    for (cvec_seat *seat = vector->first; seat != NULL; seat = seat->next) cvec_phase_close(&seat->grower);
     cvec_phase_close(&vector->phase);
     vector->unseated = vector->seats > 0;
     __atomic_store_n(&vector->lent, 0, __ATOMIC_RELAXED);
@@ -250,7 +250,7 @@ static uint32_t share(cvec_vector *vector) {
 /* Each seat that isn't closed has a grower of the new phase; or none has, where memory is refused. */
 static uint32_t seat_all(cvec_vector *vector) {
     uint32_t answer = CVEC_DONE;
-    for (cvec_vector_seat *seat = vector->first; seat != NULL && answer == CVEC_DONE; seat = seat->next)
+    for (cvec_seat *seat = vector->first; seat != NULL && answer == CVEC_DONE; seat = seat->next)
         answer = cvec_phase_seat(&vector->phase, &seat->grower);
     if (answer == CVEC_DONE)
         vector->unseated = false;
@@ -325,14 +325,22 @@ static uint32_t claim_all(cvec_vector *vector) {
 
 /* For a call of the whole vector: it has the vector alone where it answers CVEC_DONE. */
 static uint32_t enter_alone(cvec_vector *vector) {
-    if (!is_of_this_process(vector)) return CVEC_FORKED;
+    uint32_t answer = refusal_of(vector);
+    if (answer != CVEC_DONE) return answer;
     pthread_mutex_lock(&vector->mutex);
-    uint32_t answer = claim_all(vector);
+    answer = claim_all(vector);
     if (answer != CVEC_DONE) pthread_mutex_unlock(&vector->mutex);
     if (answer != CVEC_DONE || vector->alone) return answer;
     answer = gather(vector);
     if (answer != CVEC_DONE) leave_alone(vector);
     return answer;
+}
+
+/* The same for one that names records of this type, and passes these. */
+static uint32_t enter_alone_with(cvec_vector *vector, cvec_type type, const void *records, size_t count) {
+    if (vector == NULL) return CVEC_NOT_SO;
+    if (!has_width_of(vector, type)) return CVEC_WIDTH;
+    return are_records(vector->type, records, count) ? enter_alone(vector) : CVEC_NO_RECORD;
 }
 
 /* Behind what a vault was asked to write. */
@@ -354,15 +362,10 @@ static uint32_t vault_change(cvec_type type, cvec_handle *vault, uint64_t start,
     return answer;
 }
 
-uint32_t cvec_vector_change_records(cvec_vector *vector, uint64_t start, const void *records, size_t count) {
-    if (!are_records(vector->type, records, count)) return CVEC_NO_RECORD;
-    uint32_t answer = enter_alone(vector);
+cvec_status cvec_vector_change(cvec_vector *vector, cvec_type type, uint64_t start, const void *records, size_t count) {
+    uint32_t answer = enter_alone_with(vector, type, records, count);
     if (answer != CVEC_DONE) return answer;
     return settle_alone(vector, vault_change(vector->type, &vector->committer, start, count > 0 ? records : no_records, count));
-}
-
-uint32_t cvec_vector_change(cvec_vector *vector, uint64_t start, const uint64_t *records, size_t count) {
-    return has_words(vector) ? cvec_vector_change_records(vector, start, records, count) : CVEC_WIDTH;
 }
 
 static uint32_t vault_resize(cvec_type type, cvec_handle *vault, uint64_t size, const void *record) {
@@ -370,29 +373,24 @@ static uint32_t vault_resize(cvec_type type, cvec_handle *vault, uint64_t size, 
     return cvec_vault_resize(vault, size, bytes_of_one(type, record, room), width_of(type));
 }
 
-uint32_t cvec_vector_resize_by(cvec_vector *vector, uint64_t size, const void *record) {
-    if (!are_records(vector->type, record, 1)) return CVEC_NO_RECORD;
-    uint32_t answer = enter_alone(vector);
+cvec_status cvec_vector_resize(cvec_vector *vector, cvec_type type, uint64_t size, const void *record) {
+    uint32_t answer = enter_alone_with(vector, type, record, 1);
     if (answer != CVEC_DONE) return answer;
     return settle_alone(vector, vault_resize(vector->type, &vector->committer, size, record));
 }
 
-uint32_t cvec_vector_resize(cvec_vector *vector, uint64_t size, uint64_t record) {
-    return has_words(vector) ? cvec_vector_resize_by(vector, size, &record) : CVEC_WIDTH;
-}
-
-uint32_t cvec_vector_clear(cvec_vector *vector) {
+cvec_status cvec_vector_clear(cvec_vector *vector) {
     uint32_t answer = enter_alone(vector);
     static const uint8_t none[MOST_WIDTH]; /* of no record more a copy is made */
     return answer == CVEC_DONE ? settle_alone(vector, cvec_vault_resize(&vector->committer, 0, none, width_of(vector->type))) : answer;
 }
 
-uint32_t cvec_vector_fold(cvec_vector *vector) {
+cvec_status cvec_vector_fold(cvec_vector *vector) {
     uint32_t answer = enter_alone(vector);
     return answer == CVEC_DONE ? settle_alone(vector, cvec_vault_fold(&vector->committer)) : answer;
 }
 
-uint32_t cvec_vector_compact(cvec_vector *vector) {
+cvec_status cvec_vector_compact(cvec_vector *vector) {
     uint32_t answer = enter_alone(vector);
     if (answer == CVEC_DONE) leave_alone(vector);
     return answer;

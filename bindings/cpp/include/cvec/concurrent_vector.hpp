@@ -179,8 +179,8 @@ template <class T, class Layout = one_record> class concurrent_vector {
     // Waits until this growth, and each before it, is durable.
     void settle(const growth &made) { file().await(made.number); }
 
-    // The same two, but they wait for others no longer than this: for their commits, for a seat, and while one has the vector
-    // alone. False: the time has passed, and what was grown may yet become durable.
+    // The same two, but they wait for others no longer than this: for their commits, while one has the vector alone, and the
+    // second for a seat. False: the time has passed, and what was grown may yet become durable.
     template <class Rep, class Period> [[nodiscard]] bool settle_for(const std::chrono::duration<Rep, Period> &longest) {
         return file().await_all_for(detail::milliseconds_of(longest));
     }
@@ -199,7 +199,7 @@ template <class T, class Layout = one_record> class concurrent_vector {
     // Ends the loops of flushers, each that is begun later too. It doesn't wait for them.
     void stop_flusher() { file().stop_flusher(); }
 
-    // How many growths are durable: the first ones are. It waits for no commit, but, as each call, for a seat.
+    // How many growths are durable: the first ones are. It waits for no commit, and for no seat.
     [[nodiscard]] std::uint64_t settled() const { return file().settled(); }
 
     [[nodiscard]] bool is_settled(const growth &made) const { return made.number < settled(); }

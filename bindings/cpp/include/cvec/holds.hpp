@@ -11,7 +11,7 @@
 namespace cvec {
 namespace detail {
 
-// Counts them. A hold begins beside another one, or by who has a seat: so who has all seats sees each that there is.
+// Counts them, for who waits until there are none.
 class holds {
   public:
     void begin_view() noexcept { ++views_; }
@@ -20,7 +20,6 @@ class holds {
     void end_block() noexcept { --blocks_; }
 
     [[nodiscard]] bool is_any() const noexcept { return views_.load() != 0 || blocks_.load() != 0; }
-    [[nodiscard]] std::size_t blocks() const noexcept { return blocks_.load(); }
 
     // For who is about to hold: first come those that wait for all holds to end, but for no longer than this, since it may be for a
     // hold of the caller's own that they wait. Else there might always be one.

@@ -1,6 +1,6 @@
 // Where the rows of a vector stand in memory, for reads at any position without a lock and without a call: for C++17.
 //
-// Rows stand in pieces, which are lent (cvec_vector_pieces). Pieces of one length that stand in memory at one distance are a run,
+// Rows stand in pieces, which are lent (cvec_seat_pieces). Pieces of one length that stand in memory at one distance are a run,
 // as the growths of one thread mostly do; any other piece is a run of its own. A table says of each few rows where they stand, by
 // one entry: so a look takes one line of memory beside the row's own. Where its rows are of too many runs, the runs are searched.
 //

@@ -30,11 +30,6 @@ class patience {
         nap_ = std::min(nap_ * 2, longest_nap);
     }
 
-    [[nodiscard]] bool is_long() const noexcept { return nap_ == longest_nap; }
-
-    // For so long that each that sleeps so has looked.
-    static void give_way() { std::this_thread::sleep_for(longest_nap * 2); }
-
   private:
     static constexpr std::chrono::microseconds longest_nap{200};
     std::chrono::microseconds nap_{2};

@@ -2,14 +2,14 @@
 #ifndef CVEC_WORD_FILE_HPP
 #define CVEC_WORD_FILE_HPP
 
+#include "holds.hpp"
+#include "open_file.hpp"
 #include "piece_index.hpp"
-#include "seats.hpp"
 
 #include <algorithm>
 #include <array>
 #include <cerrno>
 #include <chrono>
-#include <condition_variable>
 #include <cstddef>
 #include <cstdint>
 #include <memory>
@@ -22,13 +22,27 @@ namespace detail {
 
 inline constexpr std::uint64_t most_records = std::uint64_t{1} << 32;
 
-class word_file final : public seated_file, public std::enable_shared_from_this<word_file> {
+// A seat for one call. No code of the user runs while it is borrowed, so no call waits for a seat that its own thread has.
+class lease {
+  public:
+    explicit lease(const open_file &file) { file.require(file.borrow(CVEC_NO_LIMIT, &seat_)); }
+    explicit lease(cvec_seat *borrowed) noexcept : seat_(borrowed) {}
+    lease(const lease &) = delete;
+    lease &operator=(const lease &) = delete;
+    ~lease() {
+        if (seat_ != nullptr) cvec_seat_return(&seat_);
+    }
+    [[nodiscard]] cvec_seat *seat() const noexcept { return seat_; }
+
+  private:
+    cvec_seat *seat_ = nullptr;
+};
+
+class word_file final : public open_file, public std::enable_shared_from_this<word_file> {
   public:
     // A row is so many words, which have so many bytes together.
     word_file(const std::string &path, cvec_type type, std::size_t words, std::size_t bytes, const options &wanted)
-        : seated_file(path, type, wanted), row_words_(words), index_(bytes), wait_for_views_(wanted.wait_for_views) {
-        if (!seat_another()) refuse(CVEC_MEMORY);
-    }
+        : open_file(path, type, wanted), row_words_(words), index_(bytes), wait_for_views_(wanted.wait_for_views) {}
 
     // A destructor reports nothing: who wants to know calls close.
     ~word_file() { give_up(); }
@@ -45,86 +59,62 @@ class word_file final : public seated_file, public std::enable_shared_from_this<
     cvec_receipt grow(const void *words, std::size_t count) {
         const lease lent(*this);
         cvec_receipt receipt{};
-        std::uint32_t status;
-        {
-            const unseen writes;
-            status = cvec_vector_grow_records(lent.seat(), words, count, &receipt);
-        }
-        require(status);
-        lent.note_grown(receipt.number + 1);
+        const unseen writes;
+        require(cvec_seat_grow(lent.seat(), type_, words, count, &receipt));
         return receipt;
     }
 
     // Waits until the growth of this number, and each before it, is durable.
     void await(std::uint64_t number) {
         const lease lent(*this);
-        require(cvec_vector_await(lent.seat(), number));
+        require(cvec_seat_settle(lent.seat(), number, CVEC_NO_LIMIT));
     }
 
-    // The same, for others so many milliseconds at most: then false.
+    // The same, for others, also for a seat, so many milliseconds at most: then false.
     bool await_for(std::uint64_t number, std::uint64_t milliseconds) {
-        slot *const found = borrow_within(milliseconds);
-        if (found == nullptr) return false;
-        const lease lent(*found);
-        const std::uint32_t status = cvec_vector_await_for(lent.seat(), number, milliseconds);
-        if (status != CVEC_LATE) require(status);
-        return status == CVEC_DONE;
+        const auto begun = waiting_clock::now();
+        cvec_seat *borrowed = nullptr;
+        if (!is_in_time(borrow(milliseconds, &borrowed))) return false;
+        const lease lent(borrowed);
+        const auto waited = std::chrono::duration_cast<std::chrono::milliseconds>(waiting_clock::now() - begun).count();
+        const std::uint64_t rest = milliseconds - std::min(milliseconds, static_cast<std::uint64_t>(waited));
+        return is_in_time(cvec_seat_settle(lent.seat(), number, rest));
     }
 
-    // Waits for all growths that have returned. Where there are none it is refused as where there are some.
-    void await_all() {
-        const std::uint64_t count = grown();
-        if (count > 0) return await(count - 1);
-        refuse_ended();
-    }
+    // Waits for all growths that have returned.
+    void await_all() { require(settle(CVEC_NO_LIMIT)); }
+    bool await_all_for(std::uint64_t milliseconds) { return is_in_time(settle(milliseconds)); }
 
-    bool await_all_for(std::uint64_t milliseconds) {
-        const std::uint64_t count = grown();
-        if (count > 0) return await_for(count - 1, milliseconds);
-        refuse_ended();
-        return true;
-    }
-
-    // Waits for all growths that have returned, and so again and again behind such a pause, until stop_flusher or the close.
+    // Commits what was grown, and so again and again behind such a pause, until stop_flusher or the close.
     void run_flusher(std::uint64_t milliseconds) {
         refuse_forked();
-        constexpr auto longest = static_cast<std::uint64_t>(std::chrono::milliseconds(longest_wait).count());
-        const std::chrono::milliseconds pause(std::clamp<std::uint64_t>(milliseconds, 1, longest));
-        std::unique_lock<std::mutex> lock(flushing_);
-        while (!flushers_end_) {
-            lock.unlock();
-            if (!try_await_all()) return;
-            lock.lock();
-            flusher_wakes_->wait_for(lock, pause, [this] { return flushers_end_; });
-        }
+        require_unless_closed(cvec_vector_run_flusher(vector_, milliseconds));
     }
 
     void stop_flusher() {
         refuse_forked();
-        const std::lock_guard<std::mutex> lock(flushing_);
-        flushers_end_ = true;
-        flusher_wakes_->notify_all();
+        require_unless_closed(cvec_vector_stop_flusher(vector_));
     }
 
-    std::uint64_t settled() {
-        const lease lent(*this);
+    std::uint64_t settled() const {
+        refuse_ended();
         std::uint64_t count = 0;
-        require(cvec_seat_settled(lent.seat(), &count));
+        require(cvec_vector_settled(vector_, &count));
         return count;
     }
 
-    std::uint64_t size() {
+    std::uint64_t size() const {
         const lease lent(*this);
         std::uint64_t count = 0;
-        require(cvec_vector_size(lent.seat(), &count));
+        require(cvec_seat_size(lent.seat(), &count));
         return count;
     }
 
     // Copies words from this place on, and answers how many there were.
-    std::size_t read(std::uint64_t from, void *out, std::size_t room) {
+    std::size_t read(std::uint64_t from, void *out, std::size_t room) const {
         const lease lent(*this);
         std::uint64_t count = 0;
-        require(cvec_vector_read_records(lent.seat(), from, out, room, &count));
+        require(cvec_seat_read(lent.seat(), type_, from, out, room, &count));
         return static_cast<std::size_t>(count);
     }
 
@@ -133,16 +123,15 @@ class word_file final : public seated_file, public std::enable_shared_from_this<
     // Where they stand, as far as one of the calls below has learned of them.
     [[nodiscard]] const piece_index &index() const noexcept { return index_; }
 
-    // Learns of all rows that there are. Threads that come at once wait for one of them, each with its seat: so who has all seats
-    // has waited for them.
+    // Learns of all rows that there are. Threads that come at once wait for one of them.
     void learn() {
-        const lease lent(*this);
         const std::lock_guard<std::mutex> lock(learning_);
+        const lease lent(*this);
         std::array<cvec_piece, 256> pieces;
         std::size_t count = 0;
         do {
             const std::uint64_t from = std::uint64_t{index_.covered()} * row_words_;
-            require(cvec_vector_pieces(lent.seat(), from, pieces.data(), pieces.size(), &count));
+            require(cvec_seat_pieces(lent.seat(), from, pieces.data(), pieces.size(), &count));
             takes(this);
             for (std::size_t k = 0; k < count; ++k) add(pieces[k]);
             index_.publish();
@@ -156,14 +145,25 @@ class word_file final : public seated_file, public std::enable_shared_from_this<
         return length;
     }
 
-    // From now on nobody has the file alone, until end_view.
+    // From now on nobody has the file alone, until end_view. Who had it before has forgotten what it lent.
     void begin_view() {
         holds_.give_way();
-        const lease lent(*this);
+        refuse_ended();
         holds_.begin_view();
+        const std::uint32_t status = cvec_vector_hold(vector_);
+        if (status != CVEC_DONE) holds_.end_view();
+        require(status);
+        const std::lock_guard<std::mutex> passed(learning_);
     }
-    void share_view() noexcept { holds_.begin_view(); } // by who has one
-    void end_view() noexcept { holds_.end_view(); }
+    // By who has one. A forked process has none of its own.
+    void share_view() noexcept {
+        holds_.begin_view();
+        static_cast<void>(cvec_vector_hold(vector_));
+    }
+    void end_view() noexcept {
+        static_cast<void>(cvec_vector_release(vector_));
+        holds_.end_view();
+    }
 
     // ---- growing in place
 
@@ -171,57 +171,78 @@ class word_file final : public seated_file, public std::enable_shared_from_this<
     // meanwhile, and nobody has the file alone. What isn't published is dropped.
     class block {
       public:
-        block(word_file &file, std::size_t count) : file_(file), slot_(&file.begin_block(count, &words_)), mine_(&file) {}
+        block(word_file &file, std::size_t count) : file_(file), counted_(file), mine_(&file) {
+            const lease lent(file);
+            void *words = nullptr;
+            file.require(cvec_seat_block(lent.seat(), count, &words));
+            file.require(cvec_seat_detach(lent.seat(), &block_));
+        }
         block(const block &) = delete;
         block &operator=(const block &) = delete;
         ~block() {
-            if (slot_ != nullptr && !file_.is_forked()) file_.end_block(*slot_, cvec_vector_drop);
+            if (!file_.is_forked()) cvec_block_drop(&block_);
         }
 
-        [[nodiscard]] void *words() const noexcept { return words_; }
+        [[nodiscard]] void *words() const noexcept { return block_.records; }
 
         cvec_receipt publish() {
-            cvec_receipt receipt{};
             file_.refuse_forked();
-            slot &its = *std::exchange(slot_, nullptr);
-            file_.require(file_.end_block(its, [&](cvec_vector_seat *seat) { return file_.publish(its, seat, &receipt); }));
+            const lease lent(file_);
+            cvec_receipt receipt{};
+            file_.require(cvec_seat_attach(lent.seat(), &block_));
+            gives(&file_);
+            file_.require(cvec_seat_publish(lent.seat(), &receipt)); // refused, it goes with the seat
             return receipt;
         }
 
       private:
+        struct counted {
+            explicit counted(word_file &file) : holds_(file.holds_) {
+                if (!filling::is_of(&file)) holds_.give_way();
+                holds_.begin_block();
+            }
+            counted(const counted &) = delete;
+            counted &operator=(const counted &) = delete;
+            ~counted() { holds_.end_block(); }
+            holds &holds_;
+        };
+
         word_file &file_;
-        void *words_ = nullptr;
-        slot *slot_;
+        const counted counted_;
         const filling mine_;
+        cvec_block block_{};
     };
 
     // ---- having the file alone
 
     // Takes the words behind so many away, if there are some.
     void cut(std::uint64_t length) {
-        run_alone([length](std::uint64_t size) { return size > length; }, [this, length] { return cut_alone(length); });
+        run_alone([this, length](bool &has_begun) {
+            has_begun = size() > length;
+            return has_begun ? cut_alone(length) : std::uint32_t{CVEC_DONE};
+        });
     }
 
     // Writes some words over those from this place on, as one frame. False: not all of those are there, and nothing is written.
     bool change(std::uint64_t from, const void *words, std::size_t count) {
         if (count == 0) return from <= size();
         bool is_there = false;
-        const auto are_there = [&](std::uint64_t size) {
-            is_there = from <= size && count <= size - from;
-            return is_there;
-        };
-        run_alone(are_there, [&] { return cvec_vector_change_records(vector_, from, words, count); });
+        run_alone([&](bool &has_begun) -> std::uint32_t {
+            const std::uint64_t all = size();
+            is_there = has_begun = from <= all && count <= all - from;
+            return is_there ? cvec_vector_change(vector_, type_, from, words, count) : CVEC_DONE;
+        });
         return is_there;
     }
 
     // Writes what was changed to its place in the file.
     void fold() {
-        run_alone([](std::uint64_t) { return true; }, [this] { return cvec_vector_fold(vector_); });
+        run_alone([this](bool &) { return cvec_vector_fold(vector_); });
     }
 
     // Puts the words of all growths behind one another.
     void compact() {
-        run_alone([](std::uint64_t) { return true; }, [this] { return cvec_vector_compact(vector_); });
+        run_alone([this](bool &) { return cvec_vector_compact(vector_); });
     }
 
     // For who looks at a length before it grows: one at a time. At a fork another thread may have had it.
@@ -231,15 +252,19 @@ class word_file final : public seated_file, public std::enable_shared_from_this<
     }
 
   private:
-    // False where the file was closed meanwhile.
-    bool try_await_all() {
-        try {
-            await_all();
-        } catch (const error &) {
-            if (!is_closed() || is_broken()) throw;
-            return false;
-        }
-        return true;
+    [[nodiscard]] std::uint32_t settle(std::uint64_t milliseconds) const {
+        refuse_ended();
+        return cvec_vector_settle(vector_, milliseconds);
+    }
+
+    // The close has ended all loops of flushers, also one that comes behind it.
+    void require_unless_closed(std::uint32_t status) const {
+        if (status != CVEC_NOT_SO) require(status);
+    }
+
+    [[nodiscard]] bool is_in_time(std::uint32_t status) const {
+        if (status != CVEC_LATE) require(status);
+        return status == CVEC_DONE;
     }
 
     // Each growth by this header has whole rows, and what a file held is one piece.
@@ -248,163 +273,69 @@ class word_file final : public seated_file, public std::enable_shared_from_this<
         index_.add(piece.records, static_cast<std::size_t>(piece.len) / row_words_);
     }
 
-    // ---- a growth in place
-
-    slot &begin_block(std::size_t count, void **words) {
-        if (!filling::is_of(this)) holds_.give_way();
-        slot &found = borrow_without_block();
-        const lease lent(found);
-        require(cvec_vector_block(lent.seat(), count, words));
-        found.has_block = true;
-        holds_.begin_block();
-        return found;
-    }
-
-    // Refused, it is dropped.
-    std::uint32_t publish(slot &its, cvec_vector_seat *seat, cvec_receipt *receipt) {
-        gives(this);
-        const std::uint32_t status = cvec_vector_publish(seat, receipt);
-        if (status == CVEC_DONE)
-            its.grown.store(receipt->number + 1, std::memory_order_release);
-        else
-            cvec_vector_drop(seat);
-        return status;
-    }
-
-    // Does this by the seat of a block, which has none then.
-    template <class Action> std::uint32_t end_block(slot &its, const Action &act) {
-        const lease lent = take_again(its);
-        const std::uint32_t status = act(lent.seat());
-        its.has_block = false;
-        holds_.end_block();
-        return status;
-    }
-
     // ---- having the file alone
 
     [[noreturn]] void refuse_held() const {
         refuse(CVEC_BUSY, "rows are held, by a view or by a growth in place of this thread");
     }
 
-    enum class entry { alone, held, closed };
-
-    // With the mutex: has all seats while nobody holds rows. Else it has no seat.
-    entry enter(const holds::want &mine, std::unique_lock<std::mutex> &lock) {
-        if (filling::is_of(this)) return entry::held;
-        for (;;) {
-            if (!mine.await_none()) return entry::held;
-            lock.lock();
-            if (is_closed()) return entry::closed;
-            take_all_seats();
-            if (!holds_.is_any()) return entry::alone;
-            give_all_seats_back();
-            lock.unlock();
-        }
-    }
-
-    // Waits until each call under way has ended, and, where the length is as it is wanted, does this while no seat is taken and
-    // each growth is durable. Later calls wait until it has ended, and go before the next that asks for this. Where views live it
-    // is refused, and nothing is done.
-    template <class Wanted, class Action> void run_alone(const Wanted &is_wanted, const Action &act) {
-        refuse_forked();
+    // Settles, and does this while nobody holds rows, and nobody learns where they stand: behind it they may stand elsewhere. It
+    // answers a status; CVEC_BUSY: a view has come between, and nothing is done. Where views live for longer than it may wait it is
+    // refused.
+    template <class Action> void run_alone(const Action &act) {
+        refuse_ended();
+        if (filling::is_of(this)) refuse_held();
         const holds::want mine(holds_, wait_for_views_);
-        const std::lock_guard<std::mutex> turn(alone_);
-        const std::uint32_t status = act_alone(mine, is_wanted, act);
-        const int why = errno;
-        let_others_go_first();
-        errno = why;
-        if (status == CVEC_BUSY) refuse_held();
-        require(status);
-    }
-
-    template <class Wanted, class Action>
-    std::uint32_t act_alone(const holds::want &mine, const Wanted &is_wanted, const Action &act) {
-        std::unique_lock<std::mutex> lock(seating_, std::defer_lock);
-        const entry how = enter(mine, lock);
-        if (how == entry::closed) refuse_closed();
-        if (how == entry::held) return CVEC_BUSY;
-        std::uint64_t size = 0;
-        std::uint32_t status = settle_all(&size);
-        if (status == CVEC_DONE && is_wanted(size)) {
-            close_seats();
-            index_.clear(); // what was lent is no more
-            status = act();
-            take_seats_anew();
+        for (;;) {
+            if (!mine.await_none()) refuse_held();
+            await_all();
+            const std::lock_guard<std::mutex> lock(learning_);
+            bool has_begun = true;
+            const std::uint32_t status = act(has_begun);
+            if (status == CVEC_BUSY) continue;
+            const int why = errno;
+            if (has_begun) index_.clear();
+            errno = why;
+            return require(status);
         }
-        if (!is_closed()) give_all_seats_back();
-        return status;
     }
 
-    // With all seats. Where it is refused nothing has changed, and the file stays open.
-    std::uint32_t settle_all(std::uint64_t *size) {
-        const std::uint64_t count = grown();
-        std::uint32_t status = CVEC_DONE;
-        if (count > 0) status = cvec_vector_await(first_seat(), count - 1);
-        return status == CVEC_DONE ? cvec_vector_size(first_seat(), size) : status;
-    }
-
-    // While no seat is taken. What was changed has to be folded before.
+    // What was changed has to be folded before.
     std::uint32_t cut_alone(std::uint64_t length) {
         const cvec_pair unused{}; // as large as any record: the length doesn't rise
-        std::uint32_t status = cvec_vector_resize_by(vector_, length, &unused);
+        std::uint32_t status = cvec_vector_resize(vector_, type_, length, &unused);
         if (status != CVEC_UNFOLDED) return status;
         status = cvec_vector_fold(vector_);
-        return status == CVEC_DONE ? cvec_vector_resize_by(vector_, length, &unused) : status;
-    }
-
-    // With all seats, which were closed behind settle_all: they are taken again, and errno stays. Where that is refused the file is
-    // closed, and later calls are told why: what the action did is durable, so that isn't refused.
-    void take_seats_anew() {
-        const int why = errno;
-        const std::uint32_t status = take_each_seat();
-        if (status != CVEC_DONE) {
-            close_all();
-            end_by(status);
-        }
-        errno = why;
+        if (status == CVEC_DONE) status = cvec_vector_resize(vector_, type_, length, &unused);
+        return status;
     }
 
     // ---- ending
 
-    std::uint32_t close_all() noexcept {
-        close_seats();
-        index_.clear();
-        cvec_vector *vector = std::exchange(vector_, nullptr);
-        return vector == nullptr ? std::uint32_t{CVEC_DONE} : cvec_vector_close(vector);
-    }
-
-    // Where rows are held it goes on as it was, its flushers too.
+    // Where rows are held it goes on as it was, its flushers too. A forked process closes the file alone.
     std::uint32_t give_up() {
+        if (is_closed()) return CVEC_DONE;
         if (is_forked()) {
-            leave();
+            end();
             return CVEC_DONE;
         }
+        if (filling::is_of(this)) return CVEC_BUSY;
         const holds::want mine(holds_, wait_for_views_);
-        std::unique_lock<std::mutex> lock(seating_, std::defer_lock);
-        const entry how = enter(mine, lock);
-        if (how != entry::alone) return how == entry::held ? std::uint32_t{CVEC_BUSY} : std::uint32_t{CVEC_DONE};
-        end();
-        stop_flusher();
-        return close_all();
-    }
-
-    // A forked process closes the file alone: threads that it hasn't got may have had the mutex, and seats. For those that
-    // waited the condition is left: its end would wait for them.
-    void leave() noexcept {
-        static_cast<void>(flusher_wakes_.release());
-        end();
-        cvec_vector *vector = std::exchange(vector_, nullptr);
-        if (vector != nullptr) cvec_vector_close(vector);
+        for (;;) {
+            if (!mine.await_none()) return CVEC_BUSY;
+            const std::lock_guard<std::mutex> lock(learning_);
+            const std::uint32_t status = end();
+            if (status == CVEC_BUSY) continue;
+            index_.clear();
+            return status == CVEC_NOT_SO ? std::uint32_t{CVEC_DONE} : status; // another has closed it
+        }
     }
 
     const std::size_t row_words_;
-    piece_index index_; // with learning_, and by a call with a seat, or by who has all seats
+    piece_index index_; // with learning_
     std::mutex learning_;
+    holds holds_;
     const std::chrono::milliseconds wait_for_views_;
-    std::mutex alone_; // one behind another has the file alone
-    std::mutex flushing_;
-    std::unique_ptr<std::condition_variable> flusher_wakes_ = std::make_unique<std::condition_variable>();
-    bool flushers_end_ = false; // with flushing_
     std::mutex turn_;
 };
 

@@ -1,6 +1,6 @@
 //! Growth in place: the caller writes records where they will stand, and the vector grows by them without a copy.
 
-use crate::{Error, RawReceipt, Receipt, Record, Seat, cvec_vector_block, cvec_vector_drop, cvec_vector_publish, told};
+use crate::{Error, RawReceipt, Receipt, Record, Seat, cvec_seat_block, cvec_seat_drop, cvec_seat_publish, told};
 use std::mem;
 use std::ptr::{self, NonNull};
 
@@ -36,7 +36,7 @@ impl<'s, 'v, R: Record> Block<'s, 'v, R> {
     fn of(seat: &'s Seat<'v, R>, count: usize) -> Result<Self, Error> {
         let (all, mut records) = (count.checked_mul(R::KEPT.count as usize).ok_or(Error::TooLarge)?, ptr::null_mut());
         // SAFETY: the seat is open as long as `seat` is borrowed, and in one call; the place for the pointer lasts for it.
-        match told(unsafe { cvec_vector_block(seat.raw.as_ptr(), all, &mut records) }) {
+        match told(unsafe { cvec_seat_block(seat.raw.as_ptr(), all, &mut records) }) {
             Err(Error::NoSeat) => Err(Error::Filling),
             answer => answer.and_then(|()| Ok(Block { seat, records: NonNull::new(records.cast()).ok_or(Error::Memory)?, count })),
         }
@@ -52,7 +52,7 @@ impl<'s, 'v, R: Record> Block<'s, 'v, R> {
     fn publish(self) -> Result<Receipt, Error> {
         let mut receipt = RawReceipt::default();
         // SAFETY: as above; no reference to the records is there any more.
-        told(unsafe { cvec_vector_publish(self.seat.raw.as_ptr(), &mut receipt) })?;
+        told(unsafe { cvec_seat_publish(self.seat.raw.as_ptr(), &mut receipt) })?;
         mem::forget(self);
         Ok(receipt.of::<R>())
     }
@@ -61,6 +61,6 @@ impl<'s, 'v, R: Record> Block<'s, 'v, R> {
 impl<R: Record> Drop for Block<'_, '_, R> {
     fn drop(&mut self) {
         // SAFETY: as above. In a forked process C refuses it.
-        unsafe { cvec_vector_drop(self.seat.raw.as_ptr()) };
+        unsafe { cvec_seat_drop(self.seat.raw.as_ptr()) };
     }
 }

@@ -4,7 +4,7 @@
 //! the vector by `&mut`, by value or on its drop. So what is lent for `'v` is borrowed of the vector, and not of a seat: seats come
 //! and go, and threads grow meanwhile.
 
-use crate::{Error, Record, Seat, Vector, cvec_vector_pieces, first_kept, told};
+use crate::{Error, Record, Seat, Vector, cvec_seat_pieces, first_kept, told};
 use std::ffi::c_void;
 use std::marker::PhantomData;
 use std::ops::Index;
@@ -40,7 +40,7 @@ impl<'v, R: Record> Seat<'v, R> {
     fn ask(&self, start: u64, out: &mut [RawPiece]) -> Result<usize, Error> {
         let mut count = 0;
         // SAFETY: the seat is open as long as `self` is there, and in one call; the pointer and the room are those of one slice.
-        told(unsafe { cvec_vector_pieces(self.raw.as_ptr(), first_kept::<R>(start), out.as_mut_ptr(), out.len(), &mut count) })?;
+        told(unsafe { cvec_seat_pieces(self.raw.as_ptr(), first_kept::<R>(start), out.as_mut_ptr(), out.len(), &mut count) })?;
         Ok(count)
     }
 

@@ -50,6 +50,9 @@ pub const MOST_SEATS: u16 = 64;
 const MOST_KEPT: u64 = 1 << 32;
 const LARGEST_GROWTH: usize = (1 << 20) - 8;
 
+/// Of a wait, in milliseconds: as long as it takes.
+const NO_LIMIT: u64 = u64::MAX;
+
 /// So many records are copied at once where C can't search for one.
 const SEARCHED_AT_ONCE: usize = 1024;
 
@@ -123,7 +126,7 @@ impl fmt::Display for Error {
     fn fmt(&self, f: &mut fmt::Formatter<'_>) -> fmt::Result {
         match self.status() {
             // SAFETY: it gives a text that lasts, whatever the number.
-            Some(status) => f.write_str(&unsafe { CStr::from_ptr(cvec_vector_status_text(status)) }.to_string_lossy())?,
+            Some(status) => f.write_str(&unsafe { CStr::from_ptr(cvec_status_text(status)) }.to_string_lossy())?,
             None => f.write_str(self.own_text())?,
         }
         match self.errno() {
@@ -245,33 +248,32 @@ struct RawOptions {
 }
 
 unsafe extern "C" {
-    fn cvec_vector_create_with(vector: *mut *mut RawVector, path: *const c_char, record: u32, options: *const RawOptions) -> u32;
-    fn cvec_vector_open_with(vector: *mut *mut RawVector, path: *const c_char, record: u32, options: *const RawOptions) -> u32;
-    fn cvec_vector_close(vector: *mut RawVector) -> u32;
-    fn cvec_vector_take_seat(vector: *mut RawVector, seat: *mut *mut RawSeat) -> u32;
-    fn cvec_vector_seat_within(vector: *mut RawVector, milliseconds: u64, seat: *mut *mut RawSeat) -> u32;
-    fn cvec_vector_close_seat(seat: *mut RawSeat) -> u32;
-    fn cvec_vector_grow_records(seat: *mut RawSeat, records: *const c_void, count: usize, receipt: *mut RawReceipt) -> u32;
-    fn cvec_vector_await(seat: *mut RawSeat, number: u64) -> u32;
-    fn cvec_vector_await_for(seat: *mut RawSeat, number: u64, milliseconds: u64) -> u32;
+    fn cvec_vector_create(vector: *mut *mut RawVector, path: *const c_char, record: u32, options: *const RawOptions) -> u32;
+    fn cvec_vector_open(vector: *mut *mut RawVector, path: *const c_char, record: u32, options: *const RawOptions) -> u32;
+    fn cvec_vector_close(vector: *mut *mut RawVector) -> u32;
+    fn cvec_seat_take(vector: *mut RawVector, seat: *mut *mut RawSeat) -> u32;
+    fn cvec_seat_take_within(vector: *mut RawVector, milliseconds: u64, seat: *mut *mut RawSeat) -> u32;
+    fn cvec_seat_close(seat: *mut *mut RawSeat) -> u32;
+    fn cvec_seat_grow(seat: *mut RawSeat, record: u32, records: *const c_void, count: usize, receipt: *mut RawReceipt) -> u32;
+    fn cvec_seat_settle(seat: *mut RawSeat, number: u64, milliseconds: u64) -> u32;
     fn cvec_vector_run_flusher(vector: *mut RawVector, every_milliseconds: u64) -> u32;
     fn cvec_vector_stop_flusher(vector: *mut RawVector) -> u32;
     fn cvec_seat_settled(seat: *mut RawSeat, count: *mut u64) -> u32;
-    fn cvec_vector_size(seat: *mut RawSeat, size: *mut u64) -> u32;
-    fn cvec_vector_read_records(seat: *mut RawSeat, from: u64, out: *mut c_void, room: usize, count: *mut u64) -> u32;
-    fn cvec_vector_at(seat: *mut RawSeat, position: u64, record: *mut c_void) -> u32;
-    fn cvec_vector_pieces(seat: *mut RawSeat, from: u64, out: *mut RawPiece, room: usize, count: *mut usize) -> u32;
-    fn cvec_vector_block(seat: *mut RawSeat, count: usize, records: *mut *mut c_void) -> u32;
-    fn cvec_vector_publish(seat: *mut RawSeat, receipt: *mut RawReceipt) -> u32;
-    fn cvec_vector_drop(seat: *mut RawSeat) -> u32;
-    fn cvec_vector_count_record(seat: *mut RawSeat, record: *const c_void, count: *mut u64) -> u32;
-    fn cvec_vector_find_record(seat: *mut RawSeat, record: *const c_void, from: u64, place: *mut u64) -> u32;
+    fn cvec_seat_size(seat: *mut RawSeat, size: *mut u64) -> u32;
+    fn cvec_seat_read(seat: *mut RawSeat, record: u32, from: u64, out: *mut c_void, room: usize, count: *mut u64) -> u32;
+    fn cvec_seat_at(seat: *mut RawSeat, record: u32, position: u64, out: *mut c_void) -> u32;
+    fn cvec_seat_pieces(seat: *mut RawSeat, from: u64, out: *mut RawPiece, room: usize, count: *mut usize) -> u32;
+    fn cvec_seat_block(seat: *mut RawSeat, count: usize, records: *mut *mut c_void) -> u32;
+    fn cvec_seat_publish(seat: *mut RawSeat, receipt: *mut RawReceipt) -> u32;
+    fn cvec_seat_drop(seat: *mut RawSeat) -> u32;
+    fn cvec_seat_count(seat: *mut RawSeat, record: u32, sought: *const c_void, count: *mut u64) -> u32;
+    fn cvec_seat_find(seat: *mut RawSeat, record: u32, sought: *const c_void, from: u64, place: *mut u64) -> u32;
     fn cvec_vector_compact(vector: *mut RawVector) -> u32;
-    fn cvec_vector_change_records(vector: *mut RawVector, start: u64, records: *const c_void, count: usize) -> u32;
-    fn cvec_vector_resize_by(vector: *mut RawVector, size: u64, record: *const c_void) -> u32;
+    fn cvec_vector_change(vector: *mut RawVector, record: u32, start: u64, records: *const c_void, count: usize) -> u32;
+    fn cvec_vector_resize(vector: *mut RawVector, record: u32, size: u64, filler: *const c_void) -> u32;
     fn cvec_vector_clear(vector: *mut RawVector) -> u32;
     fn cvec_vector_fold(vector: *mut RawVector) -> u32;
-    fn cvec_vector_status_text(status: u32) -> *const c_char;
+    fn cvec_status_text(status: u32) -> *const c_char;
 }
 
 /// A path with a zero byte is none that the system has a name for.
@@ -405,7 +407,7 @@ impl<R: Record> Vector<R> {
     pub fn create_with(path: &Path, options: &Options) -> Result<Vector<R>, Error> {
         let (options, name, mut raw) = (options.raw()?, name_of(path)?, ptr::null_mut());
         // SAFETY: the name ends with a zero, and lasts for the call, as do the options and the place for the pointer.
-        told(unsafe { cvec_vector_create_with(&mut raw, name.as_ptr(), R::KEPT.number, &options) })?;
+        told(unsafe { cvec_vector_create(&mut raw, name.as_ptr(), R::KEPT.number, &options) })?;
         Vector::over(raw)
     }
 
@@ -419,7 +421,7 @@ impl<R: Record> Vector<R> {
     pub fn open_with(path: &Path, options: &Options) -> Result<Vector<R>, Error> {
         let (options, name, mut raw) = (options.raw()?, name_of(path)?, ptr::null_mut());
         // SAFETY: as above.
-        told(unsafe { cvec_vector_open_with(&mut raw, name.as_ptr(), R::KEPT.number, &options) })?;
+        told(unsafe { cvec_vector_open(&mut raw, name.as_ptr(), R::KEPT.number, &options) })?;
         let vector = Vector::over(raw)?;
         let is_whole = R::KEPT.count == 1 || vector.seat()?.all_kept()? % R::KEPT.count == 0;
         if is_whole { Ok(vector) } else { Err(Error::Width) }
@@ -439,7 +441,7 @@ impl<R: Record> Vector<R> {
     pub fn seat(&self) -> Result<Seat<'_, R>, Error> {
         let mut raw = ptr::null_mut();
         // SAFETY: the vector is open as long as `self` is there, and the place for the pointer lasts for the call.
-        told(unsafe { cvec_vector_take_seat(self.raw.as_ptr(), &mut raw) })?;
+        told(unsafe { cvec_seat_take(self.raw.as_ptr(), &mut raw) })?;
         self.seat_of(raw)
     }
 
@@ -448,7 +450,7 @@ impl<R: Record> Vector<R> {
     pub fn seat_within(&self, longest: Duration) -> Result<Seat<'_, R>, Error> {
         let mut raw = ptr::null_mut();
         // SAFETY: as above.
-        told(unsafe { cvec_vector_seat_within(self.raw.as_ptr(), milliseconds_of(longest), &mut raw) })?;
+        told(unsafe { cvec_seat_take_within(self.raw.as_ptr(), milliseconds_of(longest), &mut raw) })?;
         self.seat_of(raw)
     }
 
@@ -457,7 +459,7 @@ impl<R: Record> Vector<R> {
     pub fn change(&mut self, start: u64, records: &[R]) -> Result<(), Error> {
         // SAFETY: the vector is open, and C refuses the call where a seat was forgotten; the pointer and the length are those of one
         // slice, whose records are kept as those of the vector's type.
-        told(unsafe { cvec_vector_change_records(self.raw.as_ptr(), first_kept::<R>(start), records.as_ptr().cast(), all_kept(records)) })
+        told(unsafe { cvec_vector_change(self.raw.as_ptr(), R::KEPT.number, first_kept::<R>(start), records.as_ptr().cast(), all_kept(records)) })
     }
 
     /// Takes the records behind the first `size` away, or appends copies of this one. `Unfolded`, where it takes some away;
@@ -470,7 +472,7 @@ impl<R: Record> Vector<R> {
             }
         }
         // SAFETY: as above; the record lasts for the call, and of one that is kept as several none is appended.
-        told(unsafe { cvec_vector_resize_by(self.raw.as_ptr(), first_kept::<R>(size), pointer_to(&record)) })
+        told(unsafe { cvec_vector_resize(self.raw.as_ptr(), R::KEPT.number, first_kept::<R>(size), pointer_to(&record)) })
     }
 
     /// Copies of a record that C has no one for, up to this size: as one growth, for which there is room behind a `compact`.
@@ -531,7 +533,7 @@ impl<R: Record> Vector<R> {
     /// Closes it, and answers what C does. To be called once.
     fn end(&mut self) -> u32 {
         // SAFETY: no seat is there, since each borrows the vector; C refuses it while one is forgotten.
-        unsafe { cvec_vector_close(self.raw.as_ptr()) }
+        unsafe { cvec_vector_close(&mut self.raw.as_ptr()) }
     }
 }
 
@@ -572,21 +574,21 @@ impl<'v, R: Record> Seat<'v, R> {
         let mut receipt = RawReceipt::default();
         // SAFETY: the seat is open as long as `self` is there, and in one call; the pointer and the length are those of one slice,
         // whose records are kept as those of the vector's type.
-        told(unsafe { cvec_vector_grow_records(self.raw.as_ptr(), records.as_ptr().cast(), all_kept(records), &mut receipt) })?;
+        told(unsafe { cvec_seat_grow(self.raw.as_ptr(), R::KEPT.number, records.as_ptr().cast(), all_kept(records), &mut receipt) })?;
         Ok(receipt.of::<R>())
     }
 
     /// Waits until this growth, and each before it, is durable. Who finds that nobody commits commits for all that wait.
     pub fn settle(&self, receipt: &Receipt) -> Result<(), Error> {
         // SAFETY: as above.
-        told(unsafe { cvec_vector_await(self.raw.as_ptr(), receipt.number) })
+        told(unsafe { cvec_seat_settle(self.raw.as_ptr(), receipt.number, NO_LIMIT) })
     }
 
     /// The same, but it waits for the commits of others no longer than this: `Late`. With no time at all it commits where nobody
     /// does, and else only looks.
     pub fn settle_for(&self, receipt: &Receipt, longest: Duration) -> Result<(), Error> {
         // SAFETY: as above.
-        told(unsafe { cvec_vector_await_for(self.raw.as_ptr(), receipt.number, milliseconds_of(longest)) })
+        told(unsafe { cvec_seat_settle(self.raw.as_ptr(), receipt.number, milliseconds_of(longest)) })
     }
 
     /// How many growths are durable: those with a lower number are. It doesn't wait.
@@ -606,7 +608,7 @@ impl<'v, R: Record> Seat<'v, R> {
     fn all_kept(&self) -> Result<u64, Error> {
         let mut size = 0;
         // SAFETY: as above.
-        told(unsafe { cvec_vector_size(self.raw.as_ptr(), &mut size) })?;
+        told(unsafe { cvec_seat_size(self.raw.as_ptr(), &mut size) })?;
         Ok(size)
     }
 
@@ -652,7 +654,7 @@ impl<'v, R: Record> Seat<'v, R> {
     unsafe fn copy(&self, from: u64, out: *mut R, room: usize) -> Result<usize, Error> {
         let (room, mut count) = (room.saturating_mul(R::KEPT.count as usize), 0);
         // SAFETY: as above and below; a flag is written as 0 or 1.
-        told(unsafe { cvec_vector_read_records(self.raw.as_ptr(), first_kept::<R>(from), out.cast(), room, &mut count) })?;
+        told(unsafe { cvec_seat_read(self.raw.as_ptr(), R::KEPT.number, first_kept::<R>(from), out.cast(), room, &mut count) })?;
         Ok((count / R::KEPT.count) as usize)
     }
 
@@ -664,7 +666,7 @@ impl<'v, R: Record> Seat<'v, R> {
             return unsafe { Ok((self.copy(position, record.as_mut_ptr(), 1)? == 1).then(|| record.assume_init())) };
         }
         // SAFETY: as above; C has one record for it, and writes it unless it refuses the call.
-        match told(unsafe { cvec_vector_at(self.raw.as_ptr(), position, record.as_mut_ptr().cast()) }) {
+        match told(unsafe { cvec_seat_at(self.raw.as_ptr(), R::KEPT.number, position, record.as_mut_ptr().cast()) }) {
             Err(Error::OutOfRange) => Ok(None),
             // SAFETY: it was written.
             answer => answer.map(|()| Some(unsafe { record.assume_init() })),
@@ -682,7 +684,7 @@ impl<'v, R: Record> Seat<'v, R> {
             return Ok(count);
         }
         // SAFETY: as above; the record and the place for the count last for the call.
-        told(unsafe { cvec_vector_count_record(self.raw.as_ptr(), pointer_to(&record), &mut count) })?;
+        told(unsafe { cvec_seat_count(self.raw.as_ptr(), R::KEPT.number, pointer_to(&record), &mut count) })?;
         Ok(count)
     }
 
@@ -696,7 +698,7 @@ impl<'v, R: Record> Seat<'v, R> {
             })?;
         } else {
             // SAFETY: as above. Where there is none it answers how many there are, which then aren't fewer.
-            told(unsafe { cvec_vector_find_record(self.raw.as_ptr(), pointer_to(&record), from, &mut found) })?;
+            told(unsafe { cvec_seat_find(self.raw.as_ptr(), R::KEPT.number, pointer_to(&record), from, &mut found) })?;
         }
         Ok((found < len).then_some(found))
     }
@@ -733,7 +735,7 @@ impl<'v, R: Record> Seat<'v, R> {
 impl<R: Record> Drop for Seat<'_, R> {
     fn drop(&mut self) {
         // SAFETY: it is in no call, and closed once; C refuses it in a forked process.
-        unsafe { cvec_vector_close_seat(self.raw.as_ptr()) };
+        unsafe { cvec_seat_close(&mut self.raw.as_ptr()) };
     }
 }
 
