@@ -65,12 +65,12 @@ borrow_all|borrowed.pml|-DSEATS=1 -DLIMIT=1 -DBORROWERS=2 -DWHOLES=1 -DTIMED=0 -
 borrow_push|borrowed.pml|-DSEATS=1 -DBORROWERS=2 -DPUSHES -DREFUSALS=1 -DTIMED=0
 end|borrowed.pml|-DSEATS=1 -DBORROWERS=2 -DENDS -DTIMED=0 -DSPURIOUS=0 -DFAILURES=1
 end_own|borrowed.pml|-DSEATS=1 -DBORROWERS=1 -DOWNERS=1 -DENDS -DTIMED=0 -DREFUSALS=1
-end_settle|borrowed.pml|-DSEATS=1 -DBORROWERS=1 -DSETTLERS=1 -DWHOLES=1 -DENDS -DTIMED=0 -DSETTLES
-settle|borrowed.pml|-DSEATS=1 -DBORROWERS=1 -DSETTLERS=1 -DTURNS=2 -DSETTLES -DREFUSALS=1 -DFAILURES=1
+end_settle|borrowed.pml|-DSEATS=1 -DBORROWERS=1 -DSETTLERS=1 -DWHOLES=1 -DENDS -DTIMED=0 -DSPURIOUS=0 -DSETTLES
+settle|borrowed.pml|-DSEATS=1 -DBORROWERS=1 -DSETTLERS=1 -DTURNS=2 -DSETTLES -DFAILURES=1
 settle_own|borrowed.pml|-DSEATS=1 -DOWNERS=1 -DSETTLERS=1 -DTURNS=2 -DLIMIT=1 -DSETTLES -DREFUSALS=1
 settle_whole|borrowed.pml|-DSEATS=1 -DLIMIT=1 -DBORROWERS=1 -DWHOLES=1 -DSETTLERS=1 -DSETTLES -DREFUSALS=1 -DFAILURES=1
 own_flusher|borrowed.pml|-DSEATS=1 -DBORROWERS=1 -DSTARTS=1 -DREFUSALS=1 -DFAILURES=1 -DTURNS=2
-borrow_loop|borrowed.pml|-DSEATS=1 -DBORROWERS=3 -DLOOPS=1 -DFIFO -DTIMED=0 -DSPURIOUS=0
+borrow_loop|borrowed.pml|-DSEATS=1 -DBORROWERS=3 -DLOOPS=1 -DFIFO -DLOOKS=255 -DTIMED=0 -DSPURIOUS=0
 whole_loop|seats.pml|-DSEATS=1 -DWORKERS=1 -DWHOLES=1 -DLOOPS=1 -DFIFO -DCOMPACTS -DNO_LINE -DTIMED=0 -DSPURIOUS=0
 whole_loop_line|seats.pml|-DSEATS=1 -DWORKERS=2 -DWHOLES=1 -DGROWTHS=0 -DLOOPS=1 -DFIFO -DCOMPACTS -DTIMED=0 -DSPURIOUS=0
 fork|fork.pml|
@@ -242,7 +242,6 @@ bugs() {
 84|borrow_own|all|deadlock
 85|borrow|all|who waits to borrow was called
 86|end|all|the file is locked
-87|borrow_two|all|who is first in line was called where one is idle
 88|borrow|all|deadlock
 89|borrow|all|who wants it back was called
 90|borrow_often|all|who waits to borrow was called
@@ -257,12 +256,13 @@ bugs() {
 99|settle|all|a settle is for each growth
 100|settle|all|a growth that had returned is known
 101|settle|all|nobody is inside a vector that is closed
-102|end|all|nobody is inside a vector that is closed
+102|end|all|the vector is there
 103|borrow|all|who wants it back was called
 104|borrow_own|all|a borrowed seat that is idle holds up no take
 105|borrow_refused|all|who is first in line was called where one is idle
-106|borrow_loop|fair|cycle
+106|borrow_often|all|who wants a seat back has it before
 107|end|all|nobody is inside a vector that is given up
+108|borrow_loop|fair|cycle
 TABLE
 }
 

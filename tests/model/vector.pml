@@ -21,7 +21,7 @@
 #endif
 byte spurious = SPURIOUS, refusals = REFUSALS, failures = FAILURES;
 
-/* How often who is first in line looks for a seat by itself, at most. Without, each that stands there has to be called. */
+/* How often who is first in line looks for a seat by itself, at most; 255: as often as it likes. With 0 it has to be called. */
 #ifndef LOOKS
 #define LOOKS 0
 #endif
@@ -866,7 +866,8 @@ inline idle_slot() {
 
 inline lendable_slot() {
     LENDABLE_ONE(0);
-    LENDABLE_ONE(1)
+    LENDABLE_ONE(1);
+    assert(answer != DONE || wanted_back[seat] == 0) /* who wants a seat back has it before who comes */
 }
 
 inline put_in_slot() { slot[seat] = LENT }
@@ -942,7 +943,11 @@ inline await_call() {
     was = looks > 0 && line?[eval(id)] && slot_seats > 0;
     when(line?[eval(id)] && BUG != 105, called = false);
     wait(turn, timed || was);
-    when(was && late, late = false; looks--; overdue = overdue | MINE);
+#if BUG == 108
+    when(was && late, late = false; overdue = overdue | MINE);
+#else
+    when(was, late = false; looks = looks - (LOOKS < 255); overdue = overdue | MINE);
+#endif
     was = false
 }
 
@@ -1031,7 +1036,7 @@ inline borrow_in_turn() {
     fi;
     atomic {
         assert(answer != LATE || timed); /* who waits to borrow is late for a reason */
-        when(BUG != 87, cvec_call_first());
+        cvec_call_first();
         end_call()
     }
 }
