@@ -58,7 +58,7 @@ borrow_late|borrowed.pml|-DSEATS=1 -DBORROWERS=2
 borrow_three|borrowed.pml|-DSEATS=1 -DBORROWERS=3 -DNO_WORK -DREFUSALS=1 -DTIMED=0
 borrow_often|borrowed.pml|-DSEATS=1 -DBORROWERS=3 -DTIMED=0 -DSPURIOUS=0
 borrow_two|borrowed.pml|-DSEATS=2 -DBORROWERS=3 -DNO_WORK -DTIMED=0 -DLOOKS=1
-borrow_refused|borrowed.pml|-DSEATS=2 -DBORROWERS=3 -DNO_WORK -DTIMED=0 -DSPURIOUS=0 -DREFUSALS=1
+borrow_refused|borrowed.pml|-DSEATS=2 -DBORROWERS=2 -DNO_WORK -DTIMED=0 -DREFUSALS=2
 borrow_own|borrowed.pml|-DSEATS=1 -DBORROWERS=1 -DOWNERS=1 -DTURNS=2 -DLIMIT=2
 borrow_whole|borrowed.pml|-DSEATS=1 -DLIMIT=1 -DBORROWERS=1 -DWHOLES=1 -DREFUSALS=1 -DFAILURES=1
 borrow_all|borrowed.pml|-DSEATS=1 -DLIMIT=1 -DBORROWERS=2 -DWHOLES=1 -DTIMED=0 -DSPURIOUS=0
@@ -110,6 +110,7 @@ borrow_two|all
 borrow_own|all
 borrow_whole|all
 borrow_all|all
+borrow_refused|all
 borrow_loop|fair
 borrow_push|all
 end|all
@@ -148,7 +149,7 @@ hold_by_two|all
 hold_by_two_whole|all
 push_often|all
 settle_whole|all
-borrow_refused|all
+borrow_often|all
 whole_loop_line|fair
 TABLE
 }
