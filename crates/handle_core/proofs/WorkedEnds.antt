@@ -1,5 +1,5 @@
 -- Worked examples: what calls make of a grower, of who commits, of a vault and of a file, and what isn't so.
-use Rattle.std.proofs.Common.{◌≡◌, ℕ, suc, ◌<◌, List, [], ◌∷◌, ◌++◌, length, length-append, refl, ap, sym, ◌∙◌, arith}
+use Rattle.std.proofs.Common.{◌≡◌, ℕ, suc, ◌<◌, List, [], ◌∷◌, ◌++◌, inl, inr, length, length-append, refl, ap, sym, ◌∙◌, arith}
 use Rattle.std.specs.List.{count_by}
 use Rattle.std.specs.Arc.{arc_value}
 use Rattle.std.specs.Global.{Vec}
