@@ -1,11 +1,9 @@
 -- Worked examples: what is told of listed calls, and which handles have a file, a phase and a seat, and which don't.
-use Rattle.std.proofs.Common.{◌≡◌, ℕ, List, [], ◌∷◌, length, None, Some, inl, inr, refl, sym, ◌∙◌, ap}
+use Rattle.std.proofs.Common.{◌≡◌, ℕ, [], ◌∷◌, length, None, Some, inl, inr, refl, sym, ◌∙◌, ap, arith}
 use Rattle.std.specs.Global.{Vec}
 use denote.RawPtr.{Ptr}
-use Rattle.std.specs.declared.cmp.PartialEq as PartialEq
 use Rattle.std.specs.contracts.prelude.U32PartialEq.TheImpl as u32_eq
 use Rattle.std.specs.contracts.prelude.U64PartialEq.TheImpl as u64_eq
-use Rattle.record_core.specs.declared.record.Record as Record
 use Rattle.record_core.specs.contracts.number.U32Record.TheImpl as u32_record
 use Rattle.record_core.specs.contracts.number.U64Record.TheImpl as u64_record
 use Rattle.segment_core.specs.declared.format.Format.TheVariants.{One, Two}
