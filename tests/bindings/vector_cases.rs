@@ -331,16 +331,13 @@ fn each_refusal(path: &Path) -> Result<(), Error> {
     drop(seat);
     vector.close()?;
     refused(Vector::create(path, 2), "something is there already");
-    // A seat that is forgotten keeps the vector open, and as it is.
+    // A seat that is forgotten keeps the vector open.
     let mut vector = Vector::open(path, 2)?;
     let seat = vector.seat()?;
     std::mem::forget(vector.seat()?);
     drop(seat);
-    refused(vector.clear(), BUSY);
-    refused(vector.fold(), BUSY);
-    refused(vector.change(0, &[9]), BUSY);
-    refused(vector.resize(0, 0), BUSY);
-    refused(vector.compact(), BUSY);
+    vector.fold()?;
+    vector.compact()?;
     let seat = vector.seat()?;
     assert_eq!((seat.count(3)?, seat.find(3, 0)?, seat.len()?), (4, Some(131_071), 131_075));
     drop(seat);

@@ -20,7 +20,7 @@ extern "C" {
 #endif
 
 /* What a status from 64 on says of a call here, beside its sentence:
- *   CVEC_NOT_SO    of the library: a handle of another end, or none
+ *   CVEC_NOT_SO    a handle that is NULL, or of a vector that was ended; of the library: one of another end, or none
  *   CVEC_AGAIN     of the library alone
  *   CVEC_FULL      of a vector that has lent records; of the library: of any phase
  *   CVEC_BUSY      of a seat: another thread is inside a call by it; of the vector: it is held; of its close: or a seat isn't closed

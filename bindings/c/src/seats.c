@@ -196,6 +196,7 @@ static void begin_line(cvec_vector *vector, struct in_line *mine) {
     *last = mine;
     mine->next = NULL;
     mine->is_overdue = false;
+    mine->patience = cvec_moment_behind(0, PATIENCE);
     cvec_begin_condition(&mine->turn);
     count_queued(vector, vector->queued + 1);
     vector->asking++;
@@ -266,16 +267,28 @@ static bool is_before(const struct timespec *one, const struct timespec *other) 
     return one->tv_sec < other->tv_sec || (one->tv_sec == other->tv_sec && one->tv_nsec < other->tv_nsec);
 }
 
-/* With the mutex: sleeps in line until it is called, and no longer than to this moment. The first one looks for what is given back
- * besides; where it has waited long, nobody passes it. */
-static void await_call(cvec_vector *vector, struct in_line *mine, const struct timespec *until) {
-    const struct timespec look = cvec_moment_behind(0, PATIENCE);
-    const bool looks = vector->line == mine && vector->slot_seats > 0 && is_before(&look, until);
-    if (vector->line == mine) __atomic_store_n(&vector->called, 0, __ATOMIC_RELAXED); /* as it looked it may have called itself */
-    const bool is_called = pthread_cond_timedwait(&mine->turn, &vector->mutex, looks ? &look : until) == 0;
-    if (is_called || !looks || mine->is_overdue) return;
+/* With the mutex, of the first in line: once it has waited long, nobody passes it. */
+static void lose_patience(cvec_vector *vector, struct in_line *mine) {
+    if (mine->is_overdue || !cvec_has_passed(&mine->patience)) return;
     mine->is_overdue = true;
     __atomic_fetch_add(&vector->overdue, 1, __ATOMIC_RELAXED);
+}
+
+/* When the first in line looks besides. */
+static struct timespec next_look(const struct in_line *mine) {
+    return mine->is_overdue ? cvec_moment_behind(0, PATIENCE) : mine->patience;
+}
+
+/* With the mutex: sleeps in line until it is called, and no longer than to this moment. The first one looks for what is given back
+ * besides. */
+static void await_call(cvec_vector *vector, struct in_line *mine, const struct timespec *until) {
+    struct timespec look = *until;
+    if (vector->line == mine && vector->slot_seats > 0) {
+        __atomic_store_n(&vector->called, 0, __ATOMIC_RELAXED); /* as it looked it may have called itself */
+        lose_patience(vector, mine);
+        look = next_look(mine);
+    }
+    pthread_cond_timedwait(&mine->turn, &vector->mutex, is_before(&look, until) ? &look : until);
 }
 
 /* With the mutex: waits in line for a seat, and while another call has all handles, and no longer than to this moment. */

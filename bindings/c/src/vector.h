@@ -223,7 +223,8 @@ uint32_t cvec_renew(cvec_vector *vector);
 struct in_line {
     pthread_cond_t turn; /* it may be its turn */
     struct in_line *next;
-    bool is_overdue; /* it has waited long */
+    struct timespec patience; /* behind this moment it has waited long */
+    bool is_overdue;          /* it has, and looked */
 };
 
 /* A seat that any thread may borrow: a state that one exchange takes and one store gives back. An empty slot has no seat. Only with the

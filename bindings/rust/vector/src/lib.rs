@@ -104,7 +104,7 @@ pub enum Error {
     NoSeat,
     /// Records were lent, so none can be moved to make room for more growths. `Vector::compact` does.
     Full,
-    /// A seat was forgotten (`std::mem::forget`): the vector stays as it is, and open.
+    /// Of `close`: a seat was forgotten (`std::mem::forget`), and the vector stays open.
     Busy,
     /// Of `settle_for` and `seat_within`: the time has passed. The growth may yet become durable.
     Late,
