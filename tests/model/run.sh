@@ -58,7 +58,6 @@ borrow_late|borrowed.pml|-DSEATS=1 -DBORROWERS=2
 borrow_three|borrowed.pml|-DSEATS=1 -DBORROWERS=3 -DNO_WORK -DREFUSALS=1 -DTIMED=0
 borrow_often|borrowed.pml|-DSEATS=1 -DBORROWERS=3 -DTIMED=0 -DSPURIOUS=0
 borrow_two|borrowed.pml|-DSEATS=2 -DBORROWERS=3 -DNO_WORK -DTIMED=0 -DLOOKS=1
-borrow_refused|borrowed.pml|-DSEATS=2 -DBORROWERS=2 -DNO_WORK -DTIMED=0 -DREFUSALS=2
 borrow_own|borrowed.pml|-DSEATS=1 -DBORROWERS=1 -DOWNERS=1 -DTURNS=2 -DLIMIT=2
 borrow_whole|borrowed.pml|-DSEATS=1 -DLIMIT=1 -DBORROWERS=1 -DWHOLES=1 -DREFUSALS=1 -DFAILURES=1
 borrow_all|borrowed.pml|-DSEATS=1 -DLIMIT=1 -DBORROWERS=2 -DWHOLES=1 -DTIMED=0 -DSPURIOUS=0
@@ -110,7 +109,6 @@ borrow_two|all
 borrow_own|all
 borrow_whole|all
 borrow_all|all
-borrow_refused|all
 borrow_loop|fair
 borrow_push|all
 end|all
@@ -260,7 +258,6 @@ bugs() {
 102|end|all|the vector is there
 103|borrow|all|who wants it back was called
 104|borrow_own|all|a borrowed seat that is idle holds up no take
-105|borrow_refused|all|who is first in line was called where one is idle
 106|borrow_often|all|who wants a seat back has it before
 107|end|all|nobody is inside a vector that is given up
 108|borrow_loop|fair|cycle

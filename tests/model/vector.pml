@@ -938,16 +938,21 @@ inline find_borrowed() {
     atomic { when(answer == LATE && BUG != 85, lendable_slot()) }
 }
 
-/* The first one looks besides each millisecond, and is overdue from then on. */
+/* A millisecond may have passed since it came; where the first one looks as often as it likes, it has. */
+inline lose_patience() {
+    if
+    :: LOOKS > 0 && BUG != 108 -> overdue = overdue | MINE
+    :: LOOKS < 255 || BUG == 108
+    fi
+}
+
+/* The first one looks besides each millisecond. */
 inline await_call() {
-    was = looks > 0 && line?[eval(id)] && slot_seats > 0;
-    when(line?[eval(id)] && BUG != 105, called = false);
+    was = (line?[eval(id)] && slot_seats > 0);
+    when(was, called = false; lose_patience());
+    was = (was && looks > 0);
     wait(turn, timed || was);
-#if BUG == 108
-    when(was && late, late = false; overdue = overdue | MINE);
-#else
-    when(was, late = false; looks = looks - (LOOKS < 255); overdue = overdue | MINE);
-#endif
+    when(was && late, late = false; looks = looks - (LOOKS < 255); when(BUG == 108, overdue = overdue | MINE));
     was = false
 }
 
