@@ -32,7 +32,7 @@ renew|seats.pml|-DSEATS=2 -DLIMIT=1 -DWORKERS=2 -DREFUSALS=1 -DFAILURES=1 -DAHEA
 renew_often|seats.pml|-DSEATS=2 -DLIMIT=1 -DWORKERS=2 -DGROWTHS=2 -DNO_LINE
 renew_refused|seats.pml|-DSEATS=2 -DLIMIT=1 -DWORKERS=2 -DGROWTHS=2 -DREFUSALS=1 -DNO_LINE
 renew_in_line|seats.pml|-DSEATS=1 -DLIMIT=1 -DWORKERS=3 -DGROWTHS=2
-line|seats.pml|-DSEATS=2 -DWORKERS=4 -DGROWTHS=0
+line|seats.pml|-DSEATS=2 -DWORKERS=4 -DGROWTHS=0 -DSPURIOUS=0
 whole_flush|seats.pml|-DSEATS=1 -DLIMIT=2 -DWORKERS=1 -DWHOLES=1 -DFLUSHERS=1 -DREFUSALS=1 -DFAILURES=1
 whole_flush_sound|seats.pml|-DSEATS=1 -DLIMIT=2 -DWORKERS=1 -DWHOLES=1 -DFLUSHERS=1 -DNO_LINE
 whole_two|seats.pml|-DSEATS=1 -DLIMIT=2 -DWORKERS=1 -DWHOLES=2 -DREFUSALS=1 -DFAILURES=1
@@ -89,7 +89,6 @@ flush_once|all
 flush_by_one|fair
 renew|all
 renew_refused|all
-renew_in_line|all
 line|all
 whole_flush|all
 whole_flush_sound|fair
@@ -130,6 +129,7 @@ flush_by_two|fair
 flush_for_two|all
 whole_two|finite
 fork|finite
+renew_in_line|all
 renew_in_line|finite
 line|finite
 renew_all|all
