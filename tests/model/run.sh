@@ -88,11 +88,7 @@ flush_twice|all
 flush_once|all
 flush_by_one|fair
 renew|all
-renew_refused|all
 line|all
-whole_flush|all
-whole_flush_sound|fair
-whole_two|all
 whole_loop|fair
 lend|all
 lend_compact|all
@@ -146,6 +142,10 @@ hold_lend|all
 hold_by_two|all
 hold_by_two_whole|all
 push_often|all
+renew_refused|all
+whole_flush|all
+whole_flush_sound|fair
+whole_two|all
 settle_whole|all
 borrow_often|all
 whole_loop_line|fair
