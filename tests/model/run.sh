@@ -82,7 +82,6 @@ checks() {
     cat <<'TABLE'
 wait_three|all
 wait_twice|all
-wait_twice|finite
 shared_seat|all
 flush_twice|all
 flush_once|all
@@ -98,7 +97,6 @@ push|all
 push_refused|all
 push_whole|all
 borrow|all
-borrow_late|all
 borrow_three|all
 borrow_two|all
 borrow_own|all
@@ -107,7 +105,6 @@ borrow_all|all
 borrow_loop|fair
 borrow_push|all
 end|all
-end_own|all
 end_settle|all
 settle|all
 settle_own|all
@@ -142,6 +139,9 @@ hold_lend|all
 hold_by_two|all
 hold_by_two_whole|all
 push_often|all
+wait_twice|finite
+borrow_late|all
+end_own|all
 renew_refused|all
 whole_flush|all
 whole_flush_sound|fair
