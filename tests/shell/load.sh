@@ -473,6 +473,20 @@ appended_is_told_in_lines() (
     [ "$(wc -l <"$work/first_err")" -eq 2 ]
 )
 
+# The lines of a last block that has fewer are just those: who goes on after the lines that are told loses none.
+lines_after_a_short_block_are_gone_on_with() (
+    run create u64 "$work/t.cv"
+    seq 5 7 >"$in"
+    run append u64 "$work/t.cv" --block=2 --progress
+    echo 'cvec: 2 growths of the first 3 lines are durable, size 3' | cmp - "$err"
+    told=$(sed -n 's/.* of the first \([0-9]*\) lines are durable.*/\1/p' "$err")
+    seq 5 12 | tail -n "+$((told + 1))" >"$in"
+    run append u64 "$work/t.cv" --block=2
+    did 'appended 3 growths, size 8\n'
+    run list u64 "$work/t.cv"
+    seq 5 12 | cmp - "$out"
+)
+
 # Ten batches in less than a second are told by one line or two, and with --quiet by none.
 appended_is_told_once_a_second() (
     is_fed_by_a_pipe --progress --every=1
