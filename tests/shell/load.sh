@@ -473,14 +473,17 @@ appended_is_told_in_lines() (
     [ "$(wc -l <"$work/first_err")" -eq 2 ]
 )
 
-# The lines of a last block that has fewer are just those: who goes on after the lines that are told loses none.
+# Where the last block has fewer lines, just those count: who goes on after the lines that are reported loses none.
 lines_after_a_short_block_are_gone_on_with() (
-    run create u64 "$work/t.cv"
-    seq 5 7 >"$in"
-    run append u64 "$work/t.cv" --block=2 --progress
-    echo 'cvec: 2 growths of the first 3 lines are durable, size 3' | cmp - "$err"
-    told=$(sed -n 's/.* of the first \([0-9]*\) lines are durable.*/\1/p' "$err")
-    seq 5 12 | tail -n "+$((told + 1))" >"$in"
+    is_fed_by_a_pipe --progress --block=2
+    printf '5\n6\n7\n' >&8
+    copy_comes_to_have '5\n6\n'
+    sleep 1.4
+    exec 8>&-
+    wait "$!"
+    [ "$(sed -n '$p' "$work/first_err")" = 'cvec: 2 growths of the first 3 lines are durable, size 3' ]
+    lines=$(sed -n '$s/.* of the first \([0-9]*\) lines are durable.*/\1/p' "$work/first_err")
+    seq 5 12 | tail -n "+$((lines + 1))" >"$in"
     run append u64 "$work/t.cv" --block=2
     did 'appended 3 growths, size 8\n'
     run list u64 "$work/t.cv"
