@@ -3,7 +3,7 @@ ghost use Rattle.std.specs.Prelude.{◌≡◌, ◌≤◌, [], ◌∷◌, IfOk};
 ghost use Rattle.disk_core.specs.File.{opened};
 ghost use Rattle.disk_core.specs.FileDisk.{states_of};
 
-use disk_core::{Disk, DiskFault, FileDisk};
+use disk_core::{Disk, DiskFault, FileDisk, Shared, SharedFile};
 use std::fs::{Metadata, OpenFile};
 use std::io;
 use std::os::unix::fs::FileExt;
@@ -130,4 +130,24 @@ fn sync_twice() -> [Result<(), DiskFault>; 2] {
 #[test]
 fn a_sync_that_failed_is_not_asked_for_again(rt: HostRuntime) {
     assert_eq!(rt; sync_twice(), [Err(DiskFault::Sync); 2]);
+}
+
+/// An open file that another process may write meanwhile.
+fn shared<F: FileExt + OpenFile + Drop>(file: F) -> SharedFile<F> {
+    SharedFile::over(file)
+}
+
+/// What two syncs of a file that is only read answer. The system may have dropped what the first one could not write.
+fn sync_what_is_read_twice() -> [Result<(), DiskFault>; 2] {
+    let mut file = shared(Halting {
+        calls: AtomicU64::new(0),
+        end: 0,
+    });
+    let first = file.sync();
+    [first, file.sync()]
+}
+
+#[test]
+fn a_sync_of_what_is_read_that_failed_is_not_asked_for_again(rt: HostRuntime) {
+    assert_eq!(rt; sync_what_is_read_twice(), [Err(DiskFault::Sync); 2]);
 }
