@@ -457,14 +457,21 @@ lenient_lines_that_came_are_committed() (
 
 # ---- growers that come behind others
 
-# A grower that another comes before pauses, and where that happens again it sleeps, for twice as long each time.
+# A grower that another comes before pauses, and where that happens again it sleeps, for twice as long each time. In half of the
+# loads some do.
 growers_that_give_way_sleep_shortly() (
     has_calls || exit $is_skipped
     build_calls
-    run create u64 "$work/t.cv"
     seq 1 200000 >"$in"
-    run_with "CALLS_NAPS=$work/naps" load u64 "$work/t.cv" --seats=8
-    did 'loaded 200000 growths, size 200000\n'
+    : >"$work/naps"
+    for _ in $(seq 40); do
+        rm -f "$work/t.cv"
+        run create u64 "$work/t.cv"
+        run_with "CALLS_NAPS=$work/naps" load u64 "$work/t.cv" --seats=64
+        did 'loaded 200000 growths, size 200000\n'
+        [ ! -s "$work/naps" ] || break
+    done
+    [ -s "$work/naps" ] || lacks 'no grower came behind another one twice' || exit $is_skipped
     sort -nu "$work/naps" | tr '\n' ' ' >"$work/lengths"
     cat "$work/lengths"
     case $(cat "$work/lengths") in
