@@ -250,7 +250,7 @@ compile_c() {
 make_c_library() {
     build_older cvec_c
     kit_library=$(dirname "$(rt doc)")/c/liblibc_c.a
-    compile_c cvec_file "$work"
+    compile_c file "$work"
 }
 
 # What stands in this file, as the program takes it.
@@ -258,7 +258,7 @@ hex_of() { od -An -v -tx1 "$1" | tr -d ' \n'; }
 
 make_python_library() {
     make_c_library
-    cc -shared -o "$work/libcvec.so" "$work/cvec_file.o" -Wl,--whole-archive "$c_library" -Wl,--no-whole-archive "$kit_library"
+    cc -shared -o "$work/libcvec.so" "$work/file.o" -Wl,--whole-archive "$c_library" -Wl,--no-whole-archive "$kit_library"
 }
 
 # The program shows the same lines of the file as were written to $out.

@@ -16,12 +16,12 @@ bytes64 is a `bytes` of that length, and in an array a V, as numpy has it. A num
 records. The bits of a NaN are kept, but a number of Python has 64: as one, a NaN of f32 that signals may become quiet. Threads may
 share a file: its calls take turns. A file says how wide its records are and not of which type: one of u64 is opened as i64 too."""
 import builtins
+import contextlib
 import ctypes
 import mmap
 import os
 import threading
-from ctypes import (POINTER, byref, c_double, c_float, c_int, c_int32, c_int64, c_size_t, c_uint8, c_uint16, c_uint32, c_uint64,
-                    c_void_p)
+from ctypes import POINTER, byref, c_double, c_float, c_int32, c_int64, c_size_t, c_uint8, c_uint16, c_uint32, c_uint64, c_void_p
 from stat import S_ISREG
 
 from cvec_records import IN_C, IN_FILE, numbers_of, numpy
@@ -64,11 +64,6 @@ class Home(ctypes.Structure):
     _fields_ = [("position", c_uint64), ("place", c_uint64), ("count", c_uint64)]
 
 
-class _File(ctypes.Structure):
-    _fields_ = [("fd", c_int), ("type", c_int), ("broken", ctypes.c_bool), ("read_only", ctypes.c_bool),
-                ("process", c_uint64), ("stat", Stat), ("bytes", c_void_p), ("room", c_size_t)]
-
-
 class _Type:
     """A record type: its number, a record as C has it, and its forms in C and in a file."""
 
@@ -102,18 +97,19 @@ _TYPES = {it.name: it for it in [
 
 def _declare(lib):
     answers = {
-        "cvec_create": [POINTER(_File), ctypes.c_char_p, c_int],
-        "cvec_open": [POINTER(_File), ctypes.c_char_p, c_int, POINTER(Fault)],
-        "cvec_open_to_read": [POINTER(_File), ctypes.c_char_p, c_int, POINTER(Fault)],
-        "cvec_append": [POINTER(_File), c_void_p, c_size_t],
-        "cvec_read": [POINTER(_File), c_uint64, c_void_p, c_size_t, POINTER(c_uint64), POINTER(Fault)],
+        "cvec_file_create": [POINTER(c_void_p), ctypes.c_char_p, c_uint32, c_uint8],
+        "cvec_file_open": [POINTER(c_void_p), ctypes.c_char_p, c_uint32, POINTER(Fault)],
+        "cvec_file_open_to_read": [POINTER(c_void_p), ctypes.c_char_p, c_uint32, POINTER(Fault)],
+        "cvec_file_append": [c_void_p, c_uint32, c_void_p, c_size_t],
+        "cvec_file_read": [c_void_p, c_uint32, c_uint64, c_void_p, c_size_t, POINTER(c_uint64), POINTER(Fault)],
+        "cvec_file_stat": [c_void_p, POINTER(Stat)],
         "cvec_image_homes": [c_uint32, c_void_p, c_size_t, POINTER(Home), c_size_t, POINTER(c_uint64), POINTER(Stat), POINTER(Fault)],
         "cvec_image_frame": [c_void_p, c_size_t, c_uint64, c_uint8, c_uint16, POINTER(Frame)],
     }
     for name, words in answers.items():
         call = getattr(lib, name)
         call.argtypes, call.restype = words, c_uint32
-    lib.cvec_close.argtypes, lib.cvec_close.restype = [POINTER(_File)], None
+    lib.cvec_file_close.argtypes, lib.cvec_file_close.restype = [POINTER(c_void_p)], None
     lib.cvec_process.argtypes, lib.cvec_process.restype = [], c_uint64
     for name in ("cvec_status_text", "cvec_cause_text"):
         call = getattr(lib, name)
@@ -160,8 +156,8 @@ class File:
     """A file that is open for reading and appending, by the process that opened it; create() and open() make one. One of
     open_to_read() is read alone, each time anew."""
 
-    def __init__(self, kind, raw):
-        self._kind, self._raw = kind, raw
+    def __init__(self, kind, is_to_read=False):
+        self._kind, self._is_to_read, self._handle = kind, is_to_read, c_void_p()
         self._process, self._lock = _LIB.cvec_process(), threading.RLock()
 
     def __reduce__(self):
@@ -191,9 +187,15 @@ class File:
     def stat(self):
         """What the file holds now."""
         with self._turn():
-            if self._raw.read_only:
+            if self._is_to_read:
                 self._read(0, 0)
-            return Stat.from_buffer_copy(self._raw.stat)
+            return self._known()
+
+    def _known(self):
+        """What it holds, or held when it was last read."""
+        stat = Stat()
+        _pass(_LIB.cvec_file_stat(self._handle, byref(stat)))
+        return stat
 
     def append(self, records):
         """Appends the records as one growth: durable when it returns, and all of them or none whatever happens. ValueError:
@@ -202,7 +204,7 @@ class File:
         count = len(data) // self._kind.in_c.width
         row = (self._kind.record * count).from_buffer_copy(data)
         with self._turn():
-            _pass(_LIB.cvec_append(byref(self._raw), ctypes.addressof(row), count))
+            _pass(_LIB.cvec_file_append(self._handle, self._kind.number, ctypes.addressof(row), count))
 
     def read(self, start=0, count=None):
         """A copy of the records from a position on, all of them or so many; of a file that another process writes as they
@@ -222,37 +224,27 @@ class File:
         return self._kind.in_c.unpack((c_uint8 * (done * self._kind.in_c.width)).from_buffer(row))
 
     def _left(self, start, count, slack=0):
-        left = max(0, self._raw.stat.size - start) + slack
+        left = max(0, self._known().size - start) + slack
         return left if count is None else min(left, count)
 
     def _read(self, start, room):
         fault, done = Fault(), c_uint64()
         row = (self._kind.record * room)()
-        _pass(_LIB.cvec_read(byref(self._raw), start, ctypes.addressof(row), room, byref(done), byref(fault)), fault)
+        _pass(_LIB.cvec_file_read(self._handle, self._kind.number, start, ctypes.addressof(row), room, byref(done), byref(fault)), fault)
         return row, done.value
 
     def close(self):
         """Closes the file. What was appended stands."""
-        if self._is_forked():
-            self._let_go()
-            return
-        with self._lock:
-            _LIB.cvec_close(byref(self._raw))
-
-    def _let_go(self):
-        """Closes the descriptor alone: a thread that isn't here may have been at the rest."""
-        descriptor, self._raw.fd = self._raw.fd, -1
-        if descriptor >= 0:
-            os.close(descriptor)
+        with contextlib.nullcontext() if self._is_forked() else self._lock:
+            _LIB.cvec_file_close(byref(self._handle))
 
     __del__ = close
 
 
-def _begin(call, path, kind, *fault):
-    kind = _TYPES[kind]
-    file = File(kind, _File(fd=-1))
+def _begin(file, call, path, word, fault=None):
+    """Opens it by this call, whose last word that is."""
     try:
-        _pass(call(byref(file._raw), _name_of(path), kind.number, *map(byref, fault)), *fault)
+        _pass(call(byref(file._handle), _name_of(path), file._kind.number, word), fault)
         return file
     except BaseException:
         # An interrupt may come as soon as C has opened it.
@@ -260,21 +252,24 @@ def _begin(call, path, kind, *fault):
         raise
 
 
-def create(path, kind):
-    """Makes a file of version 1 and this record type: u8, u16, u32, u64, i32, i64, f32, f64, pair, flagged, bytes16, bytes24,
-    bytes32 or bytes64. One that is there stays, and is refused."""
-    return _begin(_LIB.cvec_create, path, kind)
+def create(path, kind, version=1):
+    """Makes a file of this record type: u8, u16, u32, u64, i32, i64, f32, f64, pair, flagged, bytes16, bytes24, bytes32 or bytes64;
+    and of version 1, or 2. One that is there stays, and is refused."""
+    # Of a larger number C would see a part.
+    return _begin(File(_TYPES[kind]), _LIB.cvec_file_create, path, version if version in (1, 2) else 0)
 
 
 def open(path, kind):
     """Opens a file of this record type, and checks it."""
-    return _begin(_LIB.cvec_open, path, kind, Fault())
+    fault = Fault()
+    return _begin(File(_TYPES[kind]), _LIB.cvec_file_open, path, byref(fault), fault)
 
 
 def open_to_read(path, kind):
     """Opens a file for reading alone, and checks it: also while another process writes it, without a lock, and with no leave
     to write."""
-    return _begin(_LIB.cvec_open_to_read, path, kind, Fault())
+    fault = Fault()
+    return _begin(File(_TYPES[kind], is_to_read=True), _LIB.cvec_file_open_to_read, path, byref(fault), fault)
 
 
 def _open_to_map(path):

@@ -1,19 +1,18 @@
 /* Tells what a file holds, or why it has no vector: ./check TYPE FILE */
 #define _DEFAULT_SOURCE 1
-#include "cvec.h"
+#include "cvec/proved.h"
 
 #include <inttypes.h>
 #include <stdio.h>
 #include <stdlib.h>
 #include <string.h>
 
-typedef uint32_t check_call(const uint8_t *image, size_t len, cvec_stat *stat, cvec_fault *fault);
-
-static check_call *check_of(const char *type) {
-#define CHECK(NAME, name, RECORD, WIDTH) \
-    if (strcmp(type, #name) == 0) return cvec_check_##name;
-    CVEC_TYPES(CHECK)
-    return NULL;
+/* The number of the type of this name: of no type one that no call takes. */
+static uint32_t number_of(const char *name) {
+    size_t count = 0, k = 0;
+    const cvec_type_of *types = cvec_types(&count);
+    while (k < count && strcmp(types[k].name, name) != 0) k++;
+    return (uint32_t)k;
 }
 
 /* All bytes of a file, and how many; NULL where it can't be read. */
@@ -34,11 +33,11 @@ static uint8_t *bytes_of(const char *path, size_t *len) {
     return bytes;
 }
 
-static void tell_fault(uint32_t status, const cvec_fault *fault) {
+static void tell_fault(cvec_status status, const cvec_fault *fault) {
     printf("refused: %s", cvec_status_text(status));
     if (status == CVEC_VERSION || status == CVEC_WIDTH) printf(": %" PRIu32, fault->found);
     if (status == CVEC_DAMAGED) printf(" at %" PRIu64 ": %s", fault->at, cvec_cause_text(fault->cause));
-    if (status == CVEC_DAMAGED && fault->cause == CVEC_CAUSE_KIND) printf(" %" PRIu32, fault->found);
+    if (status == CVEC_DAMAGED && fault->cause == CVEC_CAUSE_KIND) printf(": %" PRIu32, fault->found);
     putchar('\n');
 }
 
@@ -46,11 +45,10 @@ int main(int argc, char **argv) {
     cvec_stat stat;
     cvec_fault fault;
     size_t len = 0;
-    check_call *check = argc == 3 ? check_of(argv[1]) : NULL;
-    if (check == NULL) return 2;
+    if (argc != 3) return 2;
     uint8_t *image = bytes_of(argv[2], &len);
     if (image == NULL) return 2;
-    uint32_t status = check(image, len, &stat, &fault);
+    cvec_status status = cvec_image_check(number_of(argv[1]), image, len, &stat, &fault);
     if (status != CVEC_DONE) {
         tell_fault(status, &fault);
         free(image);

@@ -73,14 +73,13 @@ static void list(cvec_type type, const void *records, uint64_t count) {
 static int run(cvec_type type, const void *two, const char *path) {
     union record seen[4];
     uint64_t count = 0;
-    cvec_fault fault;
-    cvec_file file;
-    uint32_t status = cvec_create(&file, path, type);
-    if (status == CVEC_DONE) status = cvec_append(&file, two, 2);
-    if (status == CVEC_DONE) status = cvec_read(&file, 0, seen, 4, &count, &fault);
+    cvec_file *file;
+    cvec_status status = cvec_file_create(&file, path, type, 1);
+    if (status == CVEC_DONE) status = cvec_file_append(file, type, two, 2);
+    if (status == CVEC_DONE) status = cvec_file_read(file, type, 0, seen, 4, &count, NULL);
     if (status == CVEC_DONE) list(type, seen, count);
     else fprintf(stderr, "%s\n", cvec_status_text(status));
-    cvec_close(&file);
+    cvec_file_close(&file);
     return status == CVEC_DONE ? 0 : 1;
 }
 

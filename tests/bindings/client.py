@@ -1,4 +1,4 @@
-"""Follows a table of cases by cvec_client.py, as client.c does by cvec_client.h: client.py FILE"""
+"""Follows a table of cases by cvec_client.py, as client.c does by cvec.h: client.py FILE"""
 import os
 import pathlib
 import signal

@@ -30,14 +30,14 @@ static int test_open(const char *path, int flags, mode_t mode) {
 #undef pipe2
 #undef open
 #include "types.c"
-#include "cvec_client.c"
+#include <client.c>
 
 enum { SEATS = 3 };
 
 /* And no program that is run has it. */
-static int is_behind_streams(const struct cvec_seat *seat) {
-    return seat->requests > STDERR_FILENO && seat->answers > STDERR_FILENO && seat->requests != seat->answers &&
-           fcntl(seat->requests, F_GETFD) == FD_CLOEXEC && fcntl(seat->answers, F_GETFD) == FD_CLOEXEC;
+static int is_behind_streams(const cvec_client *client) {
+    return client->requests > STDERR_FILENO && client->answers > STDERR_FILENO && client->requests != client->answers &&
+           fcntl(client->requests, F_GETFD) == FD_CLOEXEC && fcntl(client->answers, F_GETFD) == FD_CLOEXEC;
 }
 
 /* Without /dev/null a pipe has such a number for a moment alone. Where an end can get no other, both are closed. */
@@ -58,22 +58,24 @@ static int are_pipes_moved(void) {
 
 int main(int argc, char **argv) {
     const uint64_t record = 7;
-    struct cvec_server server;
-    uint64_t number, start, settled;
+    cvec_server *server;
+    cvec_client *clients[SEATS];
+    uint64_t settled;
+    int status = -1;
     if (argc != 3) return 2;
     for (int fd = 0; fd <= STDERR_FILENO + 1; fd++) close(fd);
     if (!are_pipes_moved()) return 10;
-    if (cvec_server_start(&server, argv[1], "u64", argv[2], SEATS)) return 3;
-    for (int k = 0; k < SEATS; k++)
-        if (!is_behind_streams(&server.seats[k])) return 4;
+    if (cvec_server_start(&server, argv[1], CVEC_U64, argv[2], SEATS)) return 3;
+    for (uint16_t k = 0; k < SEATS; k++)
+        if (cvec_server_client(server, k, &clients[k]) || !is_behind_streams(clients[k])) return 4;
     if (has_had_theirs) return 5;
     for (int stream = STDOUT_FILENO; stream <= STDERR_FILENO; stream++)
         if (write(stream, "a line\n", 7) != -1 || errno != EBADF) return 5;
     for (int k = 0; k < SEATS; k++) {
-        if (cvec_seat_grow(&server.seats[k], &record, 1, &number, &start)) return 6;
-        if (cvec_seat_await(&server.seats[k], &settled)) return 7;
+        if (cvec_client_grow_u64(clients[k], &record, 1, NULL)) return 6;
+        if (cvec_client_settle(clients[k], &settled)) return 7;
     }
     for (int k = 0; k < SEATS; k++)
-        if (cvec_seat_end(&server.seats[k])) return 8;
-    return cvec_server_wait(&server) == 0 ? 0 : 9;
+        if (cvec_client_end(&clients[k])) return 8;
+    return cvec_server_wait(&server, &status, NULL) == CVEC_DONE && status == 0 ? 0 : 9;
 }

@@ -1,7 +1,7 @@
 /* Follows a table of cases by cvec.h: driver FILE. It writes each line that begins no answer again, and behind each line
  * `> COMMAND` what the command answers, so a right answer gives the table back. The commands are told in cases.txt. */
 #define _DEFAULT_SOURCE 1
-#include "cvec.h"
+#include "file.c" /* what `suppose` sets, no caller can */
 
 #include <errno.h>
 #include <inttypes.h>
@@ -40,7 +40,14 @@ static const char *const names[] = {CVEC_TYPES(NAME_OF)};
 static const size_t in_file[] = {CVEC_TYPES(WIDTH_OF)};
 static const size_t in_c[] = {CVEC_TYPES(SIZE_OF)};
 
-static cvec_file files[HANDLES];
+/* What a letter of the table stands for. */
+struct handle {
+    cvec_file *file;
+    cvec_type type;
+    int is_to_read;
+};
+
+static struct handle handles[HANDLES];
 static union records records;
 static cvec_home homes[HOMES];
 
@@ -66,7 +73,7 @@ static char *path_word(void) {
     return word;
 }
 
-static cvec_file *handle(void) { return &files[next_word()[0] - 'a']; }
+static struct handle *handle(void) { return &handles[next_word()[0] - 'a']; }
 
 static cvec_type type_of(void) {
     char *word = next_word();
@@ -172,24 +179,26 @@ static void tell_stat(const cvec_stat *stat) {
 /* ---- files */
 
 static void append(void) {
-    cvec_file *file = handle();
+    struct handle *at = handle();
     size_t count = 0;
-    for (char *word; (word = next_word()) != NULL; count++) take_record(file->type, count, word);
+    for (char *word; (word = next_word()) != NULL; count++) take_record(at->type, count, word);
     cvec_fault none = {0, 0, 0};
-    tell(cvec_append(file, count > 0 ? &records : NULL, count), &none);
+    tell(cvec_file_append(at->file, at->type, count > 0 ? &records : NULL, count), &none);
 }
 
 static void read_copy(void) {
-    cvec_file *file = handle();
+    struct handle *at = handle();
     uint64_t from = number(), count = 0;
     char *most = next_word();
-    size_t left = file->stat.size > from ? file->stat.size - from : 0;
-    size_t room = most ? strtoul(most, NULL, 10) : file->read_only ? MOST : left;
+    cvec_stat stat = {0, 0, 0, 0, 0, 0, 0};
+    cvec_file_stat(at->file, &stat); /* of no file it is nothing */
+    size_t left = stat.size > from ? stat.size - from : 0;
+    size_t room = most ? strtoul(most, NULL, 10) : at->is_to_read ? MOST : left;
     cvec_fault fault;
     memset(&fault, guard, sizeof fault);
     memset(records.bytes, guard, sizeof records.bytes);
-    uint32_t status = cvec_read(file, from, room > 0 ? &records : NULL, room, &count, &fault);
-    for (size_t k = count * in_c[file->type]; k < sizeof records.bytes; k++)
+    uint32_t status = cvec_file_read(at->file, at->type, from, room > 0 ? &records : NULL, room, &count, &fault);
+    for (size_t k = count * in_c[at->type]; k < sizeof records.bytes; k++)
         if (records.bytes[k] != guard) {
             puts("it has written behind the records");
             return;
@@ -199,8 +208,17 @@ static void read_copy(void) {
         return;
     }
     printf("%" PRIu64 ":", count);
-    for (size_t k = 0; k < count; k++) tell_record(file->type, k);
+    for (size_t k = 0; k < count; k++) tell_record(at->type, k);
     putchar('\n');
+}
+
+/* What it holds, as it is known. */
+static void tell_known(void) {
+    const cvec_fault none = {0, 0, 0};
+    cvec_stat stat;
+    const cvec_status status = cvec_file_stat(handle()->file, &stat);
+    if (status == CVEC_DONE) tell_stat(&stat);
+    else tell(status, &none);
 }
 
 /* All bytes of a file, in memory of their length alone, so that a tool sees a read past them. */
@@ -266,21 +284,29 @@ static void tell_bytes(void) {
     free(bytes);
 }
 
-static void make_file(void) {
-    cvec_file *file = handle();
-    cvec_type type = type_of();
-    cvec_fault none = {0, 0, 0};
-    memset(file, guard, sizeof *file);
-    tell(cvec_create(file, path_word(), type), &none);
+/* Where it is refused there is none. */
+static void tell_handle(const struct handle *at, cvec_status status, const cvec_fault *fault) {
+    if ((status == CVEC_DONE) != (at->file != NULL)) puts("a handle that is none");
+    tell(status, fault);
 }
 
-static void open_file(uint32_t (*call)(cvec_file *, const char *, cvec_type, cvec_fault *)) {
-    cvec_file *file = handle();
-    cvec_type type = type_of();
+static void make_file(void) {
+    struct handle *at = handle();
+    cvec_fault none = {0, 0, 0};
+    at->type = type_of();
+    at->is_to_read = 0;
+    memset(&at->file, guard, sizeof at->file);
+    tell_handle(at, cvec_file_create(&at->file, path_word(), at->type, 1), &none);
+}
+
+static void open_file(cvec_status (*call)(cvec_file **, const char *, cvec_type, cvec_fault *)) {
+    struct handle *at = handle();
     cvec_fault fault;
-    memset(file, guard, sizeof *file);
+    at->type = type_of();
+    at->is_to_read = call == cvec_file_open_to_read;
+    memset(&at->file, guard, sizeof at->file);
     memset(&fault, guard, sizeof fault);
-    tell(call(file, path_word(), type, &fault), &fault);
+    tell_handle(at, call(&at->file, path_word(), at->type, &fault), &fault);
 }
 
 /* Opens a file so many times, and closes it. */
@@ -291,24 +317,24 @@ static void open_often(void) {
     cvec_fault fault = {0, 0, 0};
     uint32_t status = CVEC_DONE;
     for (uint64_t k = 0; k < times && status == CVEC_DONE; k++) {
-        cvec_file file;
-        status = cvec_open(&file, path, type, &fault);
-        cvec_close(&file);
+        cvec_file *file;
+        status = cvec_file_open(&file, path, type, &fault);
+        cvec_file_close(&file);
     }
     tell(status, &fault);
 }
 
 /* What is closed may be closed again. */
 static void close_file(void) {
-    cvec_file *file = handle();
-    cvec_close(file);
-    cvec_close(file);
-    puts("done");
+    struct handle *at = handle();
+    cvec_file_close(&at->file);
+    puts(at->file == NULL ? "done" : "a handle that is closed");
+    cvec_file_close(&at->file);
 }
 
 /* What a file has is set, for one that is too long to be read. */
 static void suppose(void) {
-    cvec_file *file = handle();
+    cvec_file *file = handle()->file;
     file->stat.size = number();
     file->stat.frames = number();
     file->stat.gate = number();
@@ -319,11 +345,11 @@ static void suppose(void) {
 static void follow(char *line) {
     char *word = strtok(line, " ");
     if (!strcmp(word, "create")) make_file();
-    else if (!strcmp(word, "open")) open_file(cvec_open);
-    else if (!strcmp(word, "open-to-read")) open_file(cvec_open_to_read);
+    else if (!strcmp(word, "open")) open_file(cvec_file_open);
+    else if (!strcmp(word, "open-to-read")) open_file(cvec_file_open_to_read);
     else if (!strcmp(word, "append")) append();
     else if (!strcmp(word, "read")) read_copy();
-    else if (!strcmp(word, "stat")) tell_stat(&handle()->stat);
+    else if (!strcmp(word, "stat")) tell_known();
     else if (!strcmp(word, "close")) close_file();
     else if (!strcmp(word, "frames")) tell_image(0);
     else if (!strcmp(word, "map")) tell_image(1);

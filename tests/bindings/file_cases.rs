@@ -56,12 +56,28 @@ fn grows(path: &Path) -> Result<(), Error> {
     Ok(())
 }
 
+/// A file is made of version 1 or 2, and of no other, of which nothing is made.
+fn versions(path: &Path) -> Result<(), Error> {
+    for version in [0, 3, 255] {
+        let refused = File::<u64>::create_as(path, version).map(|_| ()).expect_err("a version that there isn't");
+        assert_eq!((refused.status, path.exists()), (3, false));
+    }
+    for version in [1, 2] {
+        assert_eq!(File::<u64>::create_as(path, version)?.stat().version, version);
+        assert_eq!(File::<i64>::open(path)?.stat().version, version);
+        std::fs::remove_file(path).unwrap();
+    }
+    assert_eq!(File::<u64>::create(path)?.stat().version, 1);
+    Ok(())
+}
+
 fn main() -> Result<(), Error> {
     let words: Vec<String> = std::env::args().collect();
     let path = Path::new(&words[2]);
     match words[1].as_str() {
         "is_refused" => is_refused(path),
         "grows" => grows(path),
+        "versions" => versions(path),
         name => panic!("there is no test {name}"),
     }
 }

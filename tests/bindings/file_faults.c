@@ -1,7 +1,7 @@
-/* A test of cvec_file.c: every call of the system fails once, and what the file has then is what it had before the function
+/* A test of file.c: every call of the system fails once, and what the file has then is what it had before the function
  * that was running, or what it has after; a forked process is refused, no file ever has the number of a standard stream, no write
  * past the limit of a file's size ends the process, what is opened has the name, signals cut short no wait for a lock, what is
- * closed is locked no more, and no record has another flag than 0 or 1. Prints the calls of a run in which none fails:
+ * closed is locked no more, no record has another flag than 0 or 1, or another width, and a handle of nothing is refused. Prints the calls of a run in which none fails:
  * ./file_faults FILE */
 #define _GNU_SOURCE 1
 #include <errno.h>
@@ -11,6 +11,7 @@
 #include <signal.h>
 #include <spawn.h>
 #include <stdio.h>
+#include <stdlib.h>
 #include <string.h>
 #include <sys/file.h>
 #include <sys/resource.h>
@@ -93,6 +94,14 @@ static int faulty_nanosleep(const struct timespec *time, struct timespec *left_o
     return flock(reader, LOCK_UN);
 }
 
+static int frees; /* how often memory was given back */
+
+static void counted_free(void *memory) {
+    frees += memory != NULL;
+    free(memory);
+}
+
+#define free counted_free
 #define getpid faulty_getpid
 #define nanosleep faulty_nanosleep
 #define open faulty_open
@@ -103,7 +112,8 @@ static int faulty_nanosleep(const struct timespec *time, struct timespec *left_o
 #define stat(path, found) faulty_stat(path, found) /* but not the type */
 #include "system.c"
 #include "types.c"
-#include "cvec_file.c"
+#include "file.c"
+#undef free
 #undef getpid
 #undef nanosleep
 #undef open
@@ -119,15 +129,15 @@ static const uint64_t numbers[] = {5, 7, 11, 13};
  * the file was. */
 static int run(const char *path) {
     int done = -1;
-    cvec_file file;
-    if (cvec_create(&file, path, CVEC_U64) != CVEC_DONE) return done;
+    cvec_file *file;
+    if (cvec_file_create(&file, path, CVEC_U64, 1) != CVEC_DONE) return done;
     done = 0;
-    if (cvec_append(&file, numbers, 3) == CVEC_DONE) {
+    if (cvec_file_append_u64(file, numbers, 3) == CVEC_DONE) {
         done = 3;
-        if (cvec_append(&file, numbers + 3, 1) == CVEC_DONE) done = 4;
+        if (cvec_file_append_u64(file, numbers + 3, 1) == CVEC_DONE) done = 4;
     }
-    if (done < 4 && cvec_append(&file, numbers, 1) != CVEC_BROKEN) puts("a broken file takes records");
-    cvec_close(&file);
+    if (done < 4 && cvec_file_append_u64(file, numbers, 1) != CVEC_BROKEN) puts("a broken file takes records");
+    cvec_file_close(&file);
     return done;
 }
 
@@ -135,65 +145,67 @@ static int run(const char *path) {
 static int found(const char *path) {
     uint64_t seen[4], count = 0;
     cvec_fault fault;
-    cvec_file file;
-    uint32_t status = cvec_open(&file, path, CVEC_U64, &fault);
+    cvec_file *file;
+    uint32_t status = cvec_file_open(&file, path, CVEC_U64, &fault);
     if (status == CVEC_UNBORN) return -1;
-    if (status == CVEC_DONE) status = cvec_read(&file, 0, seen, 4, &count, &fault);
-    cvec_close(&file);
+    if (status == CVEC_DONE) status = cvec_file_read_u64(file, 0, seen, 4, &count, &fault);
+    cvec_file_close(&file);
     return status == CVEC_DONE && memcmp(seen, numbers, 8 * count) == 0 ? (int)count : -2;
 }
 
 /* A file with these first numbers. */
 static int is_made(const char *path, size_t count) {
-    cvec_file file;
-    uint32_t status = cvec_create(&file, path, CVEC_U64);
-    if (status == CVEC_DONE) status = cvec_append(&file, numbers, count);
-    cvec_close(&file);
+    cvec_file *file;
+    uint32_t status = cvec_file_create(&file, path, CVEC_U64, 1);
+    if (status == CVEC_DONE) status = cvec_file_append_u64(file, numbers, count);
+    cvec_file_close(&file);
     return status == CVEC_DONE;
 }
 
-/* In a forked process: whether it is refused. It would append where its parent does. */
+/* In a forked process: whether it is refused, and gives back no memory, at which another thread of its parent may have been. It would
+ * append where its parent does. */
 static int is_refused(cvec_file *file) {
     uint64_t seen[4], count = 0;
-    cvec_fault fault;
-    uint32_t appended = cvec_append(file, numbers + 3, 1), read = cvec_read(file, 0, seen, 4, &count, &fault);
-    cvec_close(file);
-    return appended == CVEC_FORKED && read == CVEC_FORKED;
+    cvec_stat stat;
+    uint32_t appended = cvec_file_append_u64(file, numbers + 3, 1), read = cvec_file_read_u64(file, 0, seen, 4, &count, NULL);
+    const int is_known = cvec_file_stat(file, &stat) == CVEC_DONE && stat.size == 0;
+    frees = 0;
+    cvec_file_close(&file);
+    return appended == CVEC_FORKED && read == CVEC_FORKED && is_known && file == NULL && frees == 0;
 }
 
 /* Whether the file is refused since it is in use, which a second opening in one process is too. */
 static int is_in_use(const char *path) {
-    cvec_fault fault;
-    cvec_file other;
-    return cvec_open(&other, path, CVEC_U64, &fault) == CVEC_IN_USE;
+    cvec_file *other;
+    return cvec_file_open(&other, path, CVEC_U64, NULL) == CVEC_IN_USE;
 }
 
 /* Whether a file whose process has forked has what that appended then, and stays its own behind a close in the child; also where
  * the system's number of the child is its own, as in a namespace. */
 static int stays_of_one_process(const char *path) {
-    cvec_file file;
+    cvec_file *file;
     int status = 1;
-    if (cvec_create(&file, path, CVEC_U64) != CVEC_DONE) return 0;
+    if (cvec_file_create(&file, path, CVEC_U64, 1) != CVEC_DONE) return 0;
     if (noted_process != &no_process) number_of_all = getpid();
     pid_t child = fork();
-    if (child == 0) _exit(is_refused(&file) ? 0 : 1);
+    if (child == 0) _exit(is_refused(file) ? 0 : 1);
     number_of_all = 0;
     if (child < 0 || waitpid(child, &status, 0) != child) return 0;
     const int stays = is_in_use(path);
-    uint32_t appended = cvec_append(&file, numbers, 3);
-    cvec_close(&file);
+    uint32_t appended = cvec_file_append_u64(file, numbers, 3);
+    cvec_file_close(&file);
     return status == 0 && stays && appended == CVEC_DONE && found(path) == 3;
 }
 
 /* Whether a file is free once it is closed, while another process has a copy of its descriptor, as a program has that another
  * thread has started, until it runs. */
 static int is_free_beside_a_copy(const char *path) {
-    cvec_file file;
-    if (cvec_create(&file, path, CVEC_U64) != CVEC_DONE) return 0;
+    cvec_file *file;
+    if (cvec_file_create(&file, path, CVEC_U64, 1) != CVEC_DONE) return 0;
     pid_t child = fork();
     if (child == 0)
         for (;;) pause();
-    cvec_close(&file);
+    cvec_file_close(&file);
     const int size = found(path);
     return child > 0 && kill(child, SIGKILL) == 0 && waitpid(child, NULL, 0) == child && size == 0;
 }
@@ -221,23 +233,23 @@ static int is_free_beside_programs(const char *path) {
 
 /* No sync fails where the folder can't be read, which is to be synced. */
 static int tells_of_a_folder_that_is_shut(const char *path) {
-    cvec_file file;
+    cvec_file *file;
     folders_are_shut = 1;
-    uint32_t status = cvec_create(&file, path, CVEC_U64);
+    uint32_t status = cvec_file_create(&file, path, CVEC_U64, 1);
     folders_are_shut = 0;
-    return status == CVEC_DISK_OPEN && file.fd < 0;
+    return status == CVEC_DISK_OPEN && file == NULL;
 }
 
 /* In a process whose standard streams are closed: whether the file never has one of their numbers, to print fails as before, and
  * no program that is run has the file. */
 static int is_behind_streams(const char *path) {
-    cvec_file file;
+    cvec_file *file;
     for (int fd = 0; fd <= STDERR_FILENO; fd++) close(fd);
     least_number = INT_MAX;
-    if (cvec_create(&file, path, CVEC_U64) != CVEC_DONE || least_number <= STDERR_FILENO) return 0;
+    if (cvec_file_create(&file, path, CVEC_U64, 1) != CVEC_DONE || least_number <= STDERR_FILENO) return 0;
     for (int fd = STDOUT_FILENO; fd <= STDERR_FILENO; fd++)
         if (write(fd, "a line", 6) != -1 || errno != EBADF || fcntl(fd, F_GETFD) != FD_CLOEXEC) return 0;
-    return file.fd > STDERR_FILENO && fcntl(file.fd, F_GETFD) == FD_CLOEXEC;
+    return file->fd > STDERR_FILENO && fcntl(file->fd, F_GETFD) == FD_CLOEXEC;
 }
 
 /* In a process whose files may be no larger than this: whether an append past that is refused, and no signal is held back behind
@@ -246,12 +258,12 @@ static int is_refused_past_the_limit(const char *path) {
     static const uint64_t many[1024];
     struct rlimit most;
     sigset_t held_back;
-    cvec_file file;
-    if (cvec_create(&file, path, CVEC_U64) != CVEC_DONE || getrlimit(RLIMIT_FSIZE, &most) != 0) return 0;
+    cvec_file *file;
+    if (cvec_file_create(&file, path, CVEC_U64, 1) != CVEC_DONE || getrlimit(RLIMIT_FSIZE, &most) != 0) return 0;
     most.rlim_cur = 4096;
-    if (setrlimit(RLIMIT_FSIZE, &most) != 0 || cvec_append(&file, many, 1024) != CVEC_DISK_WRITE || errno != EFBIG) return 0;
+    if (setrlimit(RLIMIT_FSIZE, &most) != 0 || cvec_file_append_u64(file, many, 1024) != CVEC_DISK_WRITE || errno != EFBIG) return 0;
     if (pthread_sigmask(SIG_BLOCK, NULL, &held_back) != 0 || sigismember(&held_back, SIGXFSZ)) return 0;
-    return cvec_append(&file, numbers, 1) == CVEC_BROKEN;
+    return cvec_file_append_u64(file, numbers, 1) == CVEC_BROKEN;
 }
 
 static int holds_in_a_child(int (*holds)(const char *), const char *path) {
@@ -269,18 +281,18 @@ static int lives_past_the_limit(const char *path) { return holds_in_a_child(is_r
 static int opens_what_has_the_name(const char *path) {
     char other[4096];
     cvec_fault fault;
-    cvec_file file;
+    cvec_file *file;
     snprintf(other, sizeof other, "%s.other", path);
     if (!is_made(path, 1) || !is_made(other, 3)) return 0;
     reader = open(path, O_RDONLY);
     if (flock(reader, LOCK_SH) != 0) return 0;
     moved_from = other;
     moved_to = path;
-    uint32_t status = cvec_open(&file, path, CVEC_U64, &fault);
+    uint32_t status = cvec_file_open(&file, path, CVEC_U64, &fault);
     close(reader);
     reader = -1;
-    if (status == CVEC_DONE) status = cvec_append(&file, numbers + 3, 1);
-    cvec_close(&file);
+    if (status == CVEC_DONE) status = cvec_file_append_u64(file, numbers + 3, 1);
+    cvec_file_close(&file);
     return status == CVEC_DONE && found(path) == 4;
 }
 
@@ -288,36 +300,36 @@ static int opens_what_has_the_name(const char *path) {
  * that a signal interrupts is made again: it takes no turn of the wait. */
 static int tells_of_a_look_that_fails(const char *path) {
     cvec_fault fault;
-    cvec_file file;
+    cvec_file *file;
     looks = 1;
     why_no_look = EIO;
-    if (cvec_create(&file, path, CVEC_U64) != CVEC_DISK_OPEN || errno != EIO || file.fd >= 0) return 0;
+    if (cvec_file_create(&file, path, CVEC_U64, 1) != CVEC_DISK_OPEN || errno != EIO || file != NULL) return 0;
     looks = 1;
     why_no_look = ENOENT;
-    uint32_t status = cvec_create(&file, path, CVEC_U64);
-    cvec_close(&file);
+    uint32_t status = cvec_file_create(&file, path, CVEC_U64, 1);
+    cvec_file_close(&file);
     if (status != CVEC_DONE || looks != -1) return 0;
     looks = 1;
     why_no_look = EINTR;
-    status = cvec_open(&file, path, CVEC_U64, &fault);
-    cvec_close(&file);
+    status = cvec_file_open(&file, path, CVEC_U64, &fault);
+    cvec_file_close(&file);
     return status == CVEC_DONE && looks == -1;
 }
 
 /* Whether signals cut no turn short for which a lock is waited. */
 static int waits_whole_turns(const char *path) {
     cvec_fault fault;
-    cvec_file file;
+    cvec_file *file;
     if (!is_made(path, 1)) return 0;
     reader = open(path, O_RDONLY);
     if (flock(reader, LOCK_SH) != 0) return 0;
     moved_from = moved_to = path;
     signals = 3;
     slept = 0;
-    uint32_t status = cvec_open(&file, path, CVEC_U64, &fault);
+    uint32_t status = cvec_file_open(&file, path, CVEC_U64, &fault);
     close(reader);
     reader = -1;
-    cvec_close(&file);
+    cvec_file_close(&file);
     return status == CVEC_DONE && signals == 0 && slept == LOCK_WAIT;
 }
 
@@ -327,19 +339,88 @@ static int takes_no_other_flag(const char *path) {
     cvec_flagged records[2] = {{5, true}, {6, false}}, seen[4];
     uint64_t count = 0, before = 0, after = 0;
     cvec_fault fault;
-    cvec_file file;
+    cvec_file *file;
     memcpy((uint8_t *)&records[1] + offsetof(cvec_flagged, flag), &other, 1);
-    uint32_t status = cvec_create(&file, path, CVEC_FLAGGED);
-    if (status == CVEC_DONE) status = cvec_append(&file, records, 1);
-    if (status != CVEC_DONE || cvec_system_length(file.fd, &before) != CVEC_DONE) return 0;
-    uint32_t refused = cvec_append(&file, records, 2);
-    if (cvec_system_length(file.fd, &after) != CVEC_DONE || after != before) return 0;
-    status = cvec_append(&file, records, 1);
-    cvec_close(&file);
-    if (status == CVEC_DONE) status = cvec_open(&file, path, CVEC_FLAGGED, &fault);
-    if (status == CVEC_DONE) status = cvec_read(&file, 0, seen, 4, &count, &fault);
-    cvec_close(&file);
+    uint32_t status = cvec_file_create(&file, path, CVEC_FLAGGED, 1);
+    if (status == CVEC_DONE) status = cvec_file_append_flagged(file, records, 1);
+    if (status != CVEC_DONE || cvec_system_length(file->fd, &before) != CVEC_DONE) return 0;
+    uint32_t refused = cvec_file_append_flagged(file, records, 2);
+    if (cvec_system_length(file->fd, &after) != CVEC_DONE || after != before) return 0;
+    status = cvec_file_append_flagged(file, records, 1);
+    cvec_file_close(&file);
+    if (status == CVEC_DONE) status = cvec_file_open(&file, path, CVEC_FLAGGED, &fault);
+    if (status == CVEC_DONE) status = cvec_file_read_flagged(file, 0, seen, 4, &count, &fault);
+    cvec_file_close(&file);
     return refused == CVEC_NO_RECORD && status == CVEC_DONE && count == 2 && seen[0].flag && seen[1].flag;
+}
+
+static int is_so(cvec_status answer) { return answer == CVEC_NOT_SO; }
+
+/* Whether a handle of nothing is refused, and its close does nothing, also behind a close. */
+static int refuses_no_handle(const char *path) {
+    uint64_t seen[2] = {3, 3}, count = 3;
+    cvec_fault fault = {3, 3, 3};
+    cvec_stat stat;
+    cvec_file *file = NULL;
+    cvec_file_close(&file);
+    if (cvec_file_create(&file, path, CVEC_U64, 1) != CVEC_DONE || file == NULL) return 0;
+    for (int k = 0; k < 2; k++) cvec_file_close(&file);
+    memset(&stat, 3, sizeof stat);
+    const int are = is_so(cvec_file_append_u64(file, numbers, 1)) && is_so(cvec_file_read_u64(file, 0, seen, 2, &count, &fault)) &&
+                    is_so(cvec_file_read_u64(file, 0, seen, 2, &count, NULL)) && is_so(cvec_file_stat(file, &stat));
+    return are && file == NULL && count == 3 && seen[0] == 3 && stat.size == 0x0303030303030303 && found(path) == 0;
+}
+
+/* Whether calls of a file of u64 are refused that name a type of another width, or none, and those by one of the same aren't. */
+static int takes_its_width_alone(cvec_file *file, int is_to_read) {
+    union { uint32_t u32; int64_t i64; double f64; cvec_pair pair; cvec_flagged flagged; uint64_t words[8]; } seen = {.words = {3, 3}};
+    const cvec_type others[] = {CVEC_U32, CVEC_PAIR, CVEC_FLAGGED, CVEC_BYTES64};
+    uint64_t count = 9;
+    cvec_fault fault;
+    cvec_stat stat;
+    for (size_t k = 0; k < sizeof others / sizeof *others; k++) {
+        if (!is_to_read && cvec_file_append(file, others[k], &seen, 1) != CVEC_WIDTH) return 0;
+        if (cvec_file_read(file, others[k], 0, &seen, 1, &count, &fault) != CVEC_WIDTH || fault.found != 8) return 0;
+        if (cvec_file_read(file, others[k], 0, NULL, 0, &count, NULL) != CVEC_WIDTH) return 0;
+    }
+    if (!is_to_read && !is_so(cvec_file_append(file, CVEC_TYPE_COUNT, &seen, 1))) return 0;
+    if (!is_so(cvec_file_read(file, CVEC_TYPE_COUNT, 0, &seen, 1, &count, &fault)) || seen.words[0] != 3 || count != 9) return 0;
+    if (cvec_file_stat(file, &stat) != CVEC_DONE || stat.width != 8 || stat.size != 1) return 0;
+    return cvec_file_read_i64(file, 0, &seen.i64, 1, &count, NULL) == CVEC_DONE && seen.i64 == -2 && count == 1;
+}
+
+static int keeps_widths_apart(const char *path) {
+    const int64_t number = -2;
+    cvec_file *file, *beside;
+    if (cvec_file_create(&file, path, CVEC_U64, 1) != CVEC_DONE || cvec_file_append_i64(file, &number, 1) != CVEC_DONE) return 0;
+    if (cvec_file_open_to_read(&beside, path, CVEC_F64, NULL) != CVEC_DONE) return 0;
+    const int are = takes_its_width_alone(file, 0) && takes_its_width_alone(beside, 1);
+    cvec_file_close(&beside);
+    cvec_file_close(&file);
+    return are && cvec_file_open(&file, path, CVEC_PAIR, NULL) == CVEC_WIDTH && file == NULL;
+}
+
+/* Whether a file is made of either version, and of no other, of which nothing is made. */
+static int makes_both_versions(const char *path) {
+    const size_t many = ((1 << 20) - 8) / sizeof(uint64_t) + 1; /* one more than a growth of version 1 has */
+    uint64_t *records = calloc(many, sizeof *records);
+    cvec_file *file;
+    cvec_stat stat;
+    int are = records != NULL;
+    for (uint8_t version = 0; version < 4; version += 3)
+        are = are && cvec_file_create(&file, path, CVEC_U64, version) == CVEC_VERSION && file == NULL && access(path, F_OK) != 0;
+    for (uint8_t version = 1; version < 3; version++) {
+        const cvec_status wanted = version == 1 ? CVEC_TOO_LARGE : CVEC_DONE;
+        remove(path);
+        are = are && cvec_file_create(&file, path, CVEC_U64, version) == CVEC_DONE && cvec_file_stat(file, &stat) == CVEC_DONE;
+        are = are && stat.version == version && cvec_file_append_u64(file, records, many) == wanted;
+        cvec_file_close(&file);
+        are = are && cvec_file_open(&file, path, CVEC_U64, NULL) == CVEC_DONE && cvec_file_stat(file, &stat) == CVEC_DONE;
+        are = are && stat.version == version;
+        cvec_file_close(&file);
+    }
+    free(records);
+    return are;
 }
 
 /* Whether a pipe, which another program may put in the place of a file as it is opened, has no length. */
@@ -403,6 +484,9 @@ int main(int argc, char **argv) {
                  {is_free_beside_a_copy, "a file that is closed is locked still, by a copy of its descriptor"},
                  {is_free_beside_programs, "a file that is closed is locked still, by a program that is being started"},
                  {takes_no_other_flag, "a flag is neither 0 nor 1"},
+                 {refuses_no_handle, "a handle of nothing is none of the library's to refuse"},
+                 {keeps_widths_apart, "a type of another width is taken"},
+                 {makes_both_versions, "a file has another version than it was made by"},
                  {asks_files_alone, "a pipe passes for a file"},
                  {sees_what_is_never_written, "a file that nobody can write is not seen where it can't be synced"}};
     if (argc != 2) return 2;

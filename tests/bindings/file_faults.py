@@ -369,7 +369,8 @@ def check_closing():
         assert refusal_of(lambda: list(seen.pieces())) == refusal_of(lambda: list(seen.frames())) == "the map is closed"
         held.clear()
         del seen
-    assert refusal_of(file.append, [1]) == refusal_of(file.read) == "a write or a sync has failed before: open the file again"
+    for call in (lambda: file.append([1]), file.read, lambda: file.stat, lambda: len(file)):
+        assert refusal_of(call) == "every seat or block is taken, or there is no such handle, answer, block, hold, version or type"
     if os.path.exists("/proc/self/maps"):
         with open("/proc/self/maps") as maps:
             assert PATH not in maps.read(), "a map is left"
@@ -464,7 +465,7 @@ def check_maps_that_grow():
     # A frame that is cut, and no writer beside it, is damaged still.
     for length in range(len(whole) - 22, len(whole)):
         told, _ = mapped_as_it_grows(whole[:length], b"", 0)
-        assert told == "a frame of the file is damaged at " + ("41: short frame" if length < 63 else "63: no gate"), (length, told)
+        assert told == "a frame of the file is damaged at " + ("41: the file ends inside a frame" if length < 63 else "63: the file ends where a gate has to stand"), (length, told)
     os.remove(PATH)
 
 
@@ -515,6 +516,19 @@ def check_maps_that_are_closed():
     os.remove(PATH)
 
 
+def check_versions():
+    """A file is made of version 1 or 2, and of no other, of which nothing is made."""
+    for version in (0, 3, -1, 257, 1.5, None):
+        assert refusal_of(cvec.create, PATH, "u64", version) == "the version isn't known", version
+        assert not os.path.exists(PATH)
+    for words, version in (((), 1), ((1,), 1), ((2,), 2)):
+        with cvec.create(PATH, "u64", *words) as file:
+            assert file.stat.version == version
+        with cvec.open(PATH, "u64") as file:
+            assert file.stat.version == version
+        os.remove(PATH)
+
+
 def check_pickling():
     """A refusal is the same in another process; a pool, which would wait for ever, has that of its own."""
     for it in (cvec.Error(5, cvec.Fault(7, 1, 2)), cvec.Error(13, cvec.Fault(at=3)), cvec.Error(35, errno=2), cvec.Error(34)):
@@ -536,7 +550,7 @@ def check_pickling():
 
 def check_interrupts():
     """Ctrl-C comes as soon as C has the file: it is let go of, also while a traceback has what was begun."""
-    for name, make in (("cvec_create", cvec.create), ("cvec_open", cvec.open), ("cvec_open_to_read", cvec.open_to_read)):
+    for name, make in (("cvec_file_create", cvec.create), ("cvec_file_open", cvec.open), ("cvec_file_open_to_read", cvec.open_to_read)):
         library, call = cvec._LIB, getattr(cvec._LIB, name)
         before = len(os.listdir("/dev/fd"))
 
@@ -571,6 +585,7 @@ check_maps()
 check_maps_that_grow()
 check_maps_beside_a_writer()
 check_maps_that_are_closed()
+check_versions()
 check_pickling()
 check_interrupts()
 print("with numpy" if numpy else "without numpy")

@@ -13,8 +13,9 @@ static uint64_t records[MOST];
 static int tell(cvec_file *file) {
     cvec_fault fault = {0, 0, 0};
     uint64_t count = 0;
-    uint32_t status = cvec_read(file, 0, records, MOST, &count, &fault);
-    if (status != CVEC_DONE || file->stat.size != count) {
+    cvec_stat stat = {0, 0, 0, 0, 0, 0, 0};
+    cvec_status status = cvec_file_read_u64(file, 0, records, MOST, &count, &fault);
+    if (status != CVEC_DONE || cvec_file_stat(file, &stat) != CVEC_DONE || stat.size != count) {
         printf("refused %s at %" PRIu64 " cause %" PRIu32 "\n", cvec_status_text(status), fault.at, fault.cause);
         return 1;
     }
@@ -24,21 +25,21 @@ static int tell(cvec_file *file) {
 }
 
 int main(int argc, char **argv) {
-    cvec_file file, other;
+    cvec_file *file, *other;
     cvec_fault fault;
     char line[16];
-    if (argc != 2 || cvec_open_to_read(&file, argv[1], CVEC_U64, &fault) != CVEC_DONE) return 2;
+    if (argc != 2 || cvec_file_open_to_read(&file, argv[1], CVEC_U64, &fault) != CVEC_DONE) return 2;
     int failed = 0;
     while (!failed && fgets(line, sizeof line, stdin) != NULL) {
-        if (line[0] != 'o') failed = tell(&file);
+        if (line[0] != 'o') failed = tell(file);
         else {
-            uint32_t status = cvec_open_to_read(&other, argv[1], CVEC_U64, &fault);
-            if (status == CVEC_DONE) failed = tell(&other);
+            cvec_status status = cvec_file_open_to_read(&other, argv[1], CVEC_U64, &fault);
+            if (status == CVEC_DONE) failed = tell(other);
             else failed = printf("refused %s at %" PRIu64 " cause %" PRIu32 "\n", cvec_status_text(status), fault.at, fault.cause) > 0;
-            cvec_close(&other);
+            cvec_file_close(&other);
         }
         fflush(stdout);
     }
-    cvec_close(&file);
+    cvec_file_close(&file);
     return failed;
 }

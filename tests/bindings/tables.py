@@ -1,5 +1,5 @@
 """The numbers that the bindings for Python and plain Rust have in their sources are those of types.txt and statuses.txt, and the widths
-of Python's types are those of the former: tables.py"""
+of Python's types are those of the former. No two statuses and no two causes have one sentence: tables.py"""
 import ast
 import os
 import re
@@ -8,6 +8,7 @@ import sys
 HERE = os.path.dirname(os.path.abspath(__file__))
 BINDINGS = os.path.join(HERE, "..", "..", "bindings")
 sys.path.insert(0, os.path.join(BINDINGS, "python"))
+import cvec_client
 import cvec_records
 
 # What a vector never answers.
@@ -44,9 +45,15 @@ def upper(name):
 
 statuses = {name: int(number) for number, name, *_ in rows_of("statuses.txt")}
 types = {name: tuple(map(int, (number, width, size))) for number, name, width, size in rows_of("types.txt")}
-of_vectors = {name: number for name, number in statuses.items() if name not in OF_FILES}
+for name in ("statuses.txt", "causes.txt"):
+    sentences = [line.split(" ", 2)[2] for line in text_of(HERE, name).splitlines()]
+    assert len(set(sentences)) == len(sentences), name
+of_clients = {name: number for name, number in statuses.items() if number >= statuses["GONE"]}
+of_vectors = {name: number for name, number in statuses.items() if name not in OF_FILES | of_clients.keys()}
 
 assert dict(assigned(text_of("python", "cvec_vector.py"), "Status")) == of_vectors
+# To a server they are numbers from 1 on.
+assert sorted(it + statuses["GONE"] for it in cvec_client.REFUSALS) == sorted(of_clients.values())[1:]
 for name in ("cvec.py", "cvec_vector.py"):
     own = {it[1:]: number for it, number in assigned(text_of("python", name)) if it[1:] in statuses}
     assert own and own.items() <= statuses.items(), (name, own)

@@ -21,28 +21,27 @@ has_caller() {
 make_caller() {
     kit_library=$(dirname "$(rt doc)")/c/liblibc_c.a
     mkdir -p "$built"
-    if [ ! -e "$built/cvec_file.o" ]; then
+    if [ ! -e "$built/file.o" ]; then
         make_c_library
-        cp "$work/cvec_file.o" "$built"
+        cp "$work/file.o" "$built"
     fi
     "make_$1"
 }
 
 make_c() {
-    [ -e "$built/c" ] || cc -std=c99 -O2 -Wall -Wextra -Werror "-I$c_headers" -o "$built/c" "$bindings/driver.c" \
-        "$built/cvec_file.o" "$c_library" "$kit_library"
+    [ -e "$built/c" ] || cc -std=c99 -O2 -Wall -Wextra -Werror "-I$c_headers" "-I$c_sources" -o "$built/c" "$bindings/driver.c" \
+        "$c_sources/system.c" "$c_sources/types.c" "$c_library" "$kit_library"
 }
 
 make_python() {
-    [ -e "$built/libcvec.so" ] || cc -shared -o "$built/libcvec.so" "$built/cvec_file.o" -Wl,--whole-archive "$c_library" \
+    [ -e "$built/libcvec.so" ] || cc -shared -o "$built/libcvec.so" "$built/file.o" -Wl,--whole-archive "$c_library" \
         -Wl,--no-whole-archive "$kit_library"
 }
 
 make_client() {
     mkdir -p "$built"
-    [ -e "$built/cvec_client.o" ] || compile_c cvec_client "$built"
-    [ -e "$built/client_c" ] || cc -std=c99 -O2 -Wall -Wextra -Werror "-I$c_headers" -o "$built/client_c" "$bindings/client.c" \
-        "$built/cvec_client.o"
+    [ -e "$built/client_c" ] || cc -std=c99 -O2 -Wall -Wextra -Werror "-I$c_headers" "-I$c_sources" -o "$built/client_c" \
+        "$bindings/client.c" "$c_sources/system.c" "$c_sources/types.c"
 }
 
 # What tables and clients start: the program, and two programs in Python.
@@ -67,7 +66,7 @@ make_rust() {
     [ -e "$built/rust" ] && return
     rustc --edition 2024 -D warnings --crate-type rlib --crate-name cvec -o "$built/libcvec.rlib" "$top/bindings/rust/src/lib.rs"
     rustc --edition 2024 -D warnings -o "$built/rust" "$bindings/driver.rs" --extern "cvec=$built/libcvec.rlib" \
-        -C "link-arg=$built/cvec_file.o" -C "link-arg=$c_library" -C "link-arg=$kit_library"
+        -C "link-arg=$built/file.o" -C "link-arg=$c_library" -C "link-arg=$kit_library"
 }
 
 # Stands between a caller and the system.
@@ -133,7 +132,7 @@ follows() {
 each_type_and_each_status_has_one_number() (
     for tool in cc python3; do has $tool 'the tables of the header' || exit $is_skipped; done
     cc -std=c99 -Wall -Wextra -Werror -pedantic "-I$c_headers" -o "$work/tables" "$bindings/tables.c" "$c_sources/types.c"
-    for name in types statuses; do
+    for name in types statuses causes; do
         "$work/tables" $name >"$out"
         diff "$bindings/$name.txt" "$out"
     done
@@ -301,6 +300,13 @@ a_table_holds_for_clients() (
     follows client_arrays client_python.txt
 )
 
+a_client_in_c_without_memory_loses_nothing() (
+    has cc 'clients of a server' || exit $is_skipped
+    cc -std=c99 -O2 -Wall -Wextra -Werror "-I$c_headers" -o "$work/faults" "$bindings/client_faults.c" "$c_sources/client.c" \
+        "$c_sources/system.c" "$c_sources/types.c"
+    timeout 60 "$work/faults"
+)
+
 # Also where each call is interrupted once, and does a part of what it is asked.
 growths_of_a_client_in_c_are_answered_in_turn() (
     has_tables || exit $is_skipped
@@ -404,7 +410,8 @@ has_first() { has_records 0 $(($1 - 1)); }
 make_terminal() {
     make_client
     make_programs
-    cc -std=c99 -O2 -Wall -Wextra -Werror "-I$c_headers" -o "$built/waits" "$bindings/waits.c" "$built/cvec_client.o"
+    cc -std=c99 -O2 -Wall -Wextra -Werror "-I$c_headers" "-I$c_sources" -o "$built/waits" "$bindings/waits.c" "$c_sources/system.c" \
+        "$c_sources/types.c"
 }
 
 # Ctrl-C reaches the client alone: its growths are settled while it waits for that, or leaves.

@@ -27,7 +27,7 @@ the_readme_appends_in_c() (
         shown_in ../README.md c
         printf 'return status == CVEC_DONE && count == 3 && records[2] == 11 ? 0 : 1;\n}\n'
     } >"$work/shown.c"
-    cc -std=c99 -O2 -Wall -Wextra -Werror -pedantic "-I$c_headers" -o "$work/shown" "$work/shown.c" "$work/cvec_file.o" \
+    cc -std=c99 -O2 -Wall -Wextra -Werror -pedantic "-I$c_headers" -o "$work/shown" "$work/shown.c" "$work/file.o" \
         "$c_library" "$kit_library"
     cd "$work"
     ./shown

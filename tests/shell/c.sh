@@ -4,7 +4,7 @@
 
 # Compiles this example in C.
 compile() {
-    cc -std=c99 -O2 -Wall -Wextra -Werror -pedantic "-I$c_headers" -o "$work/$1" "$c/$1.c" "$work/cvec_file.o" "$c_library" "$kit_library"
+    cc -std=c99 -O2 -Wall -Wextra -Werror -pedantic "-I$c_headers" -o "$work/$1" "$c/$1.c" "$work/file.o" "$c_library" "$kit_library"
 }
 
 a_c_program_appends_and_reads() (
@@ -25,7 +25,7 @@ the_c_program_that_is_shown_appends_and_reads() (
     has_c || exit $is_skipped
     make_c_library
     shown_in use/c.md c >"$work/shown.c"
-    cc -std=c99 -O2 -Wall -Wextra -Werror -pedantic "-I$c_headers" -o "$work/shown" "$work/shown.c" "$work/cvec_file.o" \
+    cc -std=c99 -O2 -Wall -Wextra -Werror -pedantic "-I$c_headers" -o "$work/shown" "$work/shown.c" "$work/file.o" \
         "$c_library" "$kit_library"
     "$work/shown" "$work/file" >"$out"
     [ "$(tr '\n' ' ' <"$out")" = '5 7 11 ' ]
@@ -89,7 +89,8 @@ a_c_program_has_numbers_of_each_width() (
     did '-2.5\n5e-324\n'
 )
 
-# Each request for memory is refused in turn, until none is met: also that of the system for the path's real name.
+# Each request for memory is refused in turn, until none is met: also that of the system for the path's real name. Refused that of the
+# handle, nothing is made.
 a_creation_in_c_names_memory_that_was_refused() (
     has_c || exit $is_skipped
     make_c_library
@@ -103,6 +104,8 @@ a_creation_in_c_names_memory_that_was_refused() (
 #include <unistd.h>
 
 extern void *__libc_malloc(size_t), *__libc_calloc(size_t, size_t), *__libc_realloc(void *, size_t);
+
+enum { OF_HANDLE = 2 }; /* the handle, and what it has for its first frame */
 
 static unsigned seen, refused;
 
@@ -119,18 +122,20 @@ void *realloc(void *at, size_t len) { return is_refused() ? NULL : __libc_reallo
 int main(int argc, char **argv) {
     if (argc != 2) return 2;
     for (refused = 1;; refused++) {
-        cvec_file file;
+        cvec_file *file;
         seen = 0;
-        const uint32_t answer = cvec_create(&file, argv[1], CVEC_U64);
+        const cvec_status answer = cvec_file_create(&file, argv[1], CVEC_U64, 1);
         const unsigned met = seen;
-        if (answer == CVEC_DONE) cvec_close(&file);
-        if (met < refused) return answer == CVEC_DONE && refused > 1 ? 0 : 1;
+        if ((answer == CVEC_DONE) != (file != NULL)) return puts("a refusal that makes a handle"), 1;
+        if (refused <= OF_HANDLE && (answer != CVEC_MEMORY || access(argv[1], F_OK) == 0)) return puts("a file is made for no handle"), 1;
+        cvec_file_close(&file);
+        if (met < refused) return answer == CVEC_DONE && refused > OF_HANDLE ? 0 : 1;
         if (answer != CVEC_DONE && answer != CVEC_MEMORY) return printf("request %u: %u\n", refused, (unsigned)answer), 1;
         unlink(argv[1]);
     }
 }
 MEMORY
-    cc -std=c99 -O2 -Wall -Wextra -Werror -pedantic "-I$c_headers" -o "$work/memory" "$work/memory.c" "$work/cvec_file.o" \
+    cc -std=c99 -O2 -Wall -Wextra -Werror -pedantic "-I$c_headers" -o "$work/memory" "$work/memory.c" "$work/file.o" \
         "$c_library" "$kit_library"
     "$work/memory" "$work/file"
 )
@@ -138,8 +143,12 @@ MEMORY
 # The sentence of C for this line of the program, which has names.
 in_sentences() {
     sed -e 's/^refused: unborn$/refused: no vector was begun in the file/' -e 's/^refused: not a segment$/refused: it is no segment file/' \
-        -e "s/^refused: version /refused: the file's version isn't known: /" -e 's/^refused: width /refused: the records have another width: /' \
-        -e 's/^refused: damaged at /refused: a frame of the file is damaged at /' "$1"
+        -e "s/^refused: version /refused: the version isn't known: /" -e 's/^refused: width /refused: the records have another width: /' \
+        -e 's/^refused: damaged at /refused: a frame of the file is damaged at /' -e 's/: no gate$/: the file ends where a gate has to stand/' \
+        -e 's/: short frame$/: the file ends inside a frame/' -e "s/: kind \([0-9]*\)$/: a kind of frame that isn't known: \1/" \
+        -e 's/: too large$/: a payload past the limit/' -e 's/: layout$/: a payload without the form of its kind/' \
+        -e 's/: range$/: a change outside the vector, or a shrink to more than it has/' \
+        -e "s/: fold count$/: a fold's count that falls, or passes the changes so far/" "$1"
 }
 
 # Each front of a file, and a file with another byte at each place.
@@ -203,7 +212,7 @@ a_wait_of_the_library_for_c_is_as_long_as_it_says() (
 
 make_looks() {
     make_c_library
-    cc -std=c99 -O2 -Wall -Wextra -Werror "-I$c_headers" -o "$work/looks" "$top/tests/bindings/looks.c" "$work/cvec_file.o" \
+    cc -std=c99 -O2 -Wall -Wextra -Werror "-I$c_headers" -o "$work/looks" "$top/tests/bindings/looks.c" "$work/file.o" \
         "$c_library" "$kit_library"
 }
 
@@ -263,16 +272,23 @@ a_c_program_has_images_of_each_type() (
     has_c && has_sanitizer address || exit $is_skipped
     make_c_library
     cc -std=c99 -g -O1 -Wall -Wextra -Werror -pedantic -fsanitize=address,undefined -fno-sanitize-recover=all "-I$c_headers" \
-        -o "$work/images" "$top/tests/bindings/images.c" "$c_sources/cvec_file.c" "$c_sources/system.c" "$c_sources/types.c" \
+        -o "$work/images" "$top/tests/bindings/images.c" "$c_sources/file.c" "$c_sources/system.c" "$c_sources/types.c" \
         "$c_library" "$kit_library"
     "$work/images" "$work/none" >"$out" || { cat "$out" && exit 1; }
-    [ "$(cat "$out")" = '399 checks, 0 wrong' ]
+    [ "$(cat "$out")" = '413 checks, 0 wrong' ]
 )
 
-the_header_is_cpp_too() (
-    has c++ 'the header in C++' || exit $is_skipped
-    printf '#include "cvec.h"\nint main() { return cvec_frame_at(nullptr, 0, 0, 1, 8, nullptr) ? 0 : 1; }\n' >"$work/use.cc"
-    c++ -Wall -Wextra -Werror "-I$c_headers" -fsyntax-only "$work/use.cc"
+# In C and in C++, each header alone and all of them, with what either finds to say.
+the_headers_are_c_and_cpp() (
+    has cc 'the headers in C' && has c++ 'the headers in C++' || exit $is_skipped
+    words='-Wall -Wextra -Wconversion -Werror -pedantic -fsyntax-only'
+    for headers in cvec.h cvec/proved.h cvec_vector.h 'cvec/proved.h cvec.h cvec_vector.h'; do
+        printf '#include "%s"\n' $headers >"$work/use.c"
+        echo 'cvec_status status_of(const char *path, cvec_file **file) { return cvec_file_open(file, path, CVEC_U64, NULL); }' >>"$work/use.c"
+        cc -std=c99 $words "-I$c_headers" "$work/use.c"
+        cp "$work/use.c" "$work/use.cc"
+        c++ -std=c++17 $words "-I$c_headers" "$work/use.cc"
+    done
 )
 
 # By what the header says. C++ takes no pointer to a record of another type.
@@ -280,11 +296,13 @@ the_header_has_numbers_of_each_type() (
     has c++ 'the header in C++' || exit $is_skipped
     {
         echo '#include "cvec.h"'
-        for of in 'u8 uint8_t' 'u16 uint16_t' 'i32 int32_t' 'f32 float' 'f64 double'; do
+        for of in 'u8 uint8_t' 'u16 uint16_t' 'i32 int32_t' 'f32 float' 'f64 double' 'pair cvec_pair' 'flagged cvec_flagged' \
+            'bytes24 cvec_bytes24'; do
             type=${of% *} record=${of#* }
-            echo "uint32_t (*read_$type)(const uint8_t *, size_t, uint64_t, $record *, size_t, uint64_t *, cvec_fault *) = cvec_read_$type;"
-            echo "uint32_t (*look_$type)(const uint8_t *, size_t, uint64_t, $record *, size_t, uint64_t *, cvec_stat *, cvec_fault *) = cvec_look_$type;"
-            echo "uint32_t (*append_$type)(const cvec_stat *, const $record *, size_t, uint8_t *, size_t, cvec_stat *) = cvec_append_$type;"
+            echo "cvec_status (*append_$type)(cvec_file *, const $record *, size_t) = cvec_file_append_$type;"
+            echo "cvec_status (*read_$type)(cvec_file *, uint64_t, $record *, size_t, uint64_t *, cvec_fault *) = cvec_file_read_$type;"
+            echo "cvec_status (*grow_$type)(cvec_client *, const $record *, size_t, cvec_receipt *) = cvec_client_grow_$type;"
+            echo "cvec_status (*ask_$type)(cvec_client *, uint64_t, $record *, size_t, size_t *) = cvec_client_read_$type;"
         done
     } >"$work/use.cc"
     c++ -Wall -Wextra -Werror "-I$c_headers" -fsyntax-only "$work/use.cc"

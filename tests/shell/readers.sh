@@ -276,7 +276,7 @@ looks_by_the_library_are_of_one_moment() (
     has_c && has python3 'looks beside writers' && has_calls || exit $is_skipped
     build_calls
     make_python_library
-    cc -std=c99 -O2 -Wall -Wextra -Werror "-I$c_headers" -o "$work/looks" "$top/tests/bindings/looks.c" "$work/cvec_file.o" \
+    cc -std=c99 -O2 -Wall -Wextra -Werror "-I$c_headers" -o "$work/looks" "$top/tests/bindings/looks.c" "$work/file.o" \
         "$c_library" "$kit_library"
     for seed in 1 2; do
         rm -f "$work/looks.cv"

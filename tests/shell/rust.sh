@@ -7,7 +7,7 @@ a_rust_program_appends_and_reads() (
     make_c_library
     rustc --edition 2024 -D warnings --crate-type rlib --crate-name cvec -o "$work/libcvec.rlib" "$top/bindings/rust/src/lib.rs"
     rustc --edition 2024 -D warnings -o "$work/use" "$top/examples/rust/use.rs" --extern "cvec=$work/libcvec.rlib" \
-        -C "link-arg=$work/cvec_file.o" -C "link-arg=$c_library" -C "link-arg=$kit_library"
+        -C "link-arg=$work/file.o" -C "link-arg=$c_library" -C "link-arg=$kit_library"
     "$work/use" "$work/file" >"$out"
     [ "$(tr '\n' ' ' <"$out")" = '5 7 11 13 ' ]
     is_shown_as_written u64 "$work/file"
@@ -20,7 +20,7 @@ is_so_of_a_rust_file() {
     cc -std=c99 -O2 -Wall -Wextra -Werror "-I$c_headers" -c "$top/tests/bindings/grows.c" -o "$work/grows.o"
     rustc --edition 2024 -D warnings --crate-type rlib --crate-name cvec -o "$work/libcvec.rlib" "$top/bindings/rust/src/lib.rs"
     rustc --edition 2024 -D warnings -o "$work/cases" "$top/tests/bindings/file_cases.rs" --extern "cvec=$work/libcvec.rlib" \
-        -C "link-arg=$work/grows.o" -C link-arg=-Wl,--wrap=cvec_read -C "link-arg=$work/cvec_file.o" -C "link-arg=$c_library" \
+        -C "link-arg=$work/grows.o" -C link-arg=-Wl,--wrap=cvec_file_read -C "link-arg=$work/file.o" -C "link-arg=$c_library" \
         -C "link-arg=$kit_library"
     timeout 60 "$work/cases" "$1" "$work/t.cv"
 }
@@ -32,6 +32,10 @@ a_rust_read_ends_beside_a_writer_that_does_not() (
 
 a_rust_read_without_memory_is_refused() (
     is_so_of_a_rust_file is_refused
+)
+
+a_rust_file_is_made_of_either_version() (
+    is_so_of_a_rust_file versions
 )
 
 # ---- which archive the crates link, with packages and archives that only seem them

@@ -6,8 +6,8 @@
 clients_of_a_server_find_what_they_were_told() (
     has python3 'the clients of a server' || exit $is_skipped
     if command -v cc >/dev/null; then
-        compile_c cvec_client "$work"
-        cc -std=c99 -Wall -Wextra -pedantic -Werror "-I$c_headers" "$c/append_blocks.c" "$work/cvec_client.o" -o "$work/append_blocks"
+        compile_c client "$work"
+        cc -std=c99 -Wall -Wextra -pedantic -Werror "-I$c_headers" "$c/append_blocks.c" "$work/client.o" -o "$work/append_blocks"
         set -- "$work/append_blocks"
     fi
     "$top/tests/serve.py" "$top/cvec" "$work" 1000000 "$@" >"$out"
@@ -199,21 +199,21 @@ a_server_that_nobody_asks_sleeps() (
     [ "$(cat "$out")" = 'served 2 growths' ]
 )
 
-# Its header may stand beside that of the library.
 the_client_in_c_is_one_for_cpp() (
     has c++ 'the client in C++' || exit $is_skipped
-    printf '#include "%s"\n' cvec.h cvec_client.h >"$work/use.cc"
-    printf 'int main() { cvec_server server; return cvec_server_wait(&server); }\n' >>"$work/use.cc"
-    compile_c cvec_client "$work"
-    c++ -Wall -Wextra -pedantic -Werror "-I$c_headers" "$work/use.cc" "$work/cvec_client.o" -o "$work/use"
+    printf '#include "cvec.h"\nint main() { cvec_server *server = nullptr; return cvec_server_wait(&server, nullptr, nullptr) == CVEC_NOT_SO ? 0 : 1; }\n' \
+        >"$work/use.cc"
+    compile_c client "$work"
+    c++ -Wall -Wextra -pedantic -Werror "-I$c_headers" "$work/use.cc" "$work/client.o" -o "$work/use"
+    "$work/use"
 )
 
 # The program of the examples appends a growth to a new file, and without a server says so, and ends with 1. The client in
 # Python that the README shows is run by the section blocks.
 the_client_that_is_shown_appends() (
     has cc 'the client that is shown' || exit $is_skipped
-    compile_c cvec_client "$work"
-    cc -std=c99 -Wall -Wextra -pedantic -Werror "-I$c_headers" "$c/use_server.c" "$work/cvec_client.o" -o "$work/use_server"
+    compile_c client "$work"
+    cc -std=c99 -Wall -Wextra -pedantic -Werror "-I$c_headers" "$c/use_server.c" "$work/client.o" -o "$work/use_server"
     ln -s "$top/cvec" "$work/cvec"
     cd "$work"
     run create u64 numbers.cvec
@@ -224,7 +224,7 @@ the_client_that_is_shown_appends() (
     status=0
     ./use_server ./cvec numbers.cvec >/dev/null 2>"$err" || status=$?
     [ "$status" -eq 1 ]
-    tells "each growth that it hasn't told is settled stands in the file whole, or not at all"
+    tells "each growth that isn't settled stands in the file whole, or not at all"
 )
 
 the_client_in_python_that_is_shown_appends() (

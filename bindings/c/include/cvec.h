@@ -1,16 +1,22 @@
-/* Segment files of a durable vector, from C (C99) and C++.
+/* A durable vector in a file, from C (C99) and C++.
  *
- * The first part are the functions of libcvec_c.a, which is proved: what they answer, and what they write into the memory
- * that they are passed. They call nothing of the system but malloc, realloc and free. The second part is cvec_file.c,
- * which makes the system's calls in the order that the first part asks for; it is not proved. docs/use/c.md tells both.
+ *     cvec_file      one process appends, others read           docs/use/c.md
+ *     cvec_vector    threads of one process grow and read it    docs/use/threads.md, in cvec_vector.h
+ *     cvec_server    processes grow it by pipes                 docs/use/serve.md
  *
- * The types of records are those of CVEC_TYPES. A file has the width of its records and not their type: one of u64 is read as i64
- * too, one of pair as bytes16, and no function can tell (docs/file/format.md#records).
- * A function that answers another number than CVEC_DONE changes nothing but *fault (and *count, at CVEC_NO_ROOM).
+ * The functions here make the system's calls, around the proved ones of <cvec/proved.h>; they are tested and not proved.
  *
- * Pointers of the first part are never NULL, also where the length is 0, are aligned as their type, and memory that is
- * written overlaps no other. Any number of threads may call these functions at once, each on memory of its own. Bytes that
- * are read must not change meanwhile: also those of a file that is mapped. */
+ * A function that can be refused answers a cvec_status. Refused, it has written nothing but a *fault, and a handle that it was to make is
+ * NULL. After a status from CVEC_DISK_OPEN to CVEC_DISK_SYNC, and after CVEC_GONE, errno says why. A pointer to no records may be NULL.
+ * A handle that is NULL is CVEC_NOT_SO; to close it does nothing.
+ *
+ * Records are of a type of CVEC_TYPES. A call that names them takes the type and a pointer to them as C has them; functions with a type's
+ * name are the same calls. A file has the width of its records and not their type (docs/file/format.md#records): a call with a type of
+ * another width is CVEC_WIDTH, and one of i64 reads a file of u64, one of bytes16 one of pair. No function looks at what the bits of a
+ * number stand for: any are kept, also those of each NaN.
+ *
+ * What opens a file or a pipe opens /dev/null first for standard streams that are closed, so that to read and to print fails as before.
+ * Else a file might have their numbers, and get what another thread prints. */
 #ifndef CVEC_H
 #define CVEC_H
 
@@ -29,12 +35,12 @@ extern "C" {
 #endif
 
 /* What a function answers: the one list. X(NAME, number, a sentence for any caller to show, which cvec_status_text has). Those from 32
- * on are of cvec_file.c and cvec_vector.c alone, those from 64 on of cvec_vector.h, but for the type of no number (CVEC_NOT_SO). */
+ * on are of what makes the system's calls, those from 64 on of cvec_vector.h, but for CVEC_NOT_SO, those from 96 on of clients. */
 #define CVEC_STATUSES(X) \
     X(DONE, 0, "done") \
     X(UNBORN, 1, "no vector was begun in the file") /* at most one byte, or the first isn't 1 */ \
     X(NOT_SEGMENT, 2, "it is no segment file") /* by the bytes behind the first */ \
-    X(VERSION, 3, "the file's version isn't known") /* fault->found, or stat->version */ \
+    X(VERSION, 3, "the version isn't known") /* fault->found, or stat->version */ \
     X(WIDTH, 4, "the records have another width") /* fault->found, or stat->width */ \
     X(DAMAGED, 5, "a frame of the file is damaged") /* fault->at, fault->cause */ \
     X(MEMORY, 6, "memory was refused") \
@@ -58,45 +64,61 @@ extern "C" {
     X(FORKED, 40, "a forked process can only close it") /* the process from which this one was forked has opened it */ \
     X(NOT_FILE, 41, "a folder, a pipe or a device has this name") /* it wasn't opened */ \
     X(READ_ONLY, 42, "the file was opened to be read") \
-    X(NOT_SO, 64, "every seat or block is taken, or there is no such block, hold, version or type") \
+    X(NOT_SO, 64, "every seat or block is taken, or there is no such handle, answer, block, hold, version or type") \
     X(AGAIN, 65, "another growth came first") \
     X(FULL, 66, "it takes no more growths while records are lent: compact it") \
-    X(BUSY, 67, "another thread is inside a call, a seat isn't closed, or the vector is held") \
+    X(BUSY, 67, "another thread is inside a call, a seat isn't closed, the vector is held, or answers of growths aren't taken") \
     X(LATE, 68, "the time has passed: what was waited for may yet come") \
     X(UNFOLDED, 69, "a change isn't folded: fold first") \
-    X(UNSETTLED, 70, "a growth isn't committed")
+    X(UNSETTLED, 70, "a growth isn't committed") \
+    /* Those of a client: the numbers of docs/use/serve.md, and 96 more. After the first six it is over, and every call but its end is \
+       CVEC_GONE, unless the library has refused them before anything was asked */ \
+    X(GONE, 96, "the server has ended, or the client has: each growth that isn't settled stands in the file whole, or not at all") \
+    X(REFUSED_UNKNOWN_KIND, 97, "the server knows no such request") \
+    X(REFUSED_STRAY_NUMBER, 98, "the request has a number where none belongs") \
+    X(REFUSED_NO_RECORD, 99, "a request has at least one record") \
+    X(REFUSED_TOO_MANY, 100, "a request has at most 2^20 - 8 bytes of records") \
+    X(REFUSED_BAD_RECORD, 101, "a record is none of the server's type, and nothing was grown") \
+    X(REFUSED_NO_MEMORY, 102, "the server has no memory for the bytes of the growth") \
+    X(REFUSED_GROWTH_MEMORY, 103, "the server has no memory for the growth") \
+    X(REFUSED_CLOSED, 104, "the server takes no more growths") \
+    X(REFUSED_FULL, 105, "the server has taken all growths that it has room for: start it again") \
+    X(REFUSED_TOO_LONG, 106, "the vector would have more than 2^32 records") \
+    X(REFUSED_STRAYED, 107, "the growths don't follow one another: the server's memory is damaged") \
+    X(REFUSED_ENDED, 108, "it isn't settled, and the server has ended") \
+    X(REFUSED_BROKEN, 109, "it isn't known to be settled: the file refused, restart the system before it is opened again")
 
 #define CVEC_CODE(NAME, NUMBER, SENTENCE) CVEC_##NAME = NUMBER,
-enum cvec_status { CVEC_STATUSES(CVEC_CODE) };
+typedef enum cvec_status { CVEC_STATUSES(CVEC_CODE) } cvec_status;
 #undef CVEC_CODE
 
-/* Why an image is damaged, in the order in which docs/file/format.md looks for it. */
-enum cvec_cause {
-    CVEC_CAUSE_NONE = 0,
-    CVEC_CAUSE_NO_GATE = 1,      /* the image ends where a gate has to stand */
-    CVEC_CAUSE_SHORT_FRAME = 2,  /* the image ends inside a frame */
-    CVEC_CAUSE_KIND = 3,         /* a kind of frame that isn't known: fault->found */
-    CVEC_CAUSE_TOO_LARGE = 4,    /* a payload past the limit */
-    CVEC_CAUSE_LAYOUT = 5,       /* a payload without the form of its kind */
-    CVEC_CAUSE_RUNS = 6,         /* runs of a change that don't ascend, or overlap */
-    CVEC_CAUSE_RANGE = 7,        /* a change outside the vector, or a shrink to more than it has */
-    CVEC_CAUSE_UNFOLDED = 8,     /* a shrink while a change isn't folded */
-    CVEC_CAUSE_FOLD_COUNT = 9,   /* a fold's count that falls, or passes the changes so far */
-    CVEC_CAUSE_TOO_LONG = 10,    /* a group that brings the vector past 2^32 records */
-    CVEC_CAUSE_BAD_RECORD = 11   /* bytes that are no record */
-};
+/* Why a file is damaged, in the order in which docs/file/format.md looks for it. X(NAME, number, what cvec_cause_text has) */
+#define CVEC_CAUSES(X) \
+    X(NONE, 0, "none") \
+    X(NO_GATE, 1, "the file ends where a gate has to stand") \
+    X(SHORT_FRAME, 2, "the file ends inside a frame") \
+    X(KIND, 3, "a kind of frame that isn't known") /* fault->found */ \
+    X(TOO_LARGE, 4, "a payload past the limit") \
+    X(LAYOUT, 5, "a payload without the form of its kind") \
+    X(RUNS, 6, "runs of a change that don't ascend, or overlap") \
+    X(RANGE, 7, "a change outside the vector, or a shrink to more than it has") \
+    X(UNFOLDED, 8, "a shrink while a change isn't folded") \
+    X(FOLD_COUNT, 9, "a fold's count that falls, or passes the changes so far") \
+    X(TOO_LONG, 10, "a group that brings the vector past 2^32 records") \
+    X(BAD_RECORD, 11, "bytes that are no record")
 
-/* The kinds of frames. */
-enum cvec_kind { CVEC_GROUP = 1, CVEC_CHANGE = 2, CVEC_SHRINK = 3, CVEC_FOLD = 4 };
+#define CVEC_CODE(NAME, NUMBER, SENTENCE) CVEC_CAUSE_##NAME = NUMBER,
+typedef enum cvec_cause { CVEC_CAUSES(CVEC_CODE) } cvec_cause;
+#undef CVEC_CODE
 
-/* Where and why an image has no vector. */
+/* Where and why a file has no vector. */
 typedef struct cvec_fault {
     uint64_t at;    /* the place of a damage, the position of a record that is none, 0 for another fault */
-    uint32_t cause; /* an enum cvec_cause */
+    uint32_t cause; /* a cvec_cause */
     uint32_t found; /* the version, the width or the kind that was found, else 0 */
 } cvec_fault;
 
-/* What an image with a vector holds. Who keeps it can append without reading the file again. */
+/* What a file with a vector holds. Who keeps it can append without reading the file again. */
 typedef struct cvec_stat {
     uint64_t size;    /* the records of the vector */
     uint64_t frames;  /* the frames before the closed gate */
@@ -106,24 +128,6 @@ typedef struct cvec_stat {
     uint16_t width;   /* the bytes of one record */
     uint8_t version;  /* 1 or 2 */
 } cvec_stat;
-
-/* One frame. Its records stand one behind the other from first_record on, each of them as in the file (little-endian,
- * with no gaps and no alignment). */
-typedef struct cvec_frame {
-    uint64_t first_record; /* of a frame without records it is next */
-    uint64_t next;         /* the place of the next gate */
-    uint32_t payload_len;  /* bytes */
-    uint32_t growths;      /* of a group; 0 of any other frame */
-    uint32_t records;
-    uint8_t kind; /* an enum cvec_kind */
-} cvec_frame;
-
-/* Consecutive positions of the vector, whose records the file's groups have one behind the other. */
-typedef struct cvec_home {
-    uint64_t position; /* the first */
-    uint64_t place;    /* of its first byte in the file */
-    uint64_t count;    /* how many positions */
-} cvec_home;
 
 /* The record types that are structs. In a file a flagged takes 9 bytes. */
 typedef struct cvec_pair {
@@ -179,150 +183,130 @@ typedef union cvec_bytes64 {
 typedef enum cvec_type { CVEC_TYPES(CVEC_NUMBER) CVEC_TYPE_COUNT } cvec_type;
 #undef CVEC_NUMBER
 
-/* The place of the first gate behind the header, and the bytes of an empty file. */
-#define CVEC_FIRST_GATE 11
-#define CVEC_EMPTY_LEN 12
+/* ---- a file: one writer, by one thread at a time, or a reader. While it is open to be written it is locked (flock). If the process that
+ * opened it ends without a close, it is in use until each process that was forked from it has closed it, has ended or runs another
+ * program. fault may be NULL. By file.c, over system.c and types.c beside it. */
 
-/* The bytes that cvec_image_append writes for so many records of this width. */
-#define CVEC_APPEND_LEN(width, records) (15 + (uint64_t)(width) * (records))
+typedef struct cvec_file cvec_file;
 
-/* ---- libcvec_c.a: proved. `type` is a number of enum cvec_type: another one is CVEC_NOT_SO. Records are their bytes as in a file:
- * one behind the other, the lowest byte first, with no gaps and of any alignment. */
+/* Makes a file of version 1 or 2 (else CVEC_VERSION), and syncs its folder. What is there stays: CVEC_EXISTS; but for what a stopped
+ * creation of this type and version leaves, at most 12 bytes, each 0 or that of the empty file. */
+cvec_status cvec_file_create(cvec_file **file, const char *path, cvec_type type, uint8_t version);
 
-/* Whether these bytes are a file with a vector of this type. CVEC_DONE: *stat says what it holds, and the bytes of its records from
- * position `from` on stand in front of `out`, of *count records, as many as there are and as fit. Or CVEC_UNBORN to CVEC_DAMAGED, the
- * first fault in the order of docs/file/format.md, with *fault; or CVEC_MEMORY. It takes memory for all records, and gives it back. */
-uint32_t cvec_image_read(uint32_t type, const uint8_t *image, size_t len, uint64_t from, uint8_t *out, size_t room, uint64_t *count,
-                         cvec_stat *stat, cvec_fault *fault);
+/* Syncs what is there, reads and checks it: CVEC_DONE, or why not, as cvec_image_read and the system's calls answer. It takes memory
+ * for the bytes of the file and for its records, and gives it back. */
+cvec_status cvec_file_open(cvec_file **file, const char *path, cvec_type type, cvec_fault *fault);
 
-/* The same of bytes that were read while another process writes the file: from the first one on, none before one in front of it, up to
- * where a read finds none; a length that was asked before may cut a frame. Then the records and *stat are the vector of one moment of
- * the reading, and such a file isn't called damaged, also where changes are folded meanwhile. Of a file at which nobody writes it
- * answers what cvec_image_read does. Bytes that stop before the file are CVEC_UNBORN, CVEC_NOT_SEGMENT, or CVEC_DAMAGED by
- * CVEC_CAUSE_NO_GATE or CVEC_CAUSE_SHORT_FRAME: read on. What was seen is on the device once the file is synced behind the last read.
- * It also answers CVEC_NO_RECORD and CVEC_FILE_FULL, and takes twice as much memory. */
-uint32_t cvec_image_look(uint32_t type, const uint8_t *bytes, size_t len, uint64_t from, uint8_t *out, size_t room, uint64_t *count,
-                         cvec_stat *stat, cvec_fault *fault);
+/* To read alone, also while another process writes it, or has it locked: without a lock, and with no leave to write. It reads and checks
+ * it as cvec_file_read does. */
+cvec_status cvec_file_open_to_read(cvec_file **file, const char *path, cvec_type type, cvec_fault *fault);
 
-/* Checks an image as cvec_image_read does, and writes the homes of the vector's positions over out[0 .. *count], each position in one,
- * in order. Where stat->changes <= stat->folded the vector's records are the ones that stand there, so who has mapped the file reads
- * them with no copy; else some have been changed since, and a read tells which records they are. CVEC_NO_ROOM: there are *count of
- * them, more than room. */
-uint32_t cvec_image_homes(uint32_t type, const uint8_t *image, size_t len, cvec_home *out, size_t room, uint64_t *count,
-                          cvec_stat *stat, cvec_fault *fault);
+/* Appends the records as one growth: all of them or none. CVEC_DONE: they are durable. A refusal from CVEC_VERSION to CVEC_NO_RECORD
+ * writes nothing. After CVEC_DISK_WRITE and CVEC_DISK_SYNC the file is broken: it has all of them or none once it is opened again, after
+ * CVEC_DISK_SYNC once the system was restarted too. */
+cvec_status cvec_file_append(cvec_file *file, cvec_type type, const void *records, size_t count);
 
-/* Writes an empty file of this version over out[0 .. CVEC_EMPTY_LEN], and *stat is what it holds. On disk write all but the first byte
- * behind a first byte that isn't 1, sync, write the first, sync: whatever a crash leaves is then CVEC_UNBORN or the empty file.
- * Refused: CVEC_VERSION, CVEC_NO_ROOM. */
-uint32_t cvec_image_empty(uint32_t type, uint8_t version, uint8_t *out, size_t room, cvec_stat *stat);
+/* Copies records from position `from` on, as many as there are and as fit; *count is how many. It takes as much memory as
+ * cvec_file_open. Of a file that is open to be read it answers as cvec_image_look: the vector of one moment of the call, synced before
+ * it is answered. After CVEC_DISK_SYNC that file is broken. */
+cvec_status cvec_file_read(cvec_file *file, cvec_type type, uint64_t from, void *out, size_t room, uint64_t *count, cvec_fault *fault);
 
-/* Writes the frame of these records and the next gate over the first CVEC_APPEND_LEN bytes of out, and *next is what the file holds
- * with them, where *stat is what it holds without. On disk they belong to place stat->gate: write all but the first byte from
- * stat->gate + 1 on, sync, write the first byte at stat->gate, sync. Whatever a crash leaves is then the vector without these records,
- * or with all of them. It takes memory for the records and for the frame.
- * Refused, in this order: CVEC_VERSION, CVEC_WIDTH, CVEC_EMPTY, CVEC_OUT_OF_RANGE, CVEC_TOO_LARGE, CVEC_FILE_FULL and CVEC_NO_ROOM,
- * which count as many records as are whole; then CVEC_NO_RECORD, for bytes of no whole records and for a flag that isn't 0 or 1, or
- * CVEC_MEMORY. */
-uint32_t cvec_image_append(uint32_t type, const cvec_stat *stat, const uint8_t *records, size_t len, uint8_t *out, size_t room,
-                           cvec_stat *next);
+/* What it holds; one that is open to be read, what it held when it was last read: if stat->size > from + *count there were more records
+ * than room. Of a file that is broken, what it held before. */
+cvec_status cvec_file_stat(const cvec_file *file, cvec_stat *stat);
 
-/* The frame whose gate stands at this place of the bytes of a file of this version and width: CVEC_DONE, and *frame says what it has.
- * CVEC_NO_FRAME: no whole open frame of a known kind and the right form begins there. The first gate is at CVEC_FIRST_GATE. */
-uint32_t cvec_image_frame(const uint8_t *image, size_t len, uint64_t at, uint8_t version, uint16_t width, cvec_frame *frame);
+/* Closes the file, and makes the handle NULL; of NULL it does nothing. What was appended stands. In a forked process, which can do
+ * nothing else, the parent's file stays locked. */
+void cvec_file_close(cvec_file **file);
 
-/* ---- the same of records as C has them, not proved: over libcvec_c.a, and over cvec_file.c where records are passed */
-
-/* `room` and `count` are of records, and *count too. */
-uint32_t cvec_read_records(cvec_type type, const uint8_t *image, size_t len, uint64_t from, void *out, size_t room, uint64_t *count,
-                           cvec_stat *stat, cvec_fault *fault);
-uint32_t cvec_look_records(cvec_type type, const uint8_t *bytes, size_t len, uint64_t from, void *out, size_t room, uint64_t *count,
-                           cvec_stat *stat, cvec_fault *fault);
-uint32_t cvec_append_records(cvec_type type, const cvec_stat *stat, const void *records, size_t count, uint8_t *out, size_t room,
-                             cvec_stat *next);
-
-/* An image is checked by a read of no records. */
-static inline uint32_t cvec_check_image(cvec_type type, const uint8_t *image, size_t len, cvec_stat *stat, cvec_fault *fault) {
-    uint8_t none[1];
-    uint64_t count;
-    return cvec_image_read((uint32_t)type, image, len, 0, none, 0, &count, stat, fault);
-}
-
-static inline uint32_t cvec_frame_at(const uint8_t *image, size_t len, uint64_t at, uint8_t version, uint16_t width, cvec_frame *frame) {
-    return cvec_image_frame(image, len, at, version, width, frame);
-}
-
-/* For each type of the table cvec_check_TYPE, cvec_read_TYPE, cvec_look_TYPE, cvec_homes_TYPE, cvec_empty_TYPE and cvec_append_TYPE.
- * No function looks at what the bits of a number stand for: any are kept, also those of each NaN. */
-#define CVEC_CALLS(NAME, name, RECORD, WIDTH) \
-    static inline uint32_t cvec_check_##name(const uint8_t *image, size_t len, cvec_stat *stat, cvec_fault *fault) { \
-        return cvec_check_image(CVEC_##NAME, image, len, stat, fault); \
+/* The calls that name records by their type: cvec_file_append_u64, cvec_file_read_pair .. */
+#define CVEC_TYPED(NAME, name, RECORD, WIDTH) \
+    static inline cvec_status cvec_file_append_##name(cvec_file *file, const RECORD *records, size_t count) { \
+        return cvec_file_append(file, CVEC_##NAME, records, count); \
     } \
-    static inline uint32_t cvec_read_##name(const uint8_t *image, size_t len, uint64_t from, RECORD *out, size_t room, uint64_t *count, \
-                                            cvec_fault *fault) { \
-        cvec_stat stat; \
-        return cvec_read_records(CVEC_##NAME, image, len, from, out, room, count, &stat, fault); \
-    } \
-    static inline uint32_t cvec_look_##name(const uint8_t *bytes, size_t len, uint64_t from, RECORD *out, size_t room, uint64_t *count, \
-                                            cvec_stat *stat, cvec_fault *fault) { \
-        return cvec_look_records(CVEC_##NAME, bytes, len, from, out, room, count, stat, fault); \
-    } \
-    static inline uint32_t cvec_homes_##name(const uint8_t *image, size_t len, cvec_home *out, size_t room, uint64_t *count, \
-                                             cvec_stat *stat, cvec_fault *fault) { \
-        return cvec_image_homes(CVEC_##NAME, image, len, out, room, count, stat, fault); \
-    } \
-    static inline uint32_t cvec_empty_##name(uint8_t version, uint8_t *out, size_t room, cvec_stat *stat) { \
-        return cvec_image_empty(CVEC_##NAME, version, out, room, stat); \
-    } \
-    static inline uint32_t cvec_append_##name(const cvec_stat *stat, const RECORD *records, size_t count, uint8_t *out, size_t room, \
-                                              cvec_stat *next) { \
-        return cvec_append_records(CVEC_##NAME, stat, records, count, out, room, next); \
+    static inline cvec_status cvec_file_read_##name(cvec_file *file, uint64_t from, RECORD *out, size_t room, uint64_t *count, \
+                                                    cvec_fault *fault) { \
+        return cvec_file_read(file, CVEC_##NAME, from, out, room, count, fault); \
     }
-CVEC_TYPES(CVEC_CALLS)
-#undef CVEC_CALLS
+CVEC_TYPES(CVEC_TYPED)
+#undef CVEC_TYPED
 
-/* ---- cvec_file.c, over system.c and types.c beside it: the calls of the system, not proved */
+/* Where a growth stands. */
+typedef struct cvec_receipt {
+    uint64_t number; /* how many growths stand before it: since the vector was begun; of a client since its server was started; of the
+                        library's in this phase */
+    uint64_t start;  /* how many records stand before it */
+    uint64_t len;    /* how many it has */
+    uint64_t serial; /* how many growths of its seat stand before it */
+    uint16_t seat;   /* whose growth it is: how many seats were taken before that one, if they are fewer than 65,536; of a client its
+                        number, and 0 of one by descriptors */
+} cvec_receipt;
 
-/* A file that is open for reading and appending, by one thread at a time, in the process that opened it: one that is forked
- * can only close it. Where the one that opened it ends without a close, the file is in use until each of those has closed it, has
- * ended or runs another program. */
-typedef struct cvec_file {
-    int fd;
-    cvec_type type;
-    bool broken;
-    bool read_only;
-    uint64_t process; /* the one that opened it */
-    cvec_stat stat;   /* of one that is read only: what it held when it was last read */
-    uint8_t *bytes;   /* of the last append, to be used again */
-    size_t room;
-} cvec_file;
+/* ---- a server (`cvec serve`) over a file that is there, and its clients, which grow and read its vector by pipes. A server and a client
+ * belong to one thread at a time; the clients may be in many. After CVEC_GONE errno is EPIPE if the server has ended or the client is over,
+ * else the system's reason; a read that the server's end cuts may have written some records. A program that goes on after a server's end
+ * ignores SIGPIPE. By client.c, over system.c and types.c beside it. */
 
-/* Makes a file of version 1, and syncs its folder. What is there stays: CVEC_EXISTS; but for what a stopped creation of this
- * type leaves, at most CVEC_EMPTY_LEN bytes, each 0 or that of the empty file. Where it is refused *file is closed. By this and
- * the next two, standard streams that are closed get /dev/null, where to read and to print fails as before: else the file might
- * have their numbers, and get what another thread prints. */
-uint32_t cvec_create(cvec_file *file, const char *path, cvec_type type);
+typedef struct cvec_server cvec_server;
+typedef struct cvec_client cvec_client; /* a seat of a server */
 
-/* Opens a file and checks it: CVEC_DONE, or why not, as cvec_check_TYPE and the system's calls answer. Nothing is
- * written. It takes memory for the bytes of the file and for its records, and gives it back. Where it is refused *file is
- * closed. */
-uint32_t cvec_open(cvec_file *file, const char *path, cvec_type type, cvec_fault *fault);
+/* Starts `program serve type file --seats=count`, 1 to 64 (else CVEC_TOO_LARGE), with /dev/null as its standard input and output, in a
+ * session of its own: a terminal's Ctrl-C reaches the clients alone, and the server ends when its clients have ended. It is started for
+ * f32 as for u32, and for f64 as for u64: it keeps their bytes. A program that can't be run is one that has ended, with status 127.
+ * If the system refuses pipes (CVEC_DISK_OPEN) or a process (CVEC_GONE), errno says why. */
+cvec_status cvec_server_start(cvec_server **server, const char *program, cvec_type type, const char *file, uint16_t count);
 
-/* Opens a file for reading alone, also while another process writes it, or has it locked: without a lock, and with no leave
- * to write. It reads and checks it as cvec_read does. Where it is refused *file is closed. */
-uint32_t cvec_open_to_read(cvec_file *file, const char *path, cvec_type type, cvec_fault *fault);
+/* The client of this number, from 0 on, which is the caller's from then on. CVEC_NOT_SO: there is none, or it was taken before. */
+cvec_status cvec_server_client(cvec_server *server, uint16_t number, cvec_client **client);
 
-/* Appends the records as one growth: all of them or none. CVEC_DONE: they are durable. A refusal from CVEC_VERSION to
- * CVEC_NO_RECORD writes nothing. Behind CVEC_DISK_WRITE and CVEC_DISK_SYNC the file is broken: opened again, behind
- * CVEC_DISK_SYNC after a restart of the system, it has all of them or none. The records are of the file's type. */
-uint32_t cvec_append(cvec_file *file, const void *records, size_t count);
+/* Ends the clients that nobody has taken, and waits until the server has ended, which it does behind its last client. *exit_status is 0
+ * if all that was grown is durable, and -1 if the signal *signal has ended it, else that is 0; either pointer may be NULL. CVEC_GONE: it
+ * couldn't be waited for. CVEC_FORKED: another process has started it, so this one has closed its copies of those pipes alone. Whatever
+ * it answers, *server is NULL then. */
+cvec_status cvec_server_wait(cvec_server **server, int *exit_status, int *signal);
 
-/* Copies records out, as cvec_read_TYPE does. It takes as much memory as cvec_open. Of a file that is open to be read it
- * answers as cvec_look_TYPE: the vector of one moment of the call, synced before it is answered, and file->stat is what that
- * holds. Where file->stat.size > from + *count there were more records than room. Behind CVEC_DISK_SYNC that file is broken. */
-uint32_t cvec_read(cvec_file *file, uint64_t from, void *out, size_t room, uint64_t *count, cvec_fault *fault);
+/* A client of a server that another program started, by its descriptors here, which the end of the client closes. */
+cvec_status cvec_client_of(cvec_client **client, cvec_type type, int requests, int answers);
 
-/* Closes the file. What was appended stands. A file that is closed may be closed again. */
-void cvec_close(cvec_file *file);
+/* Publishes these records as one growth: others read them from then on; durable they are once they are settled. receipt may be NULL. No
+ * record, and too many, are refused before anything is asked. */
+cvec_status cvec_client_grow(cvec_client *client, cvec_type type, const void *records, size_t count, cvec_receipt *receipt);
+
+/* The two halves of it, for growths that are sent before the answers of earlier ones are taken. A pipe holds few answers that nobody
+ * reads: some 2,700 on Linux. Until they are taken all but a send and the end is CVEC_BUSY, and to take one if none is left is
+ * CVEC_NOT_SO: nothing is sent or waited for then, and the client goes on. CVEC_MEMORY of a send: nothing was sent. */
+cvec_status cvec_client_send(cvec_client *client, cvec_type type, const void *records, size_t count);
+cvec_status cvec_client_take(cvec_client *client, cvec_receipt *receipt);
+
+/* Waits until all that this client grew is durable: so many growths of the server are. */
+cvec_status cvec_client_settle(cvec_client *client, uint64_t *settled);
+
+/* How many records the vector has, with those of other clients, and how many growths of the server are durable. */
+cvec_status cvec_client_look(cvec_client *client, uint64_t *size, uint64_t *settled);
+
+/* Copies records from position `from` on, at most room of them, as far as they stand in one piece: so many. None: the client knows none
+ * there. */
+cvec_status cvec_client_read(cvec_client *client, cvec_type type, uint64_t from, void *out, size_t room, size_t *count);
+
+/* Takes the answers that are left, ends the client, closes its pipes, and makes the handle NULL; of NULL it does nothing. It answers what
+ * the first of these growths was refused for, also if the end is well, and CVEC_GONE if some are never answered. Else CVEC_DONE, also if
+ * the client was over before. */
+cvec_status cvec_client_end(cvec_client **client);
+
+/* Closes its pipes alone, and makes the handle NULL: the server sees their end, if no other process has them. For a forked process,
+ * which has copies of all of its parent's. */
+void cvec_client_close(cvec_client **client);
+
+#define CVEC_TYPED(NAME, name, RECORD, WIDTH) \
+    static inline cvec_status cvec_client_grow_##name(cvec_client *client, const RECORD *records, size_t count, \
+                                                      cvec_receipt *receipt) { \
+        return cvec_client_grow(client, CVEC_##NAME, records, count, receipt); \
+    } \
+    static inline cvec_status cvec_client_read_##name(cvec_client *client, uint64_t from, RECORD *out, size_t room, size_t *count) { \
+        return cvec_client_read(client, CVEC_##NAME, from, out, room, count); \
+    }
+CVEC_TYPES(CVEC_TYPED)
+#undef CVEC_TYPED
 
 /* A number of the calling process: that of none from which it was forked, though the system may give them one and the same, in
  * namespaces of their own. For who keeps beside a file or a vector what a forked process has copies of, as locks. */

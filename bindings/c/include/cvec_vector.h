@@ -33,15 +33,6 @@ extern "C" {
 typedef struct cvec_vector cvec_vector;
 typedef struct cvec_vector_seat cvec_vector_seat;
 
-/* Where a growth stands. */
-typedef struct cvec_receipt {
-    uint64_t number; /* how many growths stand before it, since the vector was begun; of the library's, in this phase */
-    uint64_t start;  /* how many records stand before it */
-    uint64_t len;    /* how many it has */
-    uint64_t serial; /* how many growths of its seat stand before it */
-    uint16_t seat;   /* whose growth it is: how many seats were taken before that one, where they are fewer than 65,536 */
-} cvec_receipt;
-
 /* Makes a file of version 1 or 2, or opens one that is there, for so many seats: 1 to 64. The file is locked (flock) until
  * the vector is closed; a lock that readers share is waited for, 10 seconds. It is the one that has the name then. Any other
  * number than CVEC_DONE leaves *vector NULL. CVEC_EXISTS: what is there stays; a file is made over nothing but what a stopped

@@ -105,7 +105,7 @@ static bool is_no_file(const char *path) {
     return stat(path, &found) == 0 && !S_ISREG(found.st_mode);
 }
 
-uint32_t cvec_system_open(const char *path, int flags, int *fd) {
+cvec_status cvec_system_open(const char *path, int flags, int *fd) {
     *fd = -1;
     if (is_no_file(path)) return CVEC_NOT_FILE;
     *fd = open_path(path, flags);
@@ -114,7 +114,7 @@ uint32_t cvec_system_open(const char *path, int flags, int *fd) {
 
 /* ---- locks */
 
-static uint32_t lock_by(int fd, int operation) {
+static cvec_status lock_by(int fd, int operation) {
     int done;
     do done = flock(fd, operation | LOCK_NB);
     while (was_interrupted(done));
@@ -156,9 +156,9 @@ static void wait_a_turn(lock_wait *wait) {
 }
 
 /* Commands that only read share the lock, and have it for moments: where it can be shared, it is tried again. */
-static uint32_t lock(int fd, lock_wait *wait) {
+static cvec_status lock(int fd, lock_wait *wait) {
     for (;;) {
-        uint32_t answer = lock_by(fd, LOCK_EX);
+        cvec_status answer = lock_by(fd, LOCK_EX);
         if (answer != CVEC_IN_USE || has_waited(wait)) return answer;
         answer = lock_by(fd, LOCK_SH);
         if (answer == CVEC_DONE) answer = lock_by(fd, LOCK_UN);
@@ -167,7 +167,7 @@ static uint32_t lock(int fd, lock_wait *wait) {
     }
 }
 
-static uint32_t ask_file(int fd, struct stat *found) {
+static cvec_status ask_file(int fd, struct stat *found) {
     int done;
     do done = fstat(fd, found);
     while (was_interrupted(done));
@@ -175,10 +175,10 @@ static uint32_t ask_file(int fd, struct stat *found) {
 }
 
 /* Whether the path leads to this file. Where it leads to nothing it doesn't; any other failure is none of the name. */
-static uint32_t ask_name(const char *path, int fd, bool *leads_here) {
+static cvec_status ask_name(const char *path, int fd, bool *leads_here) {
     struct stat opened, named;
     int done;
-    uint32_t answer = ask_file(fd, &opened);
+    cvec_status answer = ask_file(fd, &opened);
     if (answer != CVEC_DONE) return answer;
     do done = stat(path, &named);
     while (was_interrupted(done));
@@ -189,11 +189,11 @@ static uint32_t ask_name(const char *path, int fd, bool *leads_here) {
 
 /* What is written to a file that lost its name while its lock was waited for would be lost. Each time that it did takes a turn, as each
  * try of a lock does. */
-uint32_t cvec_system_open_locked(const char *path, int flags, int *fd) {
+cvec_status cvec_system_open_locked(const char *path, int flags, int *fd) {
     lock_wait wait = begin_lock_wait();
     for (;;) {
         bool leads_here = false;
-        uint32_t answer = cvec_system_open(path, O_RDWR | flags, fd);
+        cvec_status answer = cvec_system_open(path, O_RDWR | flags, fd);
         if (answer != CVEC_DONE) return answer;
         answer = lock(*fd, &wait);
         if (answer == CVEC_DONE) answer = ask_name(path, *fd, &leads_here);
@@ -208,18 +208,18 @@ uint32_t cvec_system_open_locked(const char *path, int flags, int *fd) {
 
 /* ---- what a file is, and its bytes */
 
-uint32_t cvec_system_length(int fd, uint64_t *len) {
+cvec_status cvec_system_length(int fd, uint64_t *len) {
     struct stat found;
-    uint32_t answer = ask_file(fd, &found);
+    cvec_status answer = ask_file(fd, &found);
     if (answer != CVEC_DONE) return answer;
     if (!S_ISREG(found.st_mode)) return CVEC_NOT_FILE;
     *len = (uint64_t)found.st_size;
     return CVEC_DONE;
 }
 
-uint32_t cvec_system_identity(int fd, uint64_t *device, uint64_t *file) {
+cvec_status cvec_system_identity(int fd, uint64_t *device, uint64_t *file) {
     struct stat found;
-    uint32_t answer = ask_file(fd, &found);
+    cvec_status answer = ask_file(fd, &found);
     if (answer != CVEC_DONE) return answer;
     *device = (uint64_t)found.st_dev;
     *file = (uint64_t)found.st_ino;
@@ -255,11 +255,11 @@ static size_t do_all(part_of *part, int fd, void *bytes, size_t len, uint64_t at
     return count;
 }
 
-uint32_t cvec_system_read_at(int fd, uint64_t at, uint8_t *bytes, size_t len) {
+cvec_status cvec_system_read_at(int fd, uint64_t at, uint8_t *bytes, size_t len) {
     return do_all(read_part_at, fd, bytes, len, at, EIO) == len ? CVEC_DONE : CVEC_DISK_READ;
 }
 
-uint32_t cvec_system_read_in_turn(int fd, uint64_t at, uint8_t *bytes, size_t room, size_t *count) {
+cvec_status cvec_system_read_in_turn(int fd, uint64_t at, uint8_t *bytes, size_t room, size_t *count) {
     const size_t done = do_all(read_part_at, fd, bytes, room, at, 0);
     if (done < room && errno != 0) return CVEC_DISK_READ;
     *count = done;
@@ -267,7 +267,7 @@ uint32_t cvec_system_read_in_turn(int fd, uint64_t at, uint8_t *bytes, size_t ro
 }
 
 /* SIGXFSZ, which would end the process, is held back in this thread, and taken. No byte of these is written to. */
-uint32_t cvec_system_write_at(int fd, uint64_t at, const uint8_t *bytes, size_t len) {
+cvec_status cvec_system_write_at(int fd, uint64_t at, const uint8_t *bytes, size_t len) {
     sigset_t too_large, before, pending;
     const struct timespec now = {0, 0};
     sigemptyset(&too_large);
@@ -283,9 +283,9 @@ uint32_t cvec_system_write_at(int fd, uint64_t at, const uint8_t *bytes, size_t 
     return is_done ? CVEC_DONE : CVEC_DISK_WRITE;
 }
 
-uint32_t cvec_system_vacant(int fd, const uint8_t empty[CVEC_EMPTY_LEN], uint64_t *len) {
+cvec_status cvec_system_vacant(int fd, const uint8_t empty[CVEC_EMPTY_LEN], uint64_t *len) {
     uint8_t there[CVEC_EMPTY_LEN];
-    uint32_t answer = cvec_system_length(fd, len);
+    cvec_status answer = cvec_system_length(fd, len);
     if (answer != CVEC_DONE) return answer;
     if (*len > CVEC_EMPTY_LEN) return CVEC_EXISTS;
     answer = cvec_system_read_at(fd, 0, there, (size_t)*len);
@@ -296,14 +296,14 @@ uint32_t cvec_system_vacant(int fd, const uint8_t empty[CVEC_EMPTY_LEN], uint64_
 
 /* ---- syncs */
 
-uint32_t cvec_system_sync(int fd) {
+cvec_status cvec_system_sync(int fd) {
     int done;
     do done = fdatasync(fd);
     while (was_interrupted(done));
     return done == 0 ? CVEC_DONE : CVEC_DISK_SYNC;
 }
 
-uint32_t cvec_system_sync_folder(const char *path) {
+cvec_status cvec_system_sync_folder(const char *path) {
     char *whole = realpath(path, NULL);
     if (whole == NULL) return errno == ENOMEM ? CVEC_MEMORY : CVEC_DISK_OPEN;
     char *name = strrchr(whole, '/');
@@ -327,14 +327,14 @@ static bool is_never_written(int fd) {
     return done == 0 && (found.f_flag & ST_RDONLY) != 0;
 }
 
-uint32_t cvec_system_sync_seen(int fd) {
-    uint32_t answer = cvec_system_sync(fd);
+cvec_status cvec_system_sync_seen(int fd) {
+    cvec_status answer = cvec_system_sync(fd);
     return answer != CVEC_DONE && (errno == EINVAL || errno == EROFS) && is_never_written(fd) ? CVEC_DONE : answer;
 }
 
 /* ---- pipes */
 
-uint32_t cvec_system_pipe(int ends[2]) {
+cvec_status cvec_system_pipe(int ends[2]) {
     take_streams();
     if (pipe2(ends, O_CLOEXEC) != 0) return CVEC_DISK_OPEN;
     for (int k = 0; k < 2; k++) ends[k] = behind_streams(ends[k]);
@@ -344,11 +344,11 @@ uint32_t cvec_system_pipe(int ends[2]) {
     return CVEC_DISK_OPEN;
 }
 
-uint32_t cvec_system_read(int fd, void *bytes, size_t len) {
+cvec_status cvec_system_read(int fd, void *bytes, size_t len) {
     return do_all(read_part, fd, bytes, len, 0, EPIPE) == len ? CVEC_DONE : CVEC_DISK_READ;
 }
 
-uint32_t cvec_system_write(int fd, const void *bytes, size_t len) {
+cvec_status cvec_system_write(int fd, const void *bytes, size_t len) {
     return do_all(write_part, fd, (void *)bytes, len, 0, EPIPE) == len ? CVEC_DONE : CVEC_DISK_WRITE;
 }
 

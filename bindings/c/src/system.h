@@ -1,5 +1,5 @@
 /* What the files beside this one ask the system: tested, not proved. Each call is made whole: where the system does a part only it
- * goes on from there, and one that a signal interrupts is made again. A function answers a number of enum cvec_status; where that is
+ * goes on from there, and one that a signal interrupts is made again. A function answers a cvec_status; where that is
  * one from CVEC_DISK_OPEN to CVEC_DISK_SYNC, errno has the reason. What closes something leaves errno as it was.
  *
  * A descriptor that is opened here is none of a program that another thread starts, and never has the number of a standard stream: it
@@ -8,7 +8,7 @@
 #ifndef CVEC_SYSTEM_H
 #define CVEC_SYSTEM_H
 
-#include "cvec.h"
+#include "cvec/proved.h"
 
 #pragma GCC visibility push(hidden)
 
@@ -16,11 +16,11 @@
 
 /* Opens by the flags of open(2). CVEC_NOT_FILE: a folder, a pipe or a device has the name; to open one may wait, or do more. Where it
  * is refused *fd is -1, here and below. */
-uint32_t cvec_system_open(const char *path, int flags, int *fd);
+cvec_status cvec_system_open(const char *path, int flags, int *fd);
 
 /* Opens the file to which the path leads, to be read and written, and locks it (flock). A lock that readers share is waited for, 10
  * seconds; while it is waited for, another file may be put in the place of this one: what is opened has the name then. */
-uint32_t cvec_system_open_locked(const char *path, int flags, int *fd);
+cvec_status cvec_system_open_locked(const char *path, int flags, int *fd);
 
 /* Leaves the lock to a forked process, or to the parent of this one. */
 void cvec_system_close(int fd);
@@ -30,38 +30,38 @@ void cvec_system_close(int fd);
 void cvec_system_close_unlocked(int fd);
 
 /* How many bytes the file has. CVEC_NOT_FILE: it is none. */
-uint32_t cvec_system_length(int fd, uint64_t *len);
+cvec_status cvec_system_length(int fd, uint64_t *len);
 
 /* Which file it is: the number of its device, and its own there. */
-uint32_t cvec_system_identity(int fd, uint64_t *device, uint64_t *file);
+cvec_status cvec_system_identity(int fd, uint64_t *device, uint64_t *file);
 
 /* A file that ends before it has so many bytes was cut meanwhile: CVEC_DISK_READ. */
-uint32_t cvec_system_read_at(int fd, uint64_t at, uint8_t *bytes, size_t len);
+cvec_status cvec_system_read_at(int fd, uint64_t at, uint8_t *bytes, size_t len);
 
 /* Of a file that another process may write: from that place on, no byte before one in front of it, until a read finds none or all
  * room is filled. *count is how many: fewer than room where the file ends. */
-uint32_t cvec_system_read_in_turn(int fd, uint64_t at, uint8_t *bytes, size_t room, size_t *count);
+cvec_status cvec_system_read_in_turn(int fd, uint64_t at, uint8_t *bytes, size_t room, size_t *count);
 
 /* Past the greatest size of a file it fails by EFBIG, and the process lives. */
-uint32_t cvec_system_write_at(int fd, uint64_t at, const uint8_t *bytes, size_t len);
+cvec_status cvec_system_write_at(int fd, uint64_t at, const uint8_t *bytes, size_t len);
 
-uint32_t cvec_system_sync(int fd);
+cvec_status cvec_system_sync(int fd);
 
 /* The folder of this file: a new name is durable only then. */
-uint32_t cvec_system_sync_folder(const char *path);
+cvec_status cvec_system_sync_folder(const char *path);
 
 /* So that what was read is on the device. What can't be written is there, and such a file system may know no sync. */
-uint32_t cvec_system_sync_seen(int fd);
+cvec_status cvec_system_sync_seen(int fd);
 
 /* Whether the file has nothing but what a stopped creation of the one with these bytes leaves: at most as many, each of them 0 or the
  * one that it has there, and the first of several 0. CVEC_EXISTS: others are somebody's. */
-uint32_t cvec_system_vacant(int fd, const uint8_t empty[CVEC_EMPTY_LEN], uint64_t *len);
+cvec_status cvec_system_vacant(int fd, const uint8_t empty[CVEC_EMPTY_LEN], uint64_t *len);
 
 /* ---- pipes: where the other end is closed, a call fails by EPIPE */
 
-uint32_t cvec_system_pipe(int ends[2]);
-uint32_t cvec_system_read(int fd, void *bytes, size_t len);
-uint32_t cvec_system_write(int fd, const void *bytes, size_t len);
+cvec_status cvec_system_pipe(int ends[2]);
+cvec_status cvec_system_read(int fd, void *bytes, size_t len);
+cvec_status cvec_system_write(int fd, const void *bytes, size_t len);
 
 /* /dev/null as it is, for a process that is to have it as a standard stream: its descriptor, or -1. */
 int cvec_system_open_null(int flags);

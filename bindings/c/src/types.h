@@ -2,7 +2,7 @@
 #ifndef CVEC_TYPES_H
 #define CVEC_TYPES_H
 
-#include "cvec.h"
+#include "cvec/proved.h"
 
 #pragma GCC visibility push(hidden)
 

@@ -8,13 +8,13 @@
 //! ```
 #![deny(unsafe_op_in_unsafe_fn)]
 
-use std::cell::UnsafeCell;
-use std::ffi::{CStr, CString, c_char, c_int};
+use std::ffi::{CStr, CString, c_char};
 use std::fmt;
 use std::io;
 use std::marker::PhantomData;
 use std::os::unix::ffi::OsStrExt;
 use std::path::Path;
+use std::ptr;
 
 /// A key and a number of either sign.
 #[repr(C)]
@@ -124,16 +124,10 @@ fn told(status: u32, fault: Fault) -> Result<(), Error> {
     if status == 0 { Ok(()) } else { Err(Error { status, fault, errno }) }
 }
 
+/// What C has of a file.
 #[repr(C)]
 struct RawFile {
-    fd: c_int,
-    kind: u32,
-    broken: bool,
-    read_only: bool,
-    process: u64,
-    stat: Stat,
-    bytes: *mut u8,
-    room: usize,
+    hidden: [u8; 0],
 }
 
 unsafe extern "C" {
@@ -141,12 +135,15 @@ unsafe extern "C" {
         kind: u32, image: *const u8, len: usize, from: u64, out: *mut u8, room: usize, count: *mut u64, stat: *mut Stat, fault: *mut Fault,
     ) -> u32;
     fn cvec_image_frame(image: *const u8, len: usize, at: u64, version: u8, width: u16, frame: *mut Frame) -> u32;
-    fn cvec_create(file: *mut RawFile, path: *const c_char, kind: u32) -> u32;
-    fn cvec_open(file: *mut RawFile, path: *const c_char, kind: u32, fault: *mut Fault) -> u32;
-    fn cvec_open_to_read(file: *mut RawFile, path: *const c_char, kind: u32, fault: *mut Fault) -> u32;
-    fn cvec_append(file: *mut RawFile, records: *const u8, count: usize) -> u32;
-    fn cvec_read(file: *mut RawFile, from: u64, out: *mut u8, room: usize, count: *mut u64, fault: *mut Fault) -> u32;
-    fn cvec_close(file: *mut RawFile);
+    fn cvec_file_create(file: *mut *mut RawFile, path: *const c_char, kind: u32, version: u8) -> u32;
+    fn cvec_file_open(file: *mut *mut RawFile, path: *const c_char, kind: u32, fault: *mut Fault) -> u32;
+    fn cvec_file_open_to_read(file: *mut *mut RawFile, path: *const c_char, kind: u32, fault: *mut Fault) -> u32;
+    fn cvec_file_append(file: *mut RawFile, kind: u32, records: *const u8, count: usize) -> u32;
+    fn cvec_file_read(
+        file: *mut RawFile, kind: u32, from: u64, out: *mut u8, room: usize, count: *mut u64, fault: *mut Fault,
+    ) -> u32;
+    fn cvec_file_stat(file: *const RawFile, stat: *mut Stat) -> u32;
+    fn cvec_file_close(file: *mut *mut RawFile);
     fn cvec_status_text(status: u32) -> *const c_char;
     fn cvec_cause_text(cause: u32) -> *const c_char;
 }
@@ -210,17 +207,13 @@ pub fn frame_at(image: &[u8], at: u64, version: u8, width: u16) -> Option<Frame>
 /// A file that is open for reading and appending, by the process that opened it; by `open_to_read` for reading alone. It says
 /// how wide its records are and not of which type: one of `u64` is opened as `i64` too.
 pub struct File<R: Record> {
-    /// A read changes what is known of a file that another process writes.
-    raw: UnsafeCell<RawFile>,
+    /// Not `Sync`: a read changes what is known of a file that another process writes.
+    raw: *mut RawFile,
     of: PhantomData<R>,
 }
 
 // SAFETY: its memory is malloc's, which any thread may free, and no thread has a part of it.
 unsafe impl<R: Record> Send for File<R> {}
-
-fn closed() -> RawFile {
-    RawFile { fd: -1, kind: 0, broken: true, read_only: false, process: 0, stat: Stat::default(), bytes: std::ptr::null_mut(), room: 0 }
-}
 
 /// A path with a zero byte is none that the system has a name for.
 fn name_of(path: &Path) -> Result<CString, Error> {
@@ -236,42 +229,45 @@ fn room_for<R: Record>(count: usize) -> Result<Vec<R>, Error> {
 }
 
 impl<R: Record> File<R> {
-    fn over(raw: RawFile) -> File<R> {
-        File { raw: UnsafeCell::new(raw), of: PhantomData }
-    }
-
     /// Makes a file of version 1. One that is there stays, and is refused.
     pub fn create(path: &Path) -> Result<File<R>, Error> {
+        File::create_as(path, 1)
+    }
+
+    /// Makes a file of version 1 or 2.
+    pub fn create_as(path: &Path, version: u8) -> Result<File<R>, Error> {
         let name = name_of(path)?;
-        let mut raw = closed();
-        // SAFETY: the name ends with a zero, and lasts for the call; what is refused leaves a closed file.
-        let status = unsafe { cvec_create(&mut raw, name.as_ptr(), R::KIND) };
-        told(status, Fault::default()).map(|()| File::over(raw))
+        let mut raw = ptr::null_mut();
+        // SAFETY: the name ends with a zero, and lasts for the call; what is refused leaves no file.
+        let status = unsafe { cvec_file_create(&mut raw, name.as_ptr(), R::KIND, version) };
+        told(status, Fault::default()).map(|()| File { raw, of: PhantomData })
     }
 
     /// Opens a file, and checks it.
     pub fn open(path: &Path) -> Result<File<R>, Error> {
         let name = name_of(path)?;
-        let (mut raw, mut fault) = (closed(), Fault::default());
+        let (mut raw, mut fault) = (ptr::null_mut(), Fault::default());
         // SAFETY: as above.
-        let status = unsafe { cvec_open(&mut raw, name.as_ptr(), R::KIND, &mut fault) };
-        told(status, fault).map(|()| File::over(raw))
+        let status = unsafe { cvec_file_open(&mut raw, name.as_ptr(), R::KIND, &mut fault) };
+        told(status, fault).map(|()| File { raw, of: PhantomData })
     }
 
     /// Opens a file for reading alone, and checks it: also while another process writes it, without a lock, and with no leave
     /// to write.
     pub fn open_to_read(path: &Path) -> Result<File<R>, Error> {
         let name = name_of(path)?;
-        let (mut raw, mut fault) = (closed(), Fault::default());
+        let (mut raw, mut fault) = (ptr::null_mut(), Fault::default());
         // SAFETY: as above.
-        let status = unsafe { cvec_open_to_read(&mut raw, name.as_ptr(), R::KIND, &mut fault) };
-        told(status, fault).map(|()| File::over(raw))
+        let status = unsafe { cvec_file_open_to_read(&mut raw, name.as_ptr(), R::KIND, &mut fault) };
+        told(status, fault).map(|()| File { raw, of: PhantomData })
     }
 
     /// What the file holds; one that is open to be read, when it was last read.
     pub fn stat(&self) -> Stat {
-        // SAFETY: no other thread has the file (it isn't `Sync`), and no call is at it.
-        unsafe { (*self.raw.get()).stat }
+        let mut stat = Stat::default();
+        // SAFETY: no other thread has the file (it isn't `Sync`), which is open: so it isn't refused.
+        unsafe { cvec_file_stat(self.raw, &mut stat) };
+        stat
     }
 
     /// How many records those are.
@@ -285,8 +281,8 @@ impl<R: Record> File<R> {
 
     /// Appends the records as one growth: durable when it returns, and all of them or none whatever happens.
     pub fn append(&mut self, records: &[R]) -> Result<(), Error> {
-        // SAFETY: the file is of this type, and the pointer and the length are those of one slice.
-        let status = unsafe { cvec_append(self.raw.get_mut(), records.as_ptr().cast(), records.len()) };
+        // SAFETY: the pointer and the length are those of one slice of this type.
+        let status = unsafe { cvec_file_append(self.raw, R::KIND, records.as_ptr().cast(), records.len()) };
         told(status, Fault::default())
     }
 
@@ -297,7 +293,8 @@ impl<R: Record> File<R> {
             let mut out = room_for::<R>(self.left(from).saturating_add(slack))?;
             let (mut count, mut fault) = (0, Fault::default());
             // SAFETY: as above; what is written are records of the type.
-            let status = unsafe { cvec_read(self.raw.get(), from, out.as_mut_ptr().cast(), out.len(), &mut count, &mut fault) };
+            let status =
+                unsafe { cvec_file_read(self.raw, R::KIND, from, out.as_mut_ptr().cast(), out.len(), &mut count, &mut fault) };
             told(status, fault)?;
             // One that is only read may have grown. It is read again, as all of it is of one moment; with room for what comes
             // meanwhile, or it would never end beside one who appends without rest.
@@ -317,6 +314,6 @@ impl<R: Record> File<R> {
 impl<R: Record> Drop for File<R> {
     fn drop(&mut self) {
         // SAFETY: it is closed once, here.
-        unsafe { cvec_close(self.raw.get_mut()) }
+        unsafe { cvec_file_close(&mut self.raw) }
     }
 }

@@ -25,10 +25,10 @@ abbrev pub IsMadeAs : ℕ → Option Format → Type 0
 IsMadeAs version None = version ≡ 0
 IsMadeAs version (Some format) = version ≡ version_of format
 
--- why it isn't so: the file is refused, and what is left of it; or there is no such version, and the handle is as it was
-abbrev pub IsNotBegun : ℕ → ℕ → Option End → Option End → Type 0
-IsNotBegun version code old new =
-    Refused (λ refusal. AtAny (λ _ _ _. RefusesBeginning refusal)) code old new
+-- why it isn't so: the file is refused for a reason that its bytes, the room or the seats give, or for memory, and what is left of it; or there is no such version, and the handle is as it was
+abbrev pub IsNotBegun : ℕ → ℕ → ℕ → ℕ → Option End → Option End → Type 0
+IsNotBegun version growths seats code old new =
+    ((made : Option Format) × IsMadeAs version made × Refused (λ refusal. AtAny (λ _ _ _. RefusesBeginning made growths seats refusal)) code old new)
     ⊎ ((version ≢ 0) × (version ≢ 1) × (version ≢ 2) × (code ≡ code_of NotSo) × (new ≡ old))
 
 -- the handle has what it had, or nothing

@@ -74,7 +74,7 @@ pub extern "C" fn cvec_phase_begin(
 ) -> u32
     ensures begins { result ≡ 0 → (made : Option Format) × IsMadeAs version made × HasBegun made growths seats (end_of file.old) (end_of file.new) (end_of phase.new) }
     ensures may { result ≡ 0 → MayBeginWide growths seats }
-    ensures refused { result ≢ 0 → IsNotBegun version result (end_of file.old) (end_of file.new) × (end_of phase.new ≡ end_of phase.old) }
+    ensures refused { result ≢ 0 → IsNotBegun version growths seats result (end_of file.old) (end_of file.new) × (end_of phase.new ≡ end_of phase.old) }
 {
     let Some(made) = format_of(version) else {
         return Refusal::NotSo.code();

@@ -68,6 +68,10 @@ pub record OpensToFirst {R D : Type 0} (form : Encoding R) (settled : ℕ) (f : 
 abbrev pub ToldIsLeft : {R D : Type 0} → Encoding R → List State → FlusherOf R D → List Raise → Type 0
 ToldIsLeft form states f raises = (raise : Raise) → IsRaiseOf raises raise → (image : List ℕ) → LeftSince states raise.at image → OpensToFirst form raise.count f image
 
+-- each of these raises was made at that moment or before
+abbrev pub AreRaisedBy : ℕ → List Raise → Type 0
+AreRaisedBy moment raises = (raise : Raise) → IsRaiseOf raises raise → raise.at ≤ moment
+
 -- ---- what holds of one
 
 -- what the frames leave once the job in hand is done

@@ -2,6 +2,7 @@
 
 ghost use Rattle.std.specs.Prelude.{◌≡◌, ◌+◌, ◌≤◌, ℕ, List, [], None, Some, MatchOption, length, take, map, slice_get, OnOk, IfErr};
 ghost use Rattle.disk_core.specs.State.{now, IsImage};
+ghost use Rattle.disk_core.specs.Moments.{clock};
 ghost use Rattle.segment_core.specs.Raw.{AreCellsOf};
 ghost use Rattle.pen_core.specs.Pen.{vector_after, stage_of};
 ghost use Rattle.pen_core.specs.Refusals.{first_refusal, ready_lines};
@@ -9,7 +10,7 @@ ghost use Rattle.directory_core.specs.Limits.{place_limit};
 ghost use Rattle.record_core.specs.Limits.{record_limit};
 ghost use Rattle.directory_core.specs.Chain.{total, IsChained, AreBlocks};
 ghost use Rattle.book_core.specs.Marks.{nothing_told};
-ghost use Rattle.flush_core.specs.Flusher.{OpensToJob, ToldIsLeft, list_to, tally_with};
+ghost use Rattle.flush_core.specs.Flusher.{AreRaisedBy, OpensToJob, ToldIsLeft, list_to, tally_with};
 
 use book_core::{Live, Writer};
 use directory_core::Pass;
@@ -138,6 +139,7 @@ impl<R: Record, D: Disk> Flusher<R, D> {
     pub fn disk(&self) -> &D
         ensures disk { result.now ≡ self.now.pen.disk }
         ensures told { D.keeps result.now → ToldIsLeft R.form (D.states result.now) self.now self.now.mark.raises }
+        ensures past { AreRaisedBy (clock (D.states result.now)) self.now.mark.raises }
         ensures images { D.keeps result.now → (image : List ℕ) → IsImage (now (D.states result.now)) image → OpensToJob R.form self.now image }
     {
         self.pen.disk()

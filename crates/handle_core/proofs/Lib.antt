@@ -2,4 +2,5 @@ mod AsBox
 mod Worked
 mod WorkedBlocks
 mod WorkedBytes
+mod WorkedEnds
 mod GrowthLemmas

@@ -1,5 +1,5 @@
 -- What a call makes of an end of a phase.
-use Rattle.std.specs.Prelude.{◌≡◌, ◌⊎◌, ℕ, ◌+◌, ◌/◌, ◌<◌, ◌≤◌, List, [], ◌∷◌, ◌++◌, length, replicate, None}
+use Rattle.std.specs.Prelude.{◌≡◌, ◌⊎◌, ℕ, ◌+◌, ◌/◌, ◌<◌, ◌≤◌, List, [], ◌∷◌, ◌++◌, length, replicate, true, None}
 use Rattle.std.specs.List.{count_by}
 use Rattle.std.specs.Arc.{arc_value}
 use denote.RawPtr.{Ptr}
@@ -18,15 +18,17 @@ use Rattle.book_core.specs.Growing.{Grown, SeatLearns, SeatIsTold, IsBookRefusal
 use Rattle.book_core.specs.Beginning.{IsNewSeat}
 use Rattle.book_core.specs.Lists.{Seated}
 use Rattle.relay_core.specs.declared.call.Call.{Call}
-use Rattle.relay_core.specs.Listed.{LeadTo}
-use Rattle.phase_core.specs.Grower.{list_of, Copies, IsFoundFrom, equals}
+use Rattle.relay_core.specs.Listed.{LeadThrough}
+use Rattle.relay_core.specs.Making.{IsFollowed}
+use Rattle.phase_core.specs.Grower.{list_of, pieces_of, Copies, IsOfOnePiece, IsFoundFrom, equals}
 use Rattle.phase_core.specs.Grower as growers
 use Rattle.phase_core.specs.Telling.{StandAt, TellsFrom}
 use Rattle.phase_core.specs.declared.grower.Grower.{Grower}
 use Rattle.phase_core.specs.declared.piece.Piece.{Piece}
-use Rattle.phase_core.specs.Committing.{GoesOn, IsUnplanned}
+use Rattle.phase_core.specs.Committing.{GoesOn, IsUnplanned, HostCommits, HostIsTold}
 use Rattle.phase_core.specs.Committer.{calls_of}
 use Rattle.phase_core.specs.HostVault as vaults
+use Rattle.phase_core.specs.Listing.{IsListLost}
 use Rattle.phase_core.specs.declared.phase.Phase.{Phase}
 use Rattle.flush_core.specs.declared.fault.FlushFault.{FlushFault}
 use Rattle.c_core.specs.declared.refusal.Refusal.{Refusal}
@@ -116,11 +118,12 @@ module _ {R : Type 0} {record_of : Record.Ghosts R} {eq_of : PartialEq.Ghosts R}
       (growers.phase_of new ≡ growers.phase_of old) × SeatIsTold old.seat new.seat count state
   Tells count state old new = ⊥
 
-  -- the bytes of so many records of its list from that position on stand in front of the output: of at least one where there is
-  -- one, and room
+  -- the bytes of so many records of its list from that position on stand in front of the output: if there is one, of as many as
+  -- there stand in its piece, and as there is room for
   abbrev pub Reads : ℕ → List ℕ → List ℕ → ℕ → Role R record_of eq_of → Role R record_of eq_of → Type 0
   Reads from before after count (roles.Grower old) (roles.Grower new) =
       (new ≡ old) × Copies record_of.form (list_of old) from before after count
+      × (from < length (list_of old) → IsOfOnePiece (pieces_of old) from (length before / record_of.form.width) count)
       × ((count ≡ 0) → (length (list_of old) ≤ from) ⊎ (length before < record_of.form.width))
   Reads from before after count old new = ⊥
 
@@ -148,19 +151,23 @@ module _ {R : Type 0} {record_of : Record.Ghosts R} {eq_of : PartialEq.Ghosts R}
 
   -- ---- who commits
 
-  -- it lists the calls that commit so many growths more, none only where all that are known are taken, and tells nobody yet
+  -- It lists the calls that commit so many growths more, none only where all that are known are taken, and tells nobody yet. Where
+  -- the host had made all calls before, whatever a crash leaves of its file while it makes these opens to the growths that were
+  -- settled then, and maybe to more of the first.
   abbrev pub Plans : ℕ → Role R record_of eq_of → Role R record_of eq_of → Type 0
   Plans count (roles.Committer old) (roles.Committer new) =
       (arc_value new.live ≡ arc_value old.live) × (new.made ≡ old.made)
-      × GoesOn (λ disk. KeepsSoFar disk.inner) old.flusher new.flusher
+      × GoesOn record_of.form (λ disk. KeepsSoFar disk.inner) (λ disk. states_of disk.inner) old.flusher new.flusher
       × (new.flusher.taken ≡ old.flusher.taken + count) × (new.flusher.taken < length new.flusher.pass.entries → 0 < count) × (new.flusher.pen.job ≡ None)
+      × (KeepsSoFar new.flusher.pen.disk.inner
+      → HostCommits record_of.form (states_of old.flusher.pen.disk.inner) (states_of new.flusher.pen.disk.inner) new.made old.flusher new.flusher)
   Plans count old new = ⊥
 
   -- Why it plans no calls: nothing more was taken then, but where a call has failed; nobody is told anything. Or it is another
   -- end, and is as it was.
   abbrev pub RefusesPlan : Refusal → Role R record_of eq_of → Role R record_of eq_of → Type 0
   RefusesPlan refusal (roles.Committer old) (roles.Committer new) =
-      (arc_value new.live ≡ arc_value old.live) × (new.made ≡ old.made) × GoesOn (λ disk. KeepsSoFar disk.inner) old.flusher new.flusher
+      (arc_value new.live ≡ arc_value old.live) × (new.made ≡ old.made) × GoesOn record_of.form (λ disk. KeepsSoFar disk.inner) (λ disk. states_of disk.inner) old.flusher new.flusher
       × ((fault : FlushFault) × (refusal ≡ of_flush fault) × IsUnplanned fault old.flusher new.flusher)
   RefusesPlan refusal (roles.Committer old) new = ⊥
   RefusesPlan refusal old new = (refusal ≡ NotSo) × (new ≡ old)
@@ -168,26 +175,33 @@ module _ {R : Type 0} {record_of : Record.Ghosts R} {eq_of : PartialEq.Ghosts R}
   -- a call was lost, and nobody is told anything; or it is another end, and is as it was
   abbrev pub RefusesSettle : Refusal → Role R record_of eq_of → Role R record_of eq_of → Type 0
   RefusesSettle refusal (roles.Committer old) (roles.Committer new) =
-      (refusal ≡ Broken) × (arc_value new.live ≡ arc_value old.live) × (new.flusher ≡ old.flusher) × (new.made ≡ old.made)
+      (refusal ≡ Broken) × (old.flusher.pen.disk.lost ≡ true)
+      × (arc_value new.live ≡ arc_value old.live) × (new.flusher ≡ old.flusher) × (new.made ≡ old.made)
   RefusesSettle refusal (roles.Committer old) new = ⊥
-  RefusesSettle refusal (roles.Vault old) (roles.Vault new) = (refusal ≡ Broken) × (new.vault ≡ old.vault) × (new.made ≡ old.made)
+  RefusesSettle refusal (roles.Vault old) (roles.Vault new) =
+      (refusal ≡ Broken) × (old.vault.pen.disk.lost ≡ true) × (new.vault ≡ old.vault) × (new.made ≡ old.made)
   RefusesSettle refusal (roles.Vault old) new = ⊥
   RefusesSettle refusal old new = (refusal ≡ NotSo) × (new ≡ old)
 
-  -- These are the calls that the host hasn't made: they make of the file as it has made it the file as it is to be.
+  -- These are the calls that the host hasn't made. They make of the file as it has made it, state by state, the file as it is to
+  -- be: whatever a crash leaves of the host's file while it makes them, a crash might have left of the disk since. Who commits:
+  -- what the mark told stands also of the host's file.
   abbrev pub Lists : List Call → Role R record_of eq_of → Type 0
   Lists calls (roles.Committer committer) =
-      (calls ≡ calls_of committer)
-      × (KeepsSoFar committer.flusher.pen.disk.inner → LeadTo (states_of committer.flusher.pen.disk.inner) committer.made calls)
+      let disk = committer.flusher.pen.disk.inner in
+      (calls ≡ calls_of committer) × (KeepsSoFar disk → LeadThrough (states_of disk) committer.made calls)
+      × (KeepsSoFar disk → IsFollowed (states_of disk) committer.made calls)
+      × (KeepsSoFar disk → HostIsTold record_of.form (states_of disk) committer.made calls committer.flusher)
   Lists calls (roles.Vault vault) =
-      (calls ≡ vaults.calls_of vault)
-      × (KeepsSoFar vault.vault.pen.disk.inner → LeadTo (states_of vault.vault.pen.disk.inner) vault.made calls)
+      let disk = vault.vault.pen.disk.inner in
+      (calls ≡ vaults.calls_of vault) × (KeepsSoFar disk → LeadThrough (states_of disk) vault.made calls)
+      × (KeepsSoFar disk → IsFollowed (states_of disk) vault.made calls)
   Lists calls role = ⊥
 
   -- a call was lost; or it is no end that lists calls
   abbrev pub RefusesCalls : Refusal → Role R record_of eq_of → Type 0
-  RefusesCalls refusal (roles.Committer committer) = refusal ≡ Broken
-  RefusesCalls refusal (roles.Vault vault) = refusal ≡ Broken
+  RefusesCalls refusal (roles.Committer committer) = (refusal ≡ Broken) × IsListLost committer.made committer.flusher.pen.disk
+  RefusesCalls refusal (roles.Vault vault) = (refusal ≡ Broken) × IsListLost vault.made vault.vault.pen.disk
   RefusesCalls refusal role = refusal ≡ NotSo
 
   -- The host has made all calls, and the growers are told what is in the file by them: so many growths, and nothing else is
@@ -218,7 +232,8 @@ module _ {R : Type 0} {record_of : Record.Ghosts R} {eq_of : PartialEq.Ghosts R}
   -- is another end, and is as it was
   abbrev pub RefusesSeat : Refusal → Role R record_of eq_of → Role R record_of eq_of → Type 0
   RefusesSeat refusal (roles.Phase old) (roles.Phase new) =
-      ((refusal ≡ NotSo) × (arc_value new.live ≡ arc_value old.live) × (new.seats.items ≡ old.seats.items))
+      ((arc_value new.live ≡ arc_value old.live) × (new.seats.items ≡ old.seats.items)
+      × ((refusal ≡ Memory) ⊎ ((refusal ≡ NotSo) × (length old.seats.items ≡ 0))))
       ⊎ ((refusal ≡ Memory) × ((seat : Seated R) × GivesSeat seat old new))
   RefusesSeat refusal (roles.Phase old) new = ⊥
   RefusesSeat refusal old new = (refusal ≡ NotSo) × (new ≡ old)

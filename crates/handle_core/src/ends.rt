@@ -60,7 +60,7 @@ impl End {
     ) -> Result<Box<End>, Refusal>
         ensures begins { IfOk result (λ phase. AllAt (λ _ _ _. Begins made growths seats) phase.value self.old self.new) }
         ensures may { OnOk result (MayBeginWide growths seats) }
-        ensures refused { IfErr result (λ refusal. AtAny (λ _ _ _. RefusesBeginning refusal) self.old self.new) }
+        ensures refused { IfErr result (λ refusal. AtAny (λ _ _ _. RefusesBeginning made growths seats refusal) self.old self.new) }
     {
         let room = Box::new(alloc, End::nothing()).ok();
         let phase = self.begin_file(alloc, made, growths, seats, room.is_some())?;
@@ -85,12 +85,12 @@ impl End {
         ensures begins { IfOk result (λ phase. AllAt (λ _ _ _. Begins made growths seats) phase self.old self.new) }
         ensures may { OnOk result (MayBeginWide growths seats) }
         ensures room { OnOk result (has_room ≡ true) }
-        ensures refused { IfErr result (λ refusal. AtAny (λ _ _ _. RefusesBeginning refusal) self.old self.new) }
+        ensures refused { IfErr result (λ refusal. AtAny (λ _ _ _. RefusesBeginning made growths seats refusal) self.old self.new) }
     {
         end_at!(self, role => role.begin(alloc, made, growths, seats, has_room))
     }
 
-    /// The end of one more thread. `NotSo` where each seat is taken, or there is no memory.
+    /// The end of one more thread. `NotSo` where each seat is taken; `Memory`.
     pub fn seat(&mut self) -> Result<End, Refusal>
         ensures seated { IfOk result (λ seat. AllAt (λ _ _ _. Seats) seat self.old self.new) }
         ensures refused { IfErr result (λ refusal. AtAny (λ _ _ _. RefusesSeat refusal) self.old self.new) }

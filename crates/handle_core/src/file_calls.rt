@@ -2,7 +2,7 @@
 
 ghost use Rattle.std.specs.Prelude.{◌≡◌, [], true, IfOk, IfErr, OnOk, MatchOption};
 ghost use Rattle.book_core.specs.Beginning.{MayBeginWide};
-ghost use Rattle.handle_core.specs.Begins.{HasRead, Feeds, RefusesFeeding, Begins, RefusesBeginning};
+ghost use Rattle.handle_core.specs.Begins.{HasRead, Feeds, RefusesFeeding, Begins, IsBeginRefusal, RefusesBeginning};
 ghost use Rattle.handle_core.specs.Ends.{IsWidth, OfAny, width_of};
 
 use crate::end::{End, Role};
@@ -59,7 +59,7 @@ impl<R: Record> Role<R> {
         ensures begins { IfOk result (λ phase. Begins made growths seats phase self.old self.new) }
         ensures may { OnOk result (MayBeginWide growths seats) }
         ensures room { OnOk result (has_room ≡ true) }
-        ensures refused { IfErr result (λ refusal. RefusesBeginning refusal self.old self.new) }
+        ensures refused { IfErr result (λ refusal. RefusesBeginning made growths seats refusal self.old self.new) }
     {
         match mem::replace(self, Role::Nothing) {
             Role::File(read) => {
@@ -88,7 +88,7 @@ impl<R: Record> Role<R> {
         requires { self.old ≡ Role.Nothing }
         ensures begins { IfOk result (λ phase. Begins made growths seats phase (Role.File read) self.new) }
         ensures may { OnOk result (MayBeginWide growths seats) }
-        ensures refused { IfErr result (λ refusal. RefusesBeginning refusal (Role.File read) self.new) }
+        ensures refused { IfErr result (λ refusal. RefusesBeginning made growths seats refusal (Role.File read) self.new) }
     {
         let (phase, committer) = ends_over(alloc, read, made, growths, seats)?;
         self.put(committer);
@@ -106,6 +106,7 @@ fn ends_over<R: Record>(
 ) -> Result<(Role<R>, Role<R>), Refusal>
     ensures begins { IfOk result (λ ends. Begins made growths seats ends.0 (Role.File read) ends.1) }
     ensures may { OnOk result (MayBeginWide growths seats) }
+    ensures refused { IfErr result (IsBeginRefusal R.form made read.items growths seats) }
 {
     match made {
         Some(format) => match Phase::create(alloc, read, format, growths, seats) {

@@ -1,10 +1,13 @@
+mod ListLemmas
 mod LogLeft
 mod GoesOnLemmas
 mod WrittenLemmas
 mod PieceLemmas
 mod TellLemmas
 mod RoomLemmas
+mod BeginLemmas
 mod ReadLemmas
 mod GrowerSame
 mod Worked
 mod WorkedTelling
+mod WorkedCommitting

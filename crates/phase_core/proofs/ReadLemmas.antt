@@ -1,12 +1,13 @@
--- A read of a piece by its bytes is one of the list.
-use Rattle.std.proofs.Common.{◌≡◌, ◌≤◌, ◌-◌, ◌*◌, ◌/◌, ◌++◌, ℕ, List, length, take, drop, ap, ◌∙◌, arith}
+-- A read of a piece by its bytes is one of the list, of as much of the piece as there is room for.
+use Rattle.std.proofs.Common.{◌≡◌, ◌≤◌, ◌-◌, ◌*◌, ◌/◌, ◌++◌, ℕ, List, length, min, take, drop, ap, ◌∙◌, arith}
 use Rattle.std.specs.List.{flat_map}
 use Rattle.std.proofs.Math.Nat.{min-le_left, min-le_right, div-mul-le_self, mul-le-mul_right}
 use Rattle.std.proofs.lemmas.List.{length-take, take-take}
 use Rattle.record_core.specs.Bytes.{Encoding}
 use Rattle.directory_core.specs.Finding.{IsPieceAt}
 use Rattle.c_core.specs.Records.{AreWritten}
-use Rattle.phase_core.specs.Grower.{Copies}
+use Rattle.book_core.specs.Lists.{IsRestOfPiece}
+use Rattle.phase_core.specs.Grower.{Copies, IsOfOnePiece}
 
 pub copies : {R : Type 0} (form : Encoding R) (list piece : List R) (from : ℕ) (old new : List ℕ) (count : ℕ)
     → IsPieceAt list from piece → AreWritten form piece 0 old new count → Copies form list from old new count
@@ -22,3 +23,10 @@ copies form list piece from old new count at are =
       inside = (fits, omega (arith, few, long));
       is = are.written ∙ ap (λ rs. flat_map form.bytes_of rs ++ drop (count * form.width) old) same;
     }
+
+pub of_one_piece : {R : Type 0} (form : Encoding R) (pieces : List (List R)) (piece : List R) (from : ℕ) (old new : List ℕ) (count : ℕ)
+    → IsRestOfPiece pieces from piece → AreWritten form piece 0 old new count → IsOfOnePiece pieces from (length old / form.width) count
+of_one_piece form pieces piece from old new count stands are = record { rest = piece; stands = stands; as_many = are.count_is ∙ ap (λ n. min n (length old / form.width)) same }
+  where
+    same : length piece - 0 ≡ length piece
+    same = omega arith

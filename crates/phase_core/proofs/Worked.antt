@@ -1,9 +1,10 @@
 -- Worked examples: what a read leaves, what a change writes, and where a record is found.
-use Rattle.std.proofs.Common.{◌≡◌, ◌⊎◌, ℕ, zero, suc, ◌+◌, ◌<◌, ◌≤◌, List, [], ◌∷◌, refl, inl, inr, ap, arith, slice_get, Option, None, Some}
+use Rattle.std.proofs.Common.{◌≡◌, ◌⊎◌, ℕ, zero, suc, ◌+◌, ◌<◌, ◌≤◌, List, [], ◌∷◌, refl, inl, inr, ap, arith, slice_get, Option, None, Some, length, min, ◌∙◌}
+use Rattle.std.proofs.Math.Nat.{min-le_right}
 use Rattle.std.specs.Int.{w16}
 use Rattle.record_core.specs.Bytes.{Encoding, unsigned}
-use Rattle.phase_core.specs.Grower.{Copies}
-use Rattle.phase_core.specs.Grower.{IsFoundFrom}
+use Rattle.book_core.specs.Lists.{IsRestOfPiece}
+use Rattle.phase_core.specs.Grower.{Copies, IsFoundFrom, IsOfOnePiece}
 use Rattle.phase_core.specs.HostVault.{AreWritten}
 
 -- the bytes of two records from position 1 on stand in front, and behind them what stood there
@@ -28,6 +29,25 @@ three copies = let within = copies.inside.1 in absurd (omega arith)
 
 no_more_than_fit : Copies numbers (5 ∷ 7 ∷ 11 ∷ []) 1 (1 ∷ 2 ∷ 3 ∷ []) (7 ∷ 0 ∷ 11 ∷ []) 2 → ⊥
 no_more_than_fit copies = let within = copies.inside.0 in absurd (omega arith)
+
+-- ---- of how many records a read from position 1 on is, of the pieces 5 7 11 and 13
+
+abbrev pieces : List (List ℕ)
+pieces = (5 ∷ 7 ∷ 11 ∷ []) ∷ (13 ∷ []) ∷ []
+
+-- the two that are left of the first piece, where there is room for three
+rest : IsRestOfPiece pieces 1 (7 ∷ 11 ∷ [])
+rest = record { number = 0; place = 1; piece = 5 ∷ 7 ∷ 11 ∷ []; at = refl; inside = omega arith; before = refl; is = refl }
+
+both : IsOfOnePiece pieces 1 3 2
+both = record { rest = 7 ∷ 11 ∷ []; stands = rest; as_many = refl }
+
+-- not one alone, and no more than there is room for
+no_fewer : (is : IsOfOnePiece pieces 1 3 1) → length is.rest ≡ 2 → ⊥
+no_fewer is two = let n : 1 ≡ 2 = is.as_many ∙ ap (λ n. min n 3) two in absurd (omega (arith, n))
+
+no_more : IsOfOnePiece pieces 1 1 2 → ⊥
+no_more is = let n = is.as_many in let less = min-le_right (length is.rest) 1 in absurd (omega (arith, n, less))
 
 value_of : Option ℕ → ℕ
 value_of None = 0

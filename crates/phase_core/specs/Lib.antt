@@ -8,5 +8,6 @@ pub mod HostCommands
 pub mod Gathering
 pub mod Room
 pub mod Sharing
+pub mod Beginning
 pub mod Folding
 pub mod Host

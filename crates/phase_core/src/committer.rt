@@ -1,11 +1,13 @@
 //! Who commits for all threads of a phase.
 
-ghost use Rattle.std.specs.Prelude.{◌≡◌, ◌+◌, ◌<◌, length, None, IsNone, IfOk, IfErr, IfSome, OnOk, MatchResult};
+ghost use Rattle.std.specs.Prelude.{◌≡◌, ◌+◌, ◌<◌, length, None, true, IsNone, IfOk, IfErr, IfSome, OnOk, MatchResult};
 ghost use Rattle.std.specs.Arc.{arc_value};
 ghost use Rattle.disk_core.specs.Moments.{clock};
-ghost use Rattle.flush_core.specs.Flusher.{IsFlusherOf, ToldIsLeft};
-ghost use Rattle.relay_core.specs.Listed.{LeadTo};
-ghost use Rattle.phase_core.specs.Committing.{GoesOn, IsCallFault, IsUnplanned};
+ghost use Rattle.flush_core.specs.Flusher.{AreRaisedBy, IsFlusherOf, ToldIsLeft};
+ghost use Rattle.relay_core.specs.Listed.{LeadThrough};
+ghost use Rattle.relay_core.specs.Making.{IsFollowed};
+ghost use Rattle.phase_core.specs.Listing.{IsListLost};
+ghost use Rattle.phase_core.specs.Committing.{GoesOn, IsCallFault, IsUnplanned, HostCommits, HostIsTold};
 
 use crate::listing::list_from;
 use book_core::Live;
@@ -25,16 +27,20 @@ pub struct Committer<R: Record, D: Disk> {
     /// The moment of the disk up to which the host has made its calls.
     pub(crate) made: u64,
     ghost of: { IsFlusherOf (D.keeps flusher.pen.disk.inner) (arc_value live) flusher },
+    /// Nobody was told anything since.
+    ghost past: { AreRaisedBy made flusher.mark.raises },
 }
 
 /// Makes the calls of the job in hand.
 fn settle_job<R: Record, D: Disk>(flusher: &mut Flusher<R, RelayDisk<D>>) -> Result<(), FlushFault>
-    ensures goes_on { GoesOn (λ disk. D.keeps disk.inner) flusher.old flusher.new }
+    ensures goes_on { GoesOn R.form (λ disk. D.keeps disk.inner) (λ disk. D.states disk.inner) flusher.old flusher.new }
     ensures taken { flusher.new.taken ≡ flusher.old.taken }
     ensures pass { flusher.new.pass ≡ flusher.old.pass }
     ensures idle { OnOk result (flusher.new.pen.job ≡ None) }
     ensures refused { IfErr result IsCallFault }
 {
+    // What the disk may leave before the first call opens too.
+    let _disk = flusher.disk();
     while flusher.tick(Lane::Log)? == Tick::Step {}
     Ok(())
 }
@@ -45,13 +51,14 @@ fn take<R: Record, D: Disk>(
     live: &Live<R>,
 ) -> Result<u64, FlushFault>
     requires { IsFlusherOf (D.keeps flusher.old.pen.disk.inner) live.now flusher.old }
-    ensures goes_on { GoesOn (λ disk. D.keeps disk.inner) flusher.old flusher.new }
+    ensures goes_on { GoesOn R.form (λ disk. D.keeps disk.inner) (λ disk. D.states disk.inner) flusher.old flusher.new }
     ensures taken { MatchResult result
         (λ count. flusher.new.taken ≡ flusher.old.taken + count)
         (λ _. flusher.new.taken ≡ flusher.old.taken) }
     ensures some { IfOk result (λ count. flusher.old.taken < length flusher.old.pass.entries → 0 < count) }
     ensures pass { OnOk result (flusher.new.pass ≡ flusher.old.pass) }
 {
+    let _disk = flusher.disk();
     flusher.take_group(live)
 }
 
@@ -61,10 +68,11 @@ fn learn<R: Record, D: Disk>(
     live: &Live<R>,
 ) -> Result<(), FlushFault>
     requires { IsFlusherOf (D.keeps flusher.old.pen.disk.inner) live.now flusher.old }
-    ensures goes_on { GoesOn (λ disk. D.keeps disk.inner) flusher.old flusher.new }
+    ensures goes_on { GoesOn R.form (λ disk. D.keeps disk.inner) (λ disk. D.states disk.inner) flusher.old flusher.new }
     ensures of { IsFlusherOf (D.keeps flusher.new.pen.disk.inner) live.now flusher.new }
     ensures taken { flusher.new.taken ≡ flusher.old.taken }
 {
+    let _disk = flusher.disk();
     flusher.look(live)?;
     Ok(())
 }
@@ -75,7 +83,7 @@ fn commit<R: Record, D: Disk>(
     live: &Live<R>,
 ) -> Result<u64, FlushFault>
     requires { IsFlusherOf (D.keeps flusher.old.pen.disk.inner) live.now flusher.old }
-    ensures goes_on { GoesOn (λ disk. D.keeps disk.inner) flusher.old flusher.new }
+    ensures goes_on { GoesOn R.form (λ disk. D.keeps disk.inner) (λ disk. D.states disk.inner) flusher.old flusher.new }
     ensures taken { IfOk result (λ count. flusher.new.taken ≡ flusher.old.taken + count) }
     ensures some { IfOk result (λ count. flusher.new.taken < length flusher.new.pass.entries → 0 < count) }
     ensures idle { OnOk result (flusher.new.pen.job ≡ None) }
@@ -96,7 +104,8 @@ impl<R: Record, D: Disk> Committer<R, D> {
         flusher: Flusher<R, RelayDisk<D>>,
         made: u64,
     ) -> Committer<R, D>
-        requires { IsFlusherOf (D.keeps flusher.pen.disk.inner) (arc_value live) flusher }
+        requires of { IsFlusherOf (D.keeps flusher.pen.disk.inner) (arc_value live) flusher }
+        requires past { AreRaisedBy made flusher.mark.raises }
         ensures parts { (phase_of result ≡ arc_value live) × (result.flusher ≡ flusher) }
         ensures made { result.made ≡ made }
     {
@@ -108,16 +117,19 @@ impl<R: Record, D: Disk> Committer<R, D> {
     }
 
     /// Lists the calls that commit what was grown, and answers how many growths they commit: as many as one payload holds, and 0
-    /// only where all that are known are taken.
+    /// only where all that are known are taken. Where the host had made all calls before, whatever a crash leaves of its file
+    /// while it makes these opens to the growths that were settled then, and maybe to more of the first.
     /// Refused as the flusher is: `Strayed`; `Pen(FileFull)` and `Pen(Memory)`, after which it may be called again;
     /// `Pen(Broken)` and `Pen(Disk)`, where a call has failed.
     pub fn plan(&mut self) -> Result<u64, FlushFault>
         ensures phase { phase_of self.new ≡ phase_of self.old }
-        ensures goes_on { GoesOn (λ disk. D.keeps disk.inner) self.old.flusher self.new.flusher }
+        ensures goes_on { GoesOn R.form (λ disk. D.keeps disk.inner) (λ disk. D.states disk.inner) self.old.flusher self.new.flusher }
         ensures taken { IfOk result (λ count. self.new.flusher.taken ≡ self.old.flusher.taken + count) }
         ensures some { IfOk result (λ count. self.new.flusher.taken < length self.new.flusher.pass.entries → 0 < count) }
         ensures idle { OnOk result (self.new.flusher.pen.job ≡ None) }
         ensures made { self.new.made ≡ self.old.made }
+        ensures host { D.keeps (disk_of self.new).inner → HostCommits R.form (D.states (disk_of self.old).inner)
+            (D.states (disk_of self.new).inner) self.new.made self.old.flusher self.new.flusher }
         ensures refused { IfErr result (λ fault. IsUnplanned fault self.old.flusher self.new.flusher) }
     {
         commit(&mut self.flusher, &self.live)
@@ -128,7 +140,12 @@ impl<R: Record, D: Disk> Committer<R, D> {
     pub fn calls(&self) -> Option<&[Call]>
         ensures are { IfSome result (λ calls. calls.now ≡ calls_of self.now) }
         ensures lead { IfSome result (λ calls.
-            D.keeps (disk_of self.now).inner → LeadTo (D.states (disk_of self.now).inner) self.now.made calls.now) }
+            D.keeps (disk_of self.now).inner → LeadThrough (D.states (disk_of self.now).inner) self.now.made calls.now) }
+        ensures followed { IfSome result (λ calls.
+            D.keeps (disk_of self.now).inner → IsFollowed (D.states (disk_of self.now).inner) self.now.made calls.now) }
+        ensures told { IfSome result (λ calls. D.keeps (disk_of self.now).inner
+            → HostIsTold R.form (D.states (disk_of self.now).inner) self.now.made calls.now self.now.flusher) }
+        ensures lost { IsNone result → IsListLost self.now.made (disk_of self.now) }
     {
         list_from(self.flusher.disk(), self.made)
     }
@@ -142,7 +159,8 @@ impl<R: Record, D: Disk> Committer<R, D> {
         ensures only { IfSome result (λ _. self.new.flusher ≡ record self.old.flusher { mark = self.new.flusher.mark }) }
         ensures left { D.keeps (disk_of self.new).inner
             → ToldIsLeft R.form (D.states (disk_of self.new).inner) self.new.flusher self.new.flusher.mark.raises }
-        ensures lost { IsNone result → (self.new.flusher ≡ self.old.flusher) × (self.new.made ≡ self.old.made) }
+        ensures lost { IsNone result → (self.new.flusher ≡ self.old.flusher) × (self.new.made ≡ self.old.made)
+            × ((disk_of self.old).lost ≡ true) }
     {
         let moment = self.flusher.disk().moment()?;
         self.flusher.disk().finish();

@@ -68,6 +68,7 @@ impl<R: Record, D: Disk> Committer<R, D> {
     /// Ends the phase whose other ends are closed: all growths are in the vault then. The calls that the host hasn't made it
     /// still has to make. Refused, in this order, with who commits as it was, but that it may have learned what was grown:
     /// `Shared`, while another end isn't closed; `Broken`; `Strayed`; `Unsettled`; `Memory`.
+    #[tactic(auto, using(crate::proofs::GoesOnLemmas::same_raised))]
     pub fn gather(self, alloc: Global) -> Result<HostVault<R, D>, (Committer<R, D>, GatherFault)>
         ensures gathers { IfOk result (Gathers self) }
         ensures refused { IfErr result (λ r. RefusesGather r.1 self r.0) }

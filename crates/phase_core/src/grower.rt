@@ -1,6 +1,6 @@
 //! A thread's own end of a phase.
 
-ghost use Rattle.std.specs.Prelude.{◌≡◌, ◌<◌, ◌≤◌, ◌⊎◌, length, IfErr, MatchResult};
+ghost use Rattle.std.specs.Prelude.{◌≡◌, ◌/◌, ◌<◌, ◌≤◌, ◌⊎◌, length, IfErr, MatchResult};
 ghost use Rattle.std.specs.List.{count_by};
 ghost use Rattle.std.specs.Arc.{arc_value};
 ghost use Rattle.book_core.specs.Lists.{IsSeatOf, seat_list};
@@ -49,7 +49,7 @@ fn tell<R: Record>(live: &Live<R>, seat: &mut Seat<R>, from: u64, out: &mut [Pie
 }
 
 impl<R: Record> Grower<R> {
-    ghost use Rattle.phase_core.specs.Grower.{phase_of, list_of, Copies, IsFoundFrom, equals};
+    ghost use Rattle.phase_core.specs.Grower.{phase_of, list_of, pieces_of, Copies, IsOfOnePiece, IsFoundFrom, equals};
 
     pub(crate) fn new(live: Arc<Live<R>, Global>, seat: Seat<R>) -> Grower<R>
         requires { IsSeatOf (arc_value live) seat }
@@ -92,10 +92,12 @@ impl<R: Record> Grower<R> {
 
     /// Copies the bytes of records from position `from` on to the front of `out`, and answers of how many: as many as stand in one
     /// piece there, at least one where it knows one there and `out` has room.
-    #[tactic(auto, using(crate::proofs::ReadLemmas::copies))]
+    #[tactic(auto, using(crate::proofs::ReadLemmas::copies, crate::proofs::ReadLemmas::of_one_piece))]
     pub fn read(&mut self, from: u64, out: &mut [u8]) -> u64
         ensures same { self.new ≡ self.old }
         ensures copies { Copies R.form (list_of self.old) from out.old out.new result }
+        ensures as_many { from < length (list_of self.old)
+            → IsOfOnePiece (pieces_of self.old) from (length out.old / R.form.width) result }
         ensures some { (result ≡ 0) → (length (list_of self.old) ≤ from) ⊎ (length out.old < R.form.width) }
     {
         match self.live.piece(&mut self.seat, from) {

@@ -1,8 +1,10 @@
 //! A vault over a file whose calls a host makes.
 
-ghost use Rattle.std.specs.Prelude.{◌≡◌, length, IfOk, IfErr, IfSome, IsNone};
+ghost use Rattle.std.specs.Prelude.{◌≡◌, length, true, IfOk, IfErr, IfSome, IsNone};
 ghost use Rattle.disk_core.specs.Moments.{clock};
-ghost use Rattle.relay_core.specs.Listed.{LeadTo};
+ghost use Rattle.relay_core.specs.Listed.{LeadThrough};
+ghost use Rattle.relay_core.specs.Making.{IsFollowed};
+ghost use Rattle.phase_core.specs.Listing.{IsListLost};
 ghost use Rattle.phase_core.specs.Folding.{Folds, RefusesFold};
 
 use crate::folding::fold_whole;
@@ -63,7 +65,10 @@ impl<R: Record, D: Disk> HostVault<R, D> {
     pub fn calls(&self) -> Option<&[Call]>
         ensures are { IfSome result (λ calls. calls.now ≡ calls_of self.now) }
         ensures lead { IfSome result (λ calls.
-            D.keeps (disk_of self.now).inner → LeadTo (D.states (disk_of self.now).inner) self.now.made calls.now) }
+            D.keeps (disk_of self.now).inner → LeadThrough (D.states (disk_of self.now).inner) self.now.made calls.now) }
+        ensures followed { IfSome result (λ calls.
+            D.keeps (disk_of self.now).inner → IsFollowed (D.states (disk_of self.now).inner) self.now.made calls.now) }
+        ensures lost { IsNone result → IsListLost self.now.made (disk_of self.now) }
     {
         list_from(self.vault.disk(), self.made)
     }
@@ -72,7 +77,7 @@ impl<R: Record, D: Disk> HostVault<R, D> {
     pub fn settle(&mut self) -> Option<()>
         ensures vault { self.new.vault ≡ self.old.vault }
         ensures made { IfSome result (λ _. self.new.made ≡ clock (D.states (disk_of self.new).inner)) }
-        ensures lost { IsNone result → self.new.made ≡ self.old.made }
+        ensures lost { IsNone result → (self.new.made ≡ self.old.made) × ((disk_of self.old).lost ≡ true) }
     {
         let moment = self.vault.disk().moment()?;
         self.vault.disk().finish();

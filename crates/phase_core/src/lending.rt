@@ -1,17 +1,18 @@
 //! How a vault is lent to a phase.
 
-ghost use Rattle.std.specs.Prelude.{◌≡◌, length, IfOk, IfErr, IfSome, OnOk};
+ghost use Rattle.std.specs.Prelude.{◌≡◌, None, false, length, IfOk, IfErr, IfSome, OnOk};
 ghost use Rattle.std.specs.Arc.{arc_value};
 ghost use Rattle.book_core.specs.Beginning.{AreNewSeats, MayBeginWide};
-ghost use Rattle.flush_core.specs.Flusher.{IsFlusherOf};
+ghost use Rattle.flush_core.specs.Flusher.{AreRaisedBy, IsFlusherOf};
 ghost use Rattle.vault_core.specs.Sharing.{Shares, IsWideShareFault};
+ghost use Rattle.phase_core.specs.Beginning.{IsLendRefusal};
 ghost use Rattle.phase_core.specs.Room.{IsRoomFor};
 ghost use Rattle.phase_core.specs.Sharing.{Lends, RefusesLending, RefusesShare};
 
 use crate::committer::Committer;
 use crate::host::HostDisk;
 use crate::host_vault::HostVault;
-use crate::phase::{BeginFault, Phase};
+use crate::phase::Phase;
 use book_core::{Live, Seat};
 use directory_core::GROWTH_LIMIT;
 use disk_core::Disk;
@@ -41,6 +42,7 @@ fn shared<R: Record, D: Disk + Drop>(
     made: u64,
 ) -> Option<(Phase<R>, Committer<R, D>)>
     requires of { IsFlusherOf (D.keeps flusher.pen.disk.inner) live flusher }
+    requires past { AreRaisedBy made flusher.mark.raises }
     requires seated { AreNewSeats live.directory live.mark seats.items }
     ensures phase { IfSome result (λ r. (arc_value r.0.live ≡ live) × (arc_value r.1.live ≡ live)) }
     ensures flusher { IfSome result (λ r. (r.1.flusher ≡ flusher) × (r.1.made ≡ made)) }
@@ -74,8 +76,9 @@ fn share_room<R: Record, D: Disk + Drop>(
     }
 }
 
-/// Lends the vault, with room for so many growths, to so many growers and to who commits. Refused with the vault handed back, or with none, where there was
-/// no memory for what they share.
+/// Lends the vault, with room for so many growths, to so many growers and to who commits. Refused with the vault handed back,
+/// or with none, where there was no memory for what they share.
+#[tactic(auto, using(crate::proofs::GoesOnLemmas::none_raised))]
 fn lend<R: Record, D: Disk + Drop>(
     alloc: Global,
     vault: Vault<R, RelayDisk<D>>,
@@ -99,19 +102,22 @@ fn lend<R: Record, D: Disk + Drop>(
     }
 }
 
-/// Lends a vault whose calls the host hasn't made.
+/// Lends a vault, new or just opened, whose calls the host hasn't made. `TooLarge`, of the room or the seats; `Memory`.
+#[tactic(auto, using(crate::proofs::RoomLemmas::lend_refused))]
 pub(crate) fn lend_new<R: Record>(
     alloc: Global,
     vault: Vault<R, RelayDisk<HostDisk>>,
     growths: u64,
     seats: u16,
-) -> Result<(Phase<R>, Committer<R, HostDisk>), BeginFault>
+) -> Result<(Phase<R>, Committer<R, HostDisk>), PenFault>
+    requires { (vault.pen.broken ≡ false) × (vault.pen.job ≡ None) }
     ensures shares { IfOk result (λ r. Lends vault 1 growths seats r.0 r.1) }
     ensures may { OnOk result (MayBeginWide growths seats) }
+    ensures refused { IfErr result (IsLendRefusal growths seats) }
 {
     match lend(alloc, vault, 1, growths, seats) {
         Ok(ends) => Ok(ends),
-        Err((_, fault)) => Err(BeginFault::Pen(fault)),
+        Err((_, fault)) => Err(fault),
     }
 }
 

@@ -20,5 +20,5 @@ pub use ending::GatherFault;
 pub use grower::Grower;
 pub use host::HostDisk;
 pub use host_vault::HostVault;
-pub use phase::{BeginFault, Phase};
+pub use phase::{BeginFault, Phase, SeatFault};
 pub use piece::{Piece, lend_block};

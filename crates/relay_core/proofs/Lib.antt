@@ -1,2 +1,3 @@
-mod ListedLemmas
+pub mod ListedLemmas
+pub mod MakingLemmas
 mod Worked

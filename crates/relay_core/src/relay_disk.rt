@@ -1,8 +1,9 @@
 //! A disk over another, which lists the writes and syncs that succeeded there.
 
-ghost use Rattle.std.specs.Prelude.{◌≡◌, ◌+◌, ◌++◌, ◌∷◌, [], IsTrue, IfSome};
+ghost use Rattle.std.specs.Prelude.{◌≡◌, ◌+◌, ◌<◌, ◌++◌, ◌∷◌, [], true, IsTrue, IsNone, IfSome};
 ghost use Rattle.disk_core.specs.Moments.{clock};
-ghost use Rattle.relay_core.specs.Listed.{LeadTo, IsListed};
+ghost use Rattle.relay_core.specs.Listed.{LeadThrough, IsListed};
+ghost use Rattle.relay_core.specs.Making.{IsFollowed};
 
 use crate::call::Call;
 use disk_core::{Disk, DiskFault};
@@ -59,7 +60,9 @@ impl<D: Disk> RelayDisk<D> {
 
     /// The moment that it is now. `None` where a call isn't in the list.
     pub fn moment(&self) -> Option<u64>
-        ensures { IfSome result (λ moment. moment ≡ clock (D.states self.now.inner)) }
+        ensures now { IfSome result (λ moment. moment ≡ clock (D.states self.now.inner)) }
+        ensures some { IfSome result (λ moment. 0 < moment) }
+        ensures lost { IsNone result → self.now.lost ≡ true }
     {
         if self.lost {
             return None;
@@ -68,10 +71,14 @@ impl<D: Disk> RelayDisk<D> {
     }
 
     /// The calls that the host is to make, in order. `None` where one isn't in the list.
+    #[tactic(auto, using(crate::proofs::MakingLemmas::is_followed))]
     pub fn calls(&self) -> Option<&[Call]>
         ensures listed { IfSome result (λ calls. calls.now ≡ self.now.calls.items) }
         ensures lead { IfSome result (λ calls.
-            D.keeps self.now.inner → LeadTo (D.states self.now.inner) self.now.from calls.now) }
+            D.keeps self.now.inner → LeadThrough (D.states self.now.inner) self.now.from calls.now) }
+        ensures followed { IfSome result (λ calls.
+            D.keeps self.now.inner → IsFollowed (D.states self.now.inner) self.now.from calls.now) }
+        ensures lost { IsNone result → self.now.lost ≡ true }
     {
         if self.lost {
             return None;
