@@ -455,6 +455,31 @@ lenient_lines_that_came_are_committed() (
     echo 'appended 3 growths, size 4' | cmp - "$work/first_out"
 )
 
+# ---- growers that come behind others
+
+# A grower that another comes before pauses, and where that happens again it sleeps, for twice as long each time. In half of the
+# loads some do.
+growers_that_give_way_sleep_shortly() (
+    has_calls || exit $is_skipped
+    build_calls
+    seq 1 200000 >"$in"
+    : >"$work/naps"
+    for _ in $(seq 40); do
+        rm -f "$work/t.cv"
+        run create u64 "$work/t.cv"
+        run_with "CALLS_NAPS=$work/naps" load u64 "$work/t.cv" --seats=64
+        did 'loaded 200000 growths, size 200000\n'
+        [ ! -s "$work/naps" ] || break
+    done
+    [ -s "$work/naps" ] || lacks 'no grower came behind another one twice' || exit $is_skipped
+    sort -nu "$work/naps" | tr '\n' ' ' >"$work/lengths"
+    cat "$work/lengths"
+    case $(cat "$work/lengths") in
+    '20 ' | '20 40 ' | '20 40 80 ' | '20 40 80 160 ') ;;
+    *) return 1 ;;
+    esac
+)
+
 # ---- how far append is, in lines
 
 # A line tells what is durable as soon as a batch is, and is no line of a terminal.
@@ -488,6 +513,29 @@ lines_after_a_short_block_are_gone_on_with() (
     did 'appended 3 growths, size 8\n'
     run list u64 "$work/t.cv"
     seq 5 12 | cmp - "$out"
+)
+
+# Of a growth whose commit fails, whichever of its calls, no line tells. The one before it is durable.
+a_line_tells_of_no_growth_whose_commit_fails() (
+    has_calls || exit $is_skipped
+    build_calls
+    run create u64 "$work/before.cv"
+    given '5\n'
+    run append u64 "$work/before.cv"
+    refused=0
+    for call in pwrite fdatasync; do
+        for number in $(seq 1 20); do
+            cp "$work/before.cv" "$work/t.cv"
+            given '6\n'
+            run_with "CALLS_FAIL=$call:$number" append u64 "$work/t.cv" --progress
+            [ "$status" -ne 0 ] || break
+            refused=$((refused + 1))
+            if tells durable; then return 1; fi
+        done
+        [ "$(cat "$out")" = 'appended 1 growths, size 2' ]
+        tells 'cvec: 1 growths of the first 1 lines are durable, size 2'
+    done
+    [ "$refused" -ge 4 ]
 )
 
 # Ten batches in less than a second are told by one line or two, and with --quiet by none.

@@ -127,18 +127,13 @@ fn sync_twice() -> [Result<(), DiskFault>; 2] {
     [first, disk.sync()]
 }
 
-#[test]
-fn a_sync_that_failed_is_not_asked_for_again(rt: HostRuntime) {
-    assert_eq!(rt; sync_twice(), [Err(DiskFault::Sync); 2]);
-}
-
-/// An open file that another process may write meanwhile.
+/// A file that another process writes. What it holds isn't told.
 fn shared<F: FileExt + OpenFile + Drop>(file: F) -> SharedFile<F> {
     SharedFile::over(file)
 }
 
-/// What two syncs of a file that is only read answer. The system may have dropped what the first one could not write.
-fn sync_what_is_read_twice() -> [Result<(), DiskFault>; 2] {
+/// What two syncs of such a file answer.
+fn sync_shared_twice() -> [Result<(), DiskFault>; 2] {
     let mut file = shared(Halting {
         calls: AtomicU64::new(0),
         end: 0,
@@ -148,6 +143,7 @@ fn sync_what_is_read_twice() -> [Result<(), DiskFault>; 2] {
 }
 
 #[test]
-fn a_sync_of_what_is_read_that_failed_is_not_asked_for_again(rt: HostRuntime) {
-    assert_eq!(rt; sync_what_is_read_twice(), [Err(DiskFault::Sync); 2]);
+fn a_sync_that_failed_is_not_asked_for_again(rt: HostRuntime) {
+    let synced = [sync_twice(), sync_shared_twice()];
+    assert_eq!(rt; synced, [[Err(DiskFault::Sync); 2]; 2]);
 }
