@@ -7,41 +7,53 @@
                           tell NAME LENGTH                      on any other descriptor above standard error
    CALLS_PART=N       each read and write does at most N bytes. Each call on a file whose interruption docs/file/disk.md
                       names is interrupted once before it is made: pread, pwrite, fdatasync, and statx of a descriptor
-   CALLS_FAIL=CALL:N  the call of this name fails, which is number N of those with it, from 1: EIO, or ENOSPC of a write
+   CALLS_FAIL=CALL:N  the call of this name fails, which is number N of those with it, from 1: EIO, ENOSPC of a write, or
+                      EAGAIN of the start of a thread (thread)
    CALLS_LARGEST=N    a request for more than N bytes of memory is refused
    CALLS_WAIT=N       each pread is made N microseconds later
    CALLS_NAP=N        each nap takes N microseconds more, as on a busy machine
+   CALLS_NAPS=FILE    a line is added for each time that a thread sleeps until it is woken, but for a while at most: for how many
+                      microseconds
    CALLS_MOVE=FILE    once the first lock is had, the file FILE.new gets the name FILE
    CALLS_AT_LOCK=N:COMMAND  before lock number N is asked for, from 1, this command of the shell is run, without this library */
 #define _GNU_SOURCE
 #include <dlfcn.h>
 #include <errno.h>
 #include <fcntl.h>
+#include <linux/futex.h>
+#include <pthread.h>
+#include <stdarg.h>
 #include <stdio.h>
 #include <stdlib.h>
 #include <string.h>
 #include <sys/file.h>
 #include <sys/stat.h>
+#include <sys/syscall.h>
 #include <time.h>
 #include <unistd.h>
 
-enum call { READ, WRITE, PREAD, PWRITE, FDATASYNC, FSYNC, STATX, FLOCK, CALLS };
-static const char *const names[CALLS] = {"read", "write", "pread", "pwrite", "fdatasync", "fsync", "statx", "flock"};
-static int seen[CALLS], made[CALLS], failing = -1, failing_at, log_to = -1;
+enum call { READ, WRITE, PREAD, PWRITE, FDATASYNC, FSYNC, STATX, FLOCK, THREAD, CALLS };
+static const char *const names[CALLS] = {"read", "write", "pread", "pwrite", "fdatasync", "fsync", "statx", "flock", "thread"};
+static int seen[CALLS], made[CALLS], failing = -1, failing_at, log_to = -1, naps_to = -1;
 static size_t part = (size_t)-1, largest = (size_t)-1;
 static useconds_t before_read, in_nap;
 static const char *moved, *at_lock;
 
-/* The program's own descriptors keep their numbers. */
+/* Opens a file that lines are added to. The program's own descriptors keep their numbers. */
+static int open_log(const char *name) {
+    if (name == NULL) return -1;
+    int opened = open(name, O_WRONLY | O_CREAT | O_APPEND | O_CLOEXEC, 0666);
+    int moved_to = fcntl(opened, F_DUPFD_CLOEXEC, 200);
+    close(opened);
+    return moved_to;
+}
+
 __attribute__((constructor)) static void begin(void) {
-    const char *log = getenv("CALLS_LOG"), *most = getenv("CALLS_PART"), *fail = getenv("CALLS_FAIL");
+    const char *most = getenv("CALLS_PART"), *fail = getenv("CALLS_FAIL");
     const char *bytes = getenv("CALLS_LARGEST"), *wait = getenv("CALLS_WAIT");
     const char *nap = getenv("CALLS_NAP");
-    if (log != NULL) {
-        int opened = open(log, O_WRONLY | O_CREAT | O_APPEND | O_CLOEXEC, 0666);
-        log_to = fcntl(opened, F_DUPFD_CLOEXEC, 200);
-        close(opened);
-    }
+    log_to = open_log(getenv("CALLS_LOG"));
+    naps_to = open_log(getenv("CALLS_NAPS"));
     if (most != NULL) part = strtoul(most, NULL, 10);
     if (bytes != NULL) largest = strtoul(bytes, NULL, 10);
     moved = getenv("CALLS_MOVE");
@@ -134,6 +146,24 @@ int clock_nanosleep(clockid_t clock, int flags, const struct timespec *asked, st
     return NEXT(clock_nanosleep)(clock, flags, asked, left);
 }
 
+/* A sleep without an end has one of ages. */
+static void note_nap(const long *words) {
+    const struct timespec *most = (const struct timespec *)words[3];
+    int what = (int)words[1] & FUTEX_CMD_MASK;
+    if (naps_to < 0 || what != FUTEX_WAIT || most == NULL || most->tv_sec > 1000000) return;
+    dprintf(naps_to, "%ld\n", most->tv_sec * 1000000 + most->tv_nsec / 1000);
+}
+
+long syscall(long number, ...) {
+    long words[6];
+    va_list given;
+    va_start(given, number);
+    for (int k = 0; k < 6; k++) words[k] = va_arg(given, long);
+    va_end(given);
+    if (number == SYS_futex) note_nap(words);
+    return NEXT(syscall)(number, words[0], words[1], words[2], words[3], words[4], words[5]);
+}
+
 static int synced(int fd, int failed) {
     if (!failed) note(fd, "sync", "");
     return failed;
@@ -170,6 +200,10 @@ int flock(int fd, int how) {
     if (is_refused(FLOCK) || NEXT(flock)(fd, how) != 0) return -1;
     move_over();
     return 0;
+}
+
+int pthread_create(pthread_t *thread, const pthread_attr_t *how, void *(*run)(void *), void *with) {
+    return is_refused(THREAD) ? EAGAIN : NEXT(pthread_create)(thread, how, run, with);
 }
 
 extern void *__libc_malloc(size_t), *__libc_realloc(void *, size_t);

@@ -160,6 +160,17 @@ run_with() {
     env "$does" LD_PRELOAD="$work/calls.so" "$program" "$@" <"$in" >"$out" 2>"$err" || status=$?
 }
 
+# ---- two devices
+
+# Two devices, in the folders one and two, that number their files alike.
+two_devices() {
+    mkdir "$work/one" "$work/two"
+    for name in one two; do
+        mount -t tmpfs -o size=64k none "$work/$name" 2>/dev/null || lacks 'no devices may be mounted' || exit $is_skipped
+        trap 'umount "$work/one" "$work/two" 2>/dev/null' EXIT
+    done
+}
+
 # ---- a command beside one that has its file
 
 # What the first command asks waits in a pipe: its answer in one that is full, or its input in one that gives nothing.

@@ -345,6 +345,45 @@ a_copy_has_the_permissions_of_its_file() (
     done
 )
 
+# Of a file whose permissions the system doesn't tell, the owner alone has the copy: whichever call it refuses, nobody else may
+# read what he may not read in FILE.
+a_copy_is_for_its_owner_where_permissions_are_not_told() (
+    has_calls || exit $is_skipped
+    build_calls
+    a_worked_file 1
+    chmod 600 "$work/t.cv"
+    umask 022
+    made=0
+    for call in $(seq 1 20); do
+        for command in copy upgrade; do
+            rm -f "$work/n.cv"
+            run_with "CALLS_FAIL=statx:$call" $command u64 "$work/t.cv" "$work/n.cv"
+            [ -e "$work/n.cv" ] || continue
+            [ "$(stat -c %a "$work/n.cv")" = 600 ]
+            made=$((made + 1))
+        done
+    done
+    [ "$made" -gt 2 ]
+)
+
+# Two files may have one number, each on a device of its own: neither is the other.
+a_copy_is_made_on_another_device() (
+    a_worked_file 1
+    two_devices
+    for command in copy upgrade; do
+        cp "$work/t.cv" "$work/one/t.cv"
+        : >"$work/two/n.cv"
+        [ "$(stat -c %i "$work/one/t.cv")" = "$(stat -c %i "$work/two/n.cv")" ]
+        run $command u64 "$work/one/t.cv" "$work/two/n.cv"
+        [ "$status" -eq 0 ]
+        run list u64 "$work/t.cv"
+        mv "$out" "$work/listed"
+        run list u64 "$work/two/n.cv"
+        cmp "$work/listed" "$out"
+        rm "$work/one/t.cv" "$work/two/n.cv"
+    done
+)
+
 every_type_has_files() (
     # Half of the widest record, in hex.
     half=00112233445566778899aabbccddeeff0102030405060708090a0b0c0d0e0fff

@@ -162,7 +162,7 @@ what_is_made_over_a_file_takes_its_place() (
     ln -s "$t" "$work/link"
     for name in "$t" "$work/link"; do
         cp "$work/t.cv" "$t"
-        chmod 640 "$t"
+        chmod 1640 "$t"
         number=$(stat -c %i "$t")
         echo left >"$work/d/.cvec-$(stat -c %d-%i "$t")"
         exec 9<"$t"
@@ -170,8 +170,8 @@ what_is_made_over_a_file_takes_its_place() (
         did 'created\n'
         cmp "$work/t.cv" - <&9
         is_made_alone
-        [ "$(stat -c '%i %a' "$t")" != "$number 640" ]
-        [ "$(stat -c %a "$t")" = 640 ]
+        [ "$(stat -c %i "$t")" != "$number" ]
+        [ "$(stat -c %a "$t")" = 1640 ]
         [ "$(readlink "$work/link")" = "$t" ]
         exec 9<&-
     done
@@ -218,10 +218,10 @@ a_file_is_emptied_where_no_other_can_take_its_place() (
     build_calls
     a_file_in_a_folder
     is_emptied() {
-        number=$(stat -c '%i %U %a' "$t")
+        number=$(stat -c '%i %U %G %a' "$t")
         "$@"
         did 'created\n'
-        [ "$(stat -c '%i %U %a' "$t")" = "$number" ]
+        [ "$(stat -c '%i %U %G %a' "$t")" = "$number" ]
         is_made_alone
         cp "$work/t.cv" "$t"
     }
@@ -231,7 +231,10 @@ a_file_is_emptied_where_no_other_can_take_its_place() (
     # The lock of the new file is refused.
     is_emptied run_with CALLS_FAIL=flock:2 create u64 "$t" --over
     [ "$(id -u)" -eq 0 ] || lacks 'only root gives a file to another' || exit $is_skipped
-    # Root's would be root's; and the owner may not write the folder.
+    # Root's would be root's, and of root's group; and the owner may not write the folder.
+    chgrp 65534 "$t"
+    is_emptied run create u64 "$t" --over
+    chgrp 0 "$t"
     chown 65534 "$t"
     is_emptied run create u64 "$t" --over
     chmod 755 "$work" "$work/d"

@@ -1,9 +1,9 @@
 # `follow`: the records of a vector, and those that come, each written once; and the events by which a copy is kept.
 
-# Starts `follow` with these words on the file t.cv, which writes to files of its own.
+# Starts `follow` with these words on the file t.cv, or $followed, which writes to files of its own. It has a minute.
 follows() {
     : >"$work/followed" >"$work/follow_err"
-    "$program" follow u64 "$work/t.cv" "$@" >"$work/followed" 2>"$work/follow_err" &
+    timeout 60 "$program" follow u64 "${followed:-$work/t.cv}" "$@" >"$work/followed" 2>"$work/follow_err" &
     follower=$!
 }
 
@@ -37,7 +37,7 @@ has_ended() {
     [ "$status" -eq 1 ]
     { printf '%b' "$2" && echo "refused: $1"; } | cmp - "$work/followed"
     [ "$(wc -l <"$work/follow_err")" -eq 1 ]
-    grep -qF -- "cvec: $work/t.cv: $3" "$work/follow_err"
+    grep -qF -- "cvec: ${followed:-$work/t.cv}: $3" "$work/follow_err"
 }
 
 # The file t.cv has the records 5, 6 and 7.
@@ -188,6 +188,49 @@ a_name_that_leads_elsewhere_ends_it() (
         has_ended replaced '5\n6\n7\n8\n' 'this name leads to another file now, or to none'
         cp kept.cv other.cv
     done
+)
+
+# Below the name of a plain file there is none.
+a_folder_that_becomes_a_file_ends_it() (
+    three_records
+    mkdir "$work/d"
+    cp "$work/t.cv" "$work/d/t.cv"
+    followed=$work/d/t.cv
+    follows --poll=5
+    until_followed 3
+    mv "$work/d" "$work/e"
+    : >"$work/d"
+    has_ended replaced '5\n6\n7\n' 'this name leads to another file now, or to none'
+)
+
+# Two files may have one number, each on a device of its own.
+a_file_of_another_device_ends_it() (
+    three_records
+    two_devices
+    cp "$work/t.cv" "$work/one/t.cv"
+    cp "$work/t.cv" "$work/two/t.cv"
+    [ "$(stat -c %i "$work/one/t.cv")" = "$(stat -c %i "$work/two/t.cv")" ]
+    ln -s one/t.cv "$work/link"
+    followed=$work/link
+    follows --poll=5
+    until_followed 3
+    ln -sfn two/t.cv "$work/link"
+    has_ended replaced '5\n6\n7\n' 'this name leads to another file now, or to none'
+)
+
+# A record that comes between two looks is written by the later one.
+looks_are_as_far_apart_as_is_said() (
+    three_records
+    follows --poll=2000
+    until_followed 3
+    begun=$(date +%s%N)
+    given '8\n'
+    run append u64 "$work/t.cv"
+    did 'appended 1 growths, size 4\n'
+    sleep 1
+    [ $(($(date +%s%N) - begun)) -ge 1900000000 ] || [ "$(wc -l <"$work/followed")" -eq 3 ]
+    until_followed 4
+    has_followed '5\n6\n7\n8\n'
 )
 
 a_file_that_becomes_shorter_ends_it() (

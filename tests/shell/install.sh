@@ -114,7 +114,7 @@ a_c_program_is_built_by_pkg_config() (
     [ "$(tr '\n' ' ' <"$out")" = '5 7 11 13 ' ]
     is_shown_as_written u64 "$work/file"
     [ "cvec $(pkg-config --modversion cvec)" = "$("$program" --version | head -n 1)" ]
-    [ "$("$work/use_vector" "$work/t.cv" 4 50)" = 0 ]
+    [ "$(timeout 120 "$work/use_vector" "$work/t.cv" 4 50)" = 0 ]
     run check u64 "$work/t.cv"
     [ "$(cut -d ' ' -f -7 "$out")" = 'ok version 1 width 8 size 600' ]
 )
@@ -249,8 +249,8 @@ RUST
     cargo build --quiet --offline --manifest-path "$work/Cargo.toml" --target-dir "$work/target"
     "$work/target/debug/use" "$work/file" >"$out"
     [ "$(tr '\n' ' ' <"$out")" = '5 7 11 13 ' ]
-    [ "$("$work/target/debug/both" "$work/other")" = '[5, 7, 11]' ]
-    "$work/target/debug/use_vector" "$work/t.cv" >"$out"
+    [ "$(timeout 120 "$work/target/debug/both" "$work/other")" = '[5, 7, 11]' ]
+    timeout 120 "$work/target/debug/use_vector" "$work/t.cv" >"$out"
     sed -n 1p "$out" | grep -qx '286 records of 15 growths'
 )
 

@@ -455,6 +455,31 @@ lenient_lines_that_came_are_committed() (
     echo 'appended 3 growths, size 4' | cmp - "$work/first_out"
 )
 
+# ---- growers that come behind others
+
+# A grower that another comes before pauses, and where that happens again it sleeps, for twice as long each time. In half of the
+# loads some do.
+growers_that_give_way_sleep_shortly() (
+    has_calls || exit $is_skipped
+    build_calls
+    seq 1 200000 >"$in"
+    : >"$work/naps"
+    for _ in $(seq 40); do
+        rm -f "$work/t.cv"
+        run create u64 "$work/t.cv"
+        run_with "CALLS_NAPS=$work/naps" load u64 "$work/t.cv" --seats=64
+        did 'loaded 200000 growths, size 200000\n'
+        [ ! -s "$work/naps" ] || break
+    done
+    [ -s "$work/naps" ] || lacks 'no grower came behind another one twice' || exit $is_skipped
+    sort -nu "$work/naps" | tr '\n' ' ' >"$work/lengths"
+    cat "$work/lengths"
+    case $(cat "$work/lengths") in
+    '20 ' | '20 40 ' | '20 40 80 ' | '20 40 80 160 ') ;;
+    *) return 1 ;;
+    esac
+)
+
 # ---- how far append is, in lines
 
 # A line tells what is durable as soon as a batch is, and is no line of a terminal.
@@ -471,6 +496,46 @@ appended_is_told_in_lines() (
     echo 'appended 3 growths, size 7' | cmp - "$work/first_out"
     [ "$(sed -n 2p "$work/first_err")" = 'cvec: 3 growths of the first 6 lines are durable, size 7' ]
     [ "$(wc -l <"$work/first_err")" -eq 2 ]
+)
+
+# Where the last block has fewer lines, just those count: who goes on after the lines that are reported loses none.
+lines_after_a_short_block_are_gone_on_with() (
+    is_fed_by_a_pipe --progress --block=2
+    printf '5\n6\n7\n' >&8
+    copy_comes_to_have '5\n6\n'
+    sleep 1.4
+    exec 8>&-
+    wait "$!"
+    [ "$(sed -n '$p' "$work/first_err")" = 'cvec: 2 growths of the first 3 lines are durable, size 3' ]
+    lines=$(sed -n '$s/.* of the first \([0-9]*\) lines are durable.*/\1/p' "$work/first_err")
+    seq 5 12 | tail -n "+$((lines + 1))" >"$in"
+    run append u64 "$work/t.cv" --block=2
+    did 'appended 3 growths, size 8\n'
+    run list u64 "$work/t.cv"
+    seq 5 12 | cmp - "$out"
+)
+
+# Of a growth whose commit fails, whichever of its calls, no line tells. The one before it is durable.
+a_line_tells_of_no_growth_whose_commit_fails() (
+    has_calls || exit $is_skipped
+    build_calls
+    run create u64 "$work/before.cv"
+    given '5\n'
+    run append u64 "$work/before.cv"
+    refused=0
+    for call in pwrite fdatasync; do
+        for number in $(seq 1 20); do
+            cp "$work/before.cv" "$work/t.cv"
+            given '6\n'
+            run_with "CALLS_FAIL=$call:$number" append u64 "$work/t.cv" --progress
+            [ "$status" -ne 0 ] || break
+            refused=$((refused + 1))
+            if tells durable; then return 1; fi
+        done
+        [ "$(cat "$out")" = 'appended 1 growths, size 2' ]
+        tells 'cvec: 1 growths of the first 1 lines are durable, size 2'
+    done
+    [ "$refused" -ge 4 ]
 )
 
 # Ten batches in less than a second are told by one line or two, and with --quiet by none.

@@ -327,6 +327,29 @@ a_file_that_replaces_a_locked_one_is_locked() (
     did '5\n6\n9\n'
 )
 
+# The file is opened, and its folder has another name before it is locked: where a plain file has the folder's place, or nothing, the
+# file has the name no more, and is neither written nor emptied.
+a_file_whose_folder_is_moved_is_not_written() (
+    has_calls || exit $is_skipped
+    build_calls
+    two_files
+    cd "$work"
+    for place in ': >d' 'mkdir d' ':'; do
+        for words in 'append u64' 'load u64' 'clear u64' 'create u64 --over'; do
+            rm -rf d e
+            mkdir d
+            cp t.cv d/t.cv
+            # shellcheck disable=SC2086 # each word is one
+            run_with "CALLS_AT_LOCK=1:mv d e && $place" ${words% --*} d/t.cv $(echo "$words" | grep -o -- '--.*')
+            cmp t.cv e/t.cv
+            case $words-$place in
+            create*-mkdir*) did 'created\n' ;;
+            *) answers_refusal file ;;
+            esac
+        done
+    done
+)
+
 # A command that makes a file has it, empty, before it has its lock. Another may make a vector there meanwhile: that is refused then,
 # and not taken away with what the refused command made.
 a_vector_that_was_made_in_a_new_file_stays() (

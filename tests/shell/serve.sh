@@ -129,6 +129,76 @@ a_server_of_few_addresses_takes_as_many_as_other_phases() (
     seq 0 1048567 | cmp - "$out"
 )
 
+# Requests of a client: a growth of the record 5, a wait, a look, and the end.
+ask_growth() { printf '\1\0\0\0\1\0\0\0\0\0\0\0\0\0\0\0\5\0\0\0\0\0\0\0'; }
+ask_wait() { printf '\2\0\0\0\0\0\0\0\0\0\0\0\0\0\0\0'; }
+ask_end() { printf '\0\0\0\0\0\0\0\0\0\0\0\0\0\0\0\0'; }
+
+# Of three clients the second or the third gets no thread: one that was served would wait for a growth of one that never runs.
+no_client_is_served_where_one_has_no_thread() (
+    has_calls || exit $is_skipped
+    build_calls
+    run create u64 "$work/t.cv"
+    before=$(cksum <"$work/t.cv")
+    { ask_growth && ask_end; } >"$work/requests"
+    for thread in 2 3; do
+        for client in 1 2 3; do : >"$work/answers.$client"; done
+        run_with "CALLS_FAIL=thread:$thread" serve u64 "$work/t.cv" --seats=3 3<"$work/requests" 4>"$work/answers.1" \
+            5<"$work/requests" 6>"$work/answers.2" 7<"$work/requests" 8>"$work/answers.3"
+        was_refused memory 'the system starts no thread for each client; no client was served'
+        cat "$work"/answers.? | cmp - /dev/null
+        [ "$(cksum <"$work/t.cv")" = "$before" ]
+    done
+    run_with CALLS_FAIL=thread:4 serve u64 "$work/t.cv" --seats=3 3<"$work/requests" 4>"$work/answers.1" \
+        5<"$work/requests" 6>"$work/answers.2" 7<"$work/requests" 8>"$work/answers.3"
+    did 'served 3 growths\n'
+)
+
+# Behind a commit the server sleeps until those that it woke wait again, 100 microseconds at most: what they grow by in between is
+# then one commit. Where nobody was woken it doesn't.
+a_server_waits_shortly_for_those_that_it_woke() (
+    has_calls || exit $is_skipped
+    build_calls
+    run create u64 "$work/t.cv"
+    { for _ in $(seq 50); do ask_growth && ask_wait; done && ask_end; } >"$work/requests"
+    run_with "CALLS_NAPS=$work/naps" serve u64 "$work/t.cv" --seats=1 3<"$work/requests" 4>"$work/answers"
+    did 'served 50 growths\n'
+    [ "$(sort -u "$work/naps")" = 100 ]
+    rm "$work/naps"
+    { for _ in $(seq 50); do ask_growth; done && ask_end; } >"$work/requests"
+    run_with "CALLS_NAPS=$work/naps" serve u64 "$work/t.cv" --seats=1 3<"$work/requests" 4>"$work/answers"
+    did 'served 50 growths\n'
+    [ ! -s "$work/naps" ]
+)
+
+# The hundredths of a second of a processor that this process has had.
+processor_time() {
+    # shellcheck disable=SC2046 # each number is a word
+    set -- $(sed 's/.*) //' "/proc/$1/stat")
+    echo $((${12} + ${13}))
+}
+
+# While its client asks for nothing the server sleeps, before the first growth and behind it.
+a_server_that_nobody_asks_sleeps() (
+    [ -r /proc/self/stat ] || lacks 'there is no /proc to see the time of a process' || exit $is_skipped
+    run create u64 "$work/t.cv"
+    mkfifo "$work/requests"
+    "$program" serve u64 "$work/t.cv" --seats=1 3<"$work/requests" 4>"$work/answers" >"$out" 2>"$err" &
+    server=$!
+    exec 9>"$work/requests"
+    for _ in 1 2; do
+        sleep 0.2
+        before=$(processor_time $server)
+        sleep 1
+        [ $(($(processor_time $server) - before)) -lt 30 ]
+        { ask_growth && ask_wait; } >&9
+    done
+    ask_end >&9
+    exec 9>&-
+    wait $server
+    [ "$(cat "$out")" = 'served 2 growths' ]
+)
+
 the_client_in_c_is_one_for_cpp() (
     has c++ 'the client in C++' || exit $is_skipped
     printf '#include "cvec.h"\nint main() { cvec_server *server = nullptr; return cvec_server_wait(&server, nullptr, nullptr) == CVEC_NOT_SO ? 0 : 1; }\n' \

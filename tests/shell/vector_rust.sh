@@ -56,7 +56,7 @@ the_rust_example_grows_by_threads() (
     has_rust_vector || exit $is_skipped
     make_rust_vector
     make_rust_program "$top/examples/rust/use_vector.rs" "$work/use"
-    "$work/use" "$work/t.cv" >"$out"
+    timeout 120 "$work/use" "$work/t.cv" >"$out"
     printf '286 records of 15 growths\n286 records, the last 249, in all 31185\n' | cmp - "$out"
     run list u64 "$work/t.cv"
     head -n 36 "$out" | paste -d ' ' - - - | sort >"$work/blocks"
@@ -92,7 +92,7 @@ make_program_of_the_page() {
     make_rust_vector
     shown_in use/rust.md rust | awk -v wanted="$1" '/^use cvec_vector/ { at++ } at == wanted' >"$work/shown.rs"
     make_rust_program "$work/shown.rs" "$work/shown"
-    "$work/shown" "$work/t.cv" >"$out"
+    timeout 120 "$work/shown" "$work/t.cv" >"$out"
 }
 
 the_rust_program_of_the_page_grows_by_threads() (

@@ -3,6 +3,7 @@
 mod beside;
 mod blocks;
 mod broken_crew;
+mod closing;
 mod committing;
 mod crews;
 mod directory;

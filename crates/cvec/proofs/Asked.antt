@@ -23,7 +23,8 @@ use Rattle.sentences.specs.declared.complaint.Complaint.{Complaint}
 use Rattle.text_core.specs.declared.status.Status.{Status}
 use Rattle.text_core.specs.declared.status.Status.TheVariants as statuses
 use Rattle.filing_core.specs.Complaints.{Disk, IsLeftAlone, IsStatusOf}
-use Rattle.filing_core.specs.Beside.{Foreign, IsFollowStatus, IsLookStatus}
+use Rattle.filing_core.specs.declared.polling.Looks.{Looks}
+use Rattle.filing_core.specs.Beside.{Foreign, IsFollowStatus, IsLookStatus, looks_asked}
 use Rattle.filing_core.specs.Commands.{IsCommandRun, IsEngineDone, IsFollowRun, IsNewRun, IsOverFile, IsReadingRun, IsServedAs}
 use Rattle.cvec.specs.Runs.{IsComplaintRun, IsToldRun, IsTypedCommandRun}
 
@@ -70,13 +71,13 @@ module _ {R : Type 0} (form : Encoding R) (old new : Option (List ℕ)) (filed :
   no_usage_reading IsReason HasEnded HasLooked (inl over) = no_usage_over IsReason HasEnded over
   no_usage_reading IsReason HasEnded HasLooked (inr done) = no_usage_of_look done.end filed done.told
 
-  no_usage_following : (spelling : Spelling R) (what : Following) → IsFollowRun form old new filed spelling what → IsNoUsage filed
-  no_usage_following spelling (Records from) (inl refused) = subst IsNoUsage (sym refused.told) tt
-  no_usage_following spelling (Records from) (inr (inl shut)) = no_usage_alone old new filed _ shut
-  no_usage_following spelling (Records from) (inr (inr done)) = no_usage_of_follow done.end filed done.told
-  no_usage_following spelling (Events after) (inl none) = no_usage_alone old new filed _ none
-  no_usage_following spelling (Events after) (inr (inl shut)) = no_usage_alone old new filed _ shut
-  no_usage_following spelling (Events after) (inr (inr done)) = no_usage_of_follow done.end filed done.told
+  no_usage_following : (spelling : Spelling R) (what : Following) (looks : Looks) → IsFollowRun form old new filed spelling what looks → IsNoUsage filed
+  no_usage_following spelling (Records from) looks (inl refused) = subst IsNoUsage (sym refused.told) tt
+  no_usage_following spelling (Records from) looks (inr (inl shut)) = no_usage_alone old new filed _ shut
+  no_usage_following spelling (Records from) looks (inr (inr done)) = no_usage_of_follow done.end filed done.told
+  no_usage_following spelling (Events after) looks (inl none) = no_usage_alone old new filed _ none
+  no_usage_following spelling (Events after) looks (inr (inl shut)) = no_usage_alone old new filed _ shut
+  no_usage_following spelling (Events after) looks (inr (inr done)) = no_usage_of_follow done.end filed done.told
 
   no_usage_served : (left : Disk) (growths : ℕ) (served : Result (Unit {0}) ServeFault) → IsServedAs form old new filed left growths served → IsNoUsage filed
   no_usage_served left growths (Ok all) (inl failed) = subst IsNoUsage (sym failed) tt
@@ -97,7 +98,7 @@ module _ {R : Type 0} (form : Encoding R) (old new : Option (List ℕ)) (filed :
   no_usage_of_task spelling (Append block every) input (inr done) = no_usage_of_done filed _ _ done.1
   no_usage_of_task spelling Check input run = no_usage_reading _ _ _ run
   no_usage_of_task spelling (Listed from count) input run = no_usage_reading _ _ _ run
-  no_usage_of_task spelling (Follow what poll once) input run = no_usage_following spelling what run
+  no_usage_of_task spelling (Follow what poll once) input run = no_usage_following spelling what (looks_asked poll once) run
   no_usage_of_task spelling (Count wanted) input run = no_usage_reading _ _ _ run
   no_usage_of_task spelling (Find wanted) input run = no_usage_reading _ _ _ run
   no_usage_of_task spelling (Set start records) input run = no_usage_over _ _ run

@@ -20,6 +20,7 @@ use Rattle.text_core.specs.declared.status.Status.{Status}
 use Rattle.follow_core.specs.declared.ended.FollowEnd.{FollowEnd}
 use Rattle.follow_core.specs.declared.ended.LookEnd.{LookEnd}
 use Rattle.filing_core.specs.Beside.{Foreign, IsFollowDone, IsLookDone}
+use Rattle.filing_core.specs.declared.polling.Looks.{Looks}
 use Rattle.filing_core.specs.Complaints.{Disk, IsComplaintOf, IsJustOpened, IsStatusOf}
 use Rattle.filing_core.specs.Commands.{IsEngineDone, IsOverFile}
 
@@ -48,10 +49,18 @@ pub done_as : (filed : Result Status Complaint) (IsComplaint : Disk → FileFaul
 done_as filed IsComplaint weaker done = record { disk = done.disk; left = done.left; ended = done.ended; opened = done.opened; engine = weaker done.disk done.left done.ended done.engine; told = done.told }
 
 -- a follower that ended so ended also so
-pub follow_as : (filed : Result Status Complaint) {Has HasOther : Foreign → Foreign → FollowEnd → Type 0} → ((file left : Foreign) (end : FollowEnd) → Has file left end → HasOther file left end)
-    → IsFollowDone filed Has → IsFollowDone filed HasOther
-follow_as filed weaker done =
-    record { file = done.file; left = done.left; end = done.end; opened = done.opened; stays = done.stays; engine = weaker done.file done.left done.end done.engine; told = done.told }
+pub follow_as : (filed : Result Status Complaint) (looks : Looks) {Has HasOther : Foreign → Foreign → FollowEnd → Type 0} → ((file left : Foreign) (end : FollowEnd) → Has file left end → HasOther file left end)
+    → IsFollowDone filed looks Has → IsFollowDone filed looks HasOther
+follow_as filed looks weaker done = record {
+  file = done.file;
+  left = done.left;
+  end = done.end;
+  opened = done.opened;
+  stays = done.stays;
+  engine = weaker done.file done.left done.end done.engine;
+  paused = done.paused;
+  told = done.told;
+}
 
 -- a look that ended so ended also so
 pub look_as : (filed : Result Status Complaint) {Has HasOther : Foreign → Foreign → LookEnd → Type 0} → ((file left : Foreign) (end : LookEnd) → Has file left end → HasOther file left end)

@@ -2,3 +2,4 @@ pub mod Filings
 pub mod Watching
 pub mod Letting
 pub mod Copies
+mod Worked

@@ -1,5 +1,5 @@
 -- Commands that read a file beside its writer, and what is told of how their engines end.
-use Rattle.std.specs.Prelude.{◌≡◌, ◌≢◌, ◌⊎◌, ℕ, List, Option, Some, None, Result, Ok, Err}
+use Rattle.std.specs.Prelude.{◌≡◌, ◌≢◌, ◌⊎◌, ℕ, Bool, true, false, List, Option, Some, None, Result, Ok, Err}
 use Rattle.std.specs.declared.fs.File.{File}
 use Rattle.record_core.specs.Bytes.{Encoding}
 use Rattle.disk_core.specs.SharedFile.{held_of, now_of, synced_of, HasKept}
@@ -22,7 +22,7 @@ use Rattle.beside_core.specs.declared.since.Loss.{Loss}
 use Rattle.beside_core.specs.declared.since.Loss.TheVariants as losses
 use Rattle.follow_core.specs.Answers.{AreListed, AreMeasuresTold, IsCountLine, IsFoundLine}
 use Rattle.follow_core.specs.Beside.{AnswersRecords, IsReadBeside, IsSummarizedBeside}
-use Rattle.follow_core.specs.Followed.{IsFollowed, IsFollowedWhole}
+use Rattle.follow_core.specs.Followed.{IsFollowed, IsFollowedWhole, MayEndBy}
 use Rattle.follow_core.specs.Place.{IsPlace, place_text}
 use Rattle.follow_core.specs.Stepped.{IsFollowedByEvents, IsSteppedWhole}
 use Rattle.follow_core.specs.declared.place.Place.{Place}
@@ -30,6 +30,8 @@ use Rattle.follow_core.specs.declared.ended.FollowEnd.{FollowEnd}
 use Rattle.follow_core.specs.declared.ended.FollowEnd.TheVariants as follows
 use Rattle.follow_core.specs.declared.ended.LookEnd.{LookEnd}
 use Rattle.follow_core.specs.declared.ended.LookEnd.TheVariants as looks
+use Rattle.follow_core.specs.declared.pause.Rest.{Rest}
+use Rattle.follow_core.specs.declared.pause.Rest.TheVariants as rests
 use Rattle.stat_core.specs.declared.writing.Form.{Form}
 use Rattle.text_core.specs.declared.status.Status.{Status}
 use Rattle.text_core.specs.declared.status.Status.TheVariants as statuses
@@ -41,6 +43,8 @@ use Rattle.filing_core.specs.Complaints.{IsJustOpened}
 use Rattle.filing_core.specs.Copying.{HadRecords, MayBeUnread}
 use Rattle.filing_core.specs.declared.access.Readable.{Readable}
 use Rattle.filing_core.specs.declared.access.Readable.TheVariants.{Locked, Beside}
+use Rattle.filing_core.specs.declared.polling.Looks.{Looks}
+use Rattle.filing_core.specs.declared.polling.Looks.TheVariants.{Once, Each}
 use Rattle.filing_core.specs.declared.searching.Sought.{Sought}
 use Rattle.filing_core.specs.declared.searching.Sought.TheVariants as soughts
 
@@ -92,6 +96,22 @@ IsFollowStatus (follows.Lost loss) filed = filed ≡ Err (complaints.Beside (los
 IsFollowStatus (follows.Refused fault) filed = filed ≡ Err (look_complaint fault)
 IsFollowStatus follows.Replaced filed = (filed ≡ Err (complaints.Beside besides.Replaced)) ⊎ (filed ≡ Err (complaints.Beside besides.Cut))
 
+-- ---- the looks of `follow`
+
+-- those that the words ask for: one, or again and again, so many milliseconds apart
+abbrev pub looks_asked : ℕ → Bool → Looks
+looks_asked poll true = Once
+looks_asked poll false = Each poll
+
+-- what a pause of such looks may answer: behind one nothing but the end, and else never that
+abbrev pub MayRest : Looks → Rest → Type 0
+MayRest Once rests.End = Unit {0}
+MayRest Once rests.GoOn = ⊥
+MayRest Once rests.Replaced = ⊥
+MayRest (Each millis) rests.End = ⊥
+MayRest (Each millis) rests.GoOn = Unit {0}
+MayRest (Each millis) rests.Replaced = Unit {0}
+
 -- ---- the word PLACE of `follow`
 
 -- the word, where there is one, is this place
@@ -121,14 +141,15 @@ pub record IsLookDone (filed : Result Status Complaint) (HasLooked : Foreign →
   pub engine : HasLooked file left end
   pub told : IsLookStatus end filed
 
--- the same of a follower
-pub record IsFollowDone (filed : Result Status Complaint) (HasFollowed : Foreign → Foreign → FollowEnd → Type 0) : Type 0 where
+-- the same of a follower, by such looks
+pub record IsFollowDone (filed : Result Status Complaint) (looks : Looks) (HasFollowed : Foreign → Foreign → FollowEnd → Type 0) : Type 0 where
   pub file : Foreign
   pub left : Foreign
   pub end : FollowEnd
   pub opened : IsJustShared file
   pub stays : IsLeftShared file left
   pub engine : HasFollowed file left end
+  pub paused : MayEndBy (MayRest looks) end
   pub told : IsFollowStatus end filed
 
 -- the summary of what the file had at one moment of the look was written in that form

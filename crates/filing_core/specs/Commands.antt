@@ -2,14 +2,14 @@
 -- engine gave back; in between hold the engine's own clauses.
 use Rattle.std.specs.Prelude.{◌≡◌, ◌⊎◌, ◌+◌, ◌++◌, ℕ, Bool, true, false, List, [], length, codes, decimal, Option, Some, None, IfErr, Result, Ok, Err}
 use Rattle.std.specs.Io.KnownBytes.{Appends, Keeps}
+use Rattle.std.specs.declared.fs.File.{File}
 use Rattle.std.specs.Option.{option_copied}
 use Rattle.std.specs.NonZero.{non_zero_u32_get}
 use Rattle.std.specs.declared.num.NonZeroU32.{NonZeroU32}
 use Rattle.record_core.specs.Bytes.{Encoding}
 use Rattle.disk_core.specs.Fault.{CountsFailures}
-use Rattle.disk_core.specs.State.{now, IsImage}
 use Rattle.disk_core.specs.Calls.{bytes_of}
-use Rattle.disk_core.specs.Moments.{LeavesOnly, clock}
+use Rattle.disk_core.specs.Moments.{clock}
 use Rattle.disk_core.specs.FileDisk.{KeepsSoFar, faults_of, states_of}
 use Rattle.disk_core.specs.declared.fault.DiskFault.{DiskFault}
 use Rattle.segment_core.specs.declared.format.Format.{Format}
@@ -49,7 +49,9 @@ use Rattle.files_core.specs.declared.asked.Window.{Window}
 use Rattle.files_core.specs.declared.ended.Ended.{Ended}
 use Rattle.files_core.specs.declared.fault.FileFault.{FileFault}
 use Rattle.files_core.specs.declared.fault.FileFault.TheVariants.{Vault, Upgrade as Unupgraded}
+use Rattle.serve_core.specs.Clients.{LeavesClients}
 use Rattle.serve_core.specs.Serving.{IsLeft, IsServeRefusal, serve_failures}
+use Rattle.serve_core.specs.declared.client.Pipes.{Pipes}
 use Rattle.serve_core.specs.declared.fault.ServeFault.{ServeFault}
 use Rattle.stat_core.specs.Calls.{AreCalls, failed_at}
 use Rattle.stat_core.specs.Ended.{IsTold}
@@ -64,14 +66,19 @@ use Rattle.words_core.specs.declared.request.FileTask.{FileTask}
 use Rattle.words_core.specs.declared.request.Following.{Following}
 use Rattle.words_core.specs.declared.request.Following.TheVariants.{Records, Events}
 use Rattle.words_core.specs.declared.request.FileTask.TheVariants.{Create, Load, Append, Check, List as Listed, Follow, Count, Find, Set, Resize, Clear, Fold, Upgrade, Copy, Serve}
+use Rattle.filing_core.specs.declared.polling.Looks.{Looks}
 use Rattle.filing_core.specs.declared.searching.Sought.{Sought}
 use Rattle.filing_core.specs.declared.searching.Sought.TheVariants as soughts
 use Rattle.beside_core.specs.declared.fault.LookFault.{LookFault}
 use Rattle.follow_core.specs.declared.ended.LookEnd.{LookEnd}
 use Rattle.follow_core.specs.declared.place.Place.{Place}
-use Rattle.filing_core.specs.Beside.{CheckedBeside, FollowsEvents, FollowsFrom, Foreign, HadOnce, IsFollowDone, IsJustShared, IsLeftShared, IsLookDone, IsNoPlace, IsUnread, IsPlaceOr, ListedBeside, ReadsBeside, SoughtBeside, SummarizesBeside, copy_complaint}
+use Rattle.filing_core.specs.Beside.{CheckedBeside, FollowsEvents, FollowsFrom, Foreign, HadOnce, IsFollowDone, IsJustShared, IsLeftShared, IsLookDone, IsNoPlace, IsUnread, IsPlaceOr, looks_asked, ListedBeside, ReadsBeside, SoughtBeside, SummarizesBeside, copy_complaint}
 use Rattle.filing_core.specs.Asked.{IsWindow, IsNoWindow, IsNoRecord, AreSetRecords, IsNoSetting, IsNoResizing, AreInputGrowths, IsNoInput}
-use Rattle.filing_core.specs.Complaints.{Disk, IsJustOpened, IsComplaintOf, IsAppendComplaint, IsServeComplaint, IsStatusOf, IsStatStatus, IsRefusedBefore, IsLeftAlone, IsLeftUnopened, IsUnopened, IsUnserved}
+use Rattle.filing_core.specs.Complaints.{Disk, IsJustOpened, IsLookedAt, IsComplaintOf, IsAppendComplaint, IsServeComplaint, IsStatusOf, IsStatStatus, IsRefusedBefore, IsLeftAlone, IsLeftUnopened, IsUnopened, IsUnserved}
+
+-- of what a pipe holds nothing is known
+abbrev pub unknown : File → Option (List ℕ)
+unknown file = None
 
 -- of a server that has ended
 abbrev pub served_line : ℕ → List ℕ
@@ -81,13 +88,6 @@ served_line growths = ended_line ((codes "served " ++ decimal growths) ++ codes 
 abbrev pub TellsSought : {R : Type 0} → Encoding R → Sought → R → Type 0 → List ℕ → List ℕ → Type 0
 TellsSought form soughts.Count r known bytes text = TellsCount form r known bytes text
 TellsSought form soughts.First r known bytes text = TellsFirst form r known bytes text
-
--- a disk was only read
-pub record IsLookedAt (disk after : Disk) : Type 0 where
-  pub same : KeepsSoFar after → now (states_of after) ≡ now (states_of disk)
-  pub images : KeepsSoFar after → LeavesOnly (states_of disk) (states_of after) (IsImage (now (states_of disk)))
-  pub no_fault : faults_of after ≡ faults_of disk
-  pub model : KeepsSoFar after → KeepsSoFar disk
 
 -- An engine ended so over a disk that was opened, and the command with it.
 pub record IsEngineDone (filed : Result Status Complaint) (IsComplaint : Disk → FileFault → Complaint → Type 0) (HasEnded : Disk → Disk → Ended → Type 0) : Type 0 where
@@ -104,20 +104,28 @@ module _ {R : Type 0} (form : Encoding R) where
   MayBeMadeOn format true disk asked = asked ≡ disk
   MayBeMadeOn format false disk asked = IsLookedAt disk asked × (KeepsSoFar asked → IsVacantFor format form.width (bytes_of (states_of disk)))
 
-  -- it may not: something else stands there, or that couldn't be asked
-  abbrev pub IsOccupied : Option Format → PenFault → Type 0
-  IsOccupied format fault = (disk asked : Disk) × IsJustOpened disk
-      × (((fault ≡ pens.Exists) × (KeepsSoFar asked → ¬ (IsVacantFor format form.width (bytes_of (states_of disk)))))
-      ⊎ ((cause : DiskFault) × (fault ≡ pens.Disk cause) × (faults_of asked ≡ faults_of disk + 1)))
+  -- It may not on the disk, of which that was asked: by its bytes something else stands there, or a call failed.
+  abbrev pub IsOccupied : Option Format → Disk → Disk → PenFault → Type 0
+  IsOccupied format disk asked fault =
+      ((fault ≡ pens.Exists) × IsLookedAt disk asked × (KeepsSoFar asked → ¬ (IsVacantFor format form.width (bytes_of (states_of disk)))))
+      ⊎ ((cause : DiskFault) × (fault ≡ pens.Disk cause) × (faults_of asked ≡ faults_of disk + 1))
+
+  -- `create` may not make it there
+  abbrev pub IsTakenBy : Format → Disk → Disk → FileFault → Type 0
+  IsTakenBy format disk asked fault = (cause : PenFault) × (fault ≡ Vault (vaults.Pen cause)) × IsOccupied (Some format) disk asked cause
 
   -- `create` may not make it, as its words say
   abbrev pub IsPlaceTaken : Format → Bool → FileFault → Type 0
   IsPlaceTaken format true fault = ⊥
-  IsPlaceTaken format false fault = (cause : PenFault) × (fault ≡ Vault (vaults.Pen cause)) × IsOccupied (Some format) cause
+  IsPlaceTaken format false fault = (disk asked : Disk) × IsJustOpened disk × IsTakenBy format disk asked fault
 
-  -- `upgrade` or `copy` may not make its new file
+  -- `upgrade` or `copy` may not make its new file there
+  abbrev pub IsNewTakenBy : Option Format → Disk → Disk → FileFault → Type 0
+  IsNewTakenBy format disk asked fault = (cause : PenFault) × (fault ≡ Unupgraded (upgrades.New (vaults.Pen cause))) × IsOccupied format disk asked cause
+
+  -- nor anywhere else
   abbrev pub IsNewTaken : Option Format → FileFault → Type 0
-  IsNewTaken format fault = (cause : PenFault) × (fault ≡ Unupgraded (upgrades.New (vaults.Pen cause))) × IsOccupied format cause
+  IsNewTaken format fault = (disk asked : Disk) × IsJustOpened disk × IsNewTakenBy format disk asked fault
 
 -- ---- FILE and NEW of `copy` and `upgrade`
 
@@ -227,14 +235,15 @@ module _ {R : Type 0} (form : Encoding R) (old new : Option (List ℕ)) (filed :
       IsReadingRun (IsNoRecord spelling word) (λ disk left ended. (r : R) × IsRecord spelling word r × Reads (TellsSought form sought r) disk left ended)
       (λ file left end. (r : R) × IsRecord spelling word r × ReadsBeside form (SoughtBeside form sought r) old new file left end)
 
-  -- `follow`: the records from the position on that the word is, or the events behind the place that it is; it takes no lock
-  abbrev pub IsFollowRun : Spelling R → Following → Type 0
-  IsFollowRun spelling (Records from) =
+  -- `follow`: the records from the position on that the word is, or the events behind the place that it is, by such looks; it
+  -- takes no lock
+  abbrev pub IsFollowRun : Spelling R → Following → Looks → Type 0
+  IsFollowRun spelling (Records from) looks =
       IsRefusedBefore old new filed (IsNoWindow (option_copied from) None) ⊎ (IsLeftUnopened old new filed roles.File
-      ⊎ IsFollowDone filed (λ file left end. (first : ℕ) × IsNumberOr (option_copied from) 0 first × FollowsFrom form spelling.text_of first old new file left end))
-  IsFollowRun spelling (Events after) =
+      ⊎ IsFollowDone filed looks (λ file left end. (first : ℕ) × IsNumberOr (option_copied from) 0 first × FollowsFrom form spelling.text_of first old new file left end))
+  IsFollowRun spelling (Events after) looks =
       IsLeftAlone old new filed (λ complaint. (complaint ≡ complaints.Beside besides.NoPlace) × IsNoPlace (option_copied after)) ⊎ (IsLeftUnopened old new filed roles.File
-      ⊎ IsFollowDone filed (λ file left end. (place : Option Place) × IsPlaceOr (option_copied after) place × FollowsEvents form spelling.text_of place old new file left end))
+      ⊎ IsFollowDone filed looks (λ file left end. (place : Option Place) × IsPlaceOr (option_copied after) place × FollowsEvents form spelling.text_of place old new file left end))
 
   -- `set`: the records that the word or the input has, from the position on that is named
   abbrev pub IsSetRun : Spelling R → List ℕ → Option (List ℕ) → Option (List ℕ) → Type 0
@@ -280,7 +289,8 @@ module _ {R : Type 0} (form : Encoding R) (old new : Option (List ℕ)) (filed :
       × EndsAs (IsLoaded form KeepsSoFar states_of growths growers disk left appended) (IsLoadRefusal form KeepsSoFar states_of faults_of growths growers disk left appended) ended
       × WritesText old new (loaded_line appended.growths appended.size) ended)))
 
-  -- `append`: growths of so many lines of the input each; the complaint tells what was settled
+  -- `append`: growths of so many lines of the input each; the complaint tells what was settled. How long what has come waits for
+  -- more is its input's to keep, and of time no clause speaks.
   abbrev pub IsAppendRun : Spelling R → Option (List ℕ) → ℕ → Type 0
   IsAppendRun spelling input block =
       IsLeftUnopened old new filed roles.File ⊎ ((appended : Appended) × IsEngineDone filed (IsAppendComplaint form appended) (λ disk left ended.
@@ -318,29 +328,33 @@ module _ {R : Type 0} (form : Encoding R) (old new : Option (List ℕ)) (filed :
   IsServedAs left growths (Ok all) = (filed ≡ Ok statuses.OutputFailed) ⊎ ((filed ≡ Ok statuses.Done) × Appends old new (served_line growths))
   IsServedAs left growths (Err fault) = (complaint : Complaint) × (filed ≡ Err complaint) × IsServeComplaint form left growths fault complaint × Keeps old new
 
-  -- `serve`: so many clients grew the vector
+  -- `serve`: so many clients, each at a pair of pipes, grew the vector
   pub record HasServed (clients : ℕ) : Type 0 where
     pub disk : Disk
     pub left : Disk
     pub growths : ℕ
     pub served : Result (Unit {0}) ServeFault
+    pub pipes : List (Pipes File File)
+    pub as_many : length pipes ≡ clients
     pub opened : IsJustOpened disk
     pub leaves : KeepsSoFar left → IsLeft form states_of disk left growths served
+    pub theirs : KeepsSoFar left → LeavesClients form states_of unknown unknown pipes disk left growths served
     pub refused : IfErr served (IsServeRefusal form KeepsSoFar states_of clients left growths)
     pub faults_are : CountsFailures serve_failures (faults_of disk) (faults_of left) served
+    pub model : KeepsSoFar left → KeepsSoFar disk
     pub told : IsServedAs left growths served
 
   abbrev pub IsServeRun : ℕ → Type 0
   IsServeRun clients = IsLeftAlone old new filed IsUnserved ⊎ (IsLeftUnopened old new filed roles.File ⊎ HasServed clients)
 
--- what a command on records of these bytes and texts has done: its task is what the words ask for
+-- What a command on records of these bytes and texts has done: its task is what the words ask for.
 abbrev pub IsCommandRun : {R : Type 0} → Encoding R → Spelling R → FileTask → Option (List ℕ) → Option (List ℕ) → Option (List ℕ) → Result Status Complaint → Type 0
 IsCommandRun form spelling (Create format over) input old new filed = IsCreateRun form old new filed format over
 IsCommandRun form spelling (Load growers) input old new filed = IsLoadRun form old new filed spelling input growers
 IsCommandRun form spelling (Append block every) input old new filed = IsAppendRun form old new filed spelling input (non_zero_u32_get block)
 IsCommandRun form spelling Check input old new filed = IsCheckRun form old new filed
 IsCommandRun form spelling (Listed from count) input old new filed = IsListRun form old new filed spelling (option_copied from) (option_copied count)
-IsCommandRun form spelling (Follow what poll once) input old new filed = IsFollowRun form old new filed spelling what
+IsCommandRun form spelling (Follow what poll once) input old new filed = IsFollowRun form old new filed spelling what (looks_asked poll once)
 IsCommandRun form spelling (Count wanted) input old new filed = IsSearchRun form old new filed spelling soughts.Count wanted.now
 IsCommandRun form spelling (Find wanted) input old new filed = IsSearchRun form old new filed spelling soughts.First wanted.now
 IsCommandRun form spelling (Set start records) input old new filed = IsSetRun form old new filed spelling start.now (option_copied records) input

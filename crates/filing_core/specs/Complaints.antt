@@ -3,6 +3,8 @@ use Rattle.std.specs.Prelude.{◌≡◌, ◌∷◌, [], ℕ, List, Option, Some,
 use Rattle.std.specs.Io.KnownBytes.{Keeps}
 use Rattle.record_core.specs.Bytes.{Encoding}
 use Rattle.disk_core.specs.File.{opened}
+use Rattle.disk_core.specs.Moments.{LeavesOnly}
+use Rattle.disk_core.specs.State.{now, IsImage}
 use Rattle.disk_core.specs.FileDisk.{KeepsSoFar, faults_of, states_of, truth_of}
 use Rattle.disk_core.specs.Calls.{bytes_of}
 use Rattle.disk_core.specs.declared.file.FileDisk.{FileDisk}
@@ -43,6 +45,13 @@ pub record IsJustOpened (disk : Disk) : Type 0 where
   pub no_fault : faults_of disk ≡ 0
   pub model : KeepsSoFar disk
 
+-- a disk was only read, and no call of it failed
+pub record IsLookedAt (disk after : Disk) : Type 0 where
+  pub same : KeepsSoFar after → now (states_of after) ≡ now (states_of disk)
+  pub images : KeepsSoFar after → LeavesOnly (states_of disk) (states_of after) (IsImage (now (states_of disk)))
+  pub no_fault : faults_of after ≡ faults_of disk
+  pub model : KeepsSoFar after → KeepsSoFar disk
+
 -- a file of that role can't be opened or made, or another command has it
 abbrev pub IsUnopened : Role → Complaint → Type 0
 IsUnopened role (complaints.NotOpened of error) = of ≡ role
@@ -65,17 +74,18 @@ damage_of (Open fault) = damage_in fault
 damage_of (Upgrade (upgrades.Old fault)) = damage_in fault
 damage_of other = None
 
--- so many records are sound before the damage, on the disk that an engine left
-pub record IsSoundOn {R : Type 0} (form : Encoding R) (left : Disk) (fault : FileFault) (sound : ℕ) : Type 0 where
+-- So many records are sound before the damage that the fault tells of, by the bytes of the disk that an engine left. It was then
+-- read once more, which left the last one.
+pub record IsSoundOn {R : Type 0} (form : Encoding R) (left last : Disk) (fault : FileFault) (sound : ℕ) : Type 0 where
   pub at : ℕ
   pub damaged : damage_of fault ≡ Some at
-  pub last : Disk
+  pub looked : IsLookedAt left last
   pub front : KeepsSoFar last → IsSoundFront form (bytes_of (states_of left)) at sound
 
 -- The complaint has the fault of the engine that left this disk, and of a damaged file how much of it is sound.
 abbrev pub IsComplaintOf : {R : Type 0} → Encoding R → Disk → FileFault → Complaint → Type 0
 IsComplaintOf form left fault (complaints.Fault told) = told ≡ fault
-IsComplaintOf form left fault (complaints.Damaged sound told) = (told ≡ fault) × IsSoundOn form left fault sound
+IsComplaintOf form left fault (complaints.Damaged sound told) = (told ≡ fault) × (last : Disk) × IsSoundOn form left last fault sound
 IsComplaintOf form left fault other = ⊥
 
 -- the complaint of `append` or `load` has also what was settled, where the file was opened

@@ -78,9 +78,13 @@ impl<'a, F: Files<File = File> + Clock + AllocGlobal, P: Progress + Sync> Filing
     ) -> Result<Status, Complaint>
         ensures { IsJustOpened disk.entry → IsCreateRun R.form (W.contents writer.old) (W.contents writer.new) result format false }
     {
-        let disk = takeable::<R>(disk, format)?;
-        let (disk, ended) = create::<R, NotedDisk<'_>, W>(self.alloc, disk, format, writer);
-        status_on::<R>(self.alloc, disk, ended)
+        match takeable::<R>(disk, format) {
+            Ok(disk) => {
+                let (disk, ended) = create::<R, NotedDisk<'_>, W>(self.alloc, disk, format, writer);
+                status_on::<R>(self.alloc, disk, ended)
+            }
+            Err((_asked, fault)) => Err(Complaint::Fault(fault)),
+        }
     }
 
     /// Makes a vector on the disk of a file that was emptied.

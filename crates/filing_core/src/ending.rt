@@ -1,7 +1,7 @@
 //! How a command over a file ends, by how its engine did.
 
-ghost use Rattle.std.specs.Prelude.{◌≡◌, MatchResult};
-ghost use Rattle.filing_core.specs.Complaints.{IsAppendComplaint, IsComplaintOf, IsStatusOf, damage_of};
+ghost use Rattle.std.specs.Prelude.{◌≡◌, IfSome, MatchResult};
+ghost use Rattle.filing_core.specs.Complaints.{IsAppendComplaint, IsComplaintOf, IsSoundOn, IsStatusOf, damage_of};
 ghost use Rattle.filing_core.specs.Commands.{IsServedAs};
 
 use crate::noting::NotedDisk;
@@ -28,6 +28,19 @@ fn damage_of(fault: FileFault) -> Option<u64>
     }
 }
 
+/// How many records are sound of the file on the disk, where this fault tells that it is damaged, and that can be read.
+fn sound_on<R: TextRecord>(alloc: Global, disk: &mut NotedDisk<'_>, fault: FileFault) -> Option<u64>
+    ensures { IfSome result (IsSoundOn R.form disk.old disk.new fault) }
+{
+    let Some(at) = damage_of(fault) else {
+        return None;
+    };
+    match sound_front::<R, NotedDisk<'_>>(alloc, disk, at) {
+        Ok(sound) => Some(sound),
+        Err(_) => None,
+    }
+}
+
 /// The complaint of a command whose engine gave its disk back with this fault: of a damaged file with what is sound of it.
 pub fn complaint_of<R: TextRecord>(
     alloc: Global,
@@ -37,12 +50,9 @@ pub fn complaint_of<R: TextRecord>(
     ensures { IsComplaintOf R.form disk.entry fault result }
 {
     let mut disk = disk;
-    let Some(at) = damage_of(fault) else {
-        return Complaint::Fault(fault);
-    };
-    match sound_front::<R, NotedDisk<'_>>(alloc, &mut disk, at) {
-        Ok(sound) => Complaint::Damaged(sound, fault),
-        Err(_) => Complaint::Fault(fault),
+    match sound_on::<R>(alloc, &mut disk, fault) {
+        Some(sound) => Complaint::Damaged(sound, fault),
+        None => Complaint::Fault(fault),
     }
 }
 

@@ -43,7 +43,7 @@ impl<'a, F: Files<File = File> + Clock + AllocGlobal, P: Progress + Sync> Filing
         from: u64,
         writer: &mut W,
     ) -> Result<Status, Complaint>
-        ensures { IsJustShared file → IsFollowDone result (FollowsFrom R.form R.spelling.text_of from (W.contents writer.old) (W.contents writer.new)) }
+        ensures { IsJustShared file → IsFollowDone result polling.entry.looks (FollowsFrom R.form R.spelling.text_of from (W.contents writer.old) (W.contents writer.new)) }
     {
         let (mut file, mut polling) = (file, polling);
         let end = follow::<R, SharedFile, W, Polling<'_, F>>(
@@ -64,7 +64,7 @@ impl<'a, F: Files<File = File> + Clock + AllocGlobal, P: Progress + Sync> Filing
         after: Option<Place>,
         writer: &mut W,
     ) -> Result<Status, Complaint>
-        ensures { IsJustShared file → IsFollowDone result (FollowsEvents R.form R.spelling.text_of after (W.contents writer.old) (W.contents writer.new)) }
+        ensures { IsJustShared file → IsFollowDone result polling.entry.looks (FollowsEvents R.form R.spelling.text_of after (W.contents writer.old) (W.contents writer.new)) }
     {
         let (mut file, mut polling) = (file, polling);
         let end = follow_events::<R, SharedFile, W, Polling<'_, F>>(
@@ -83,7 +83,7 @@ impl<'a, F: Files<File = File> + Clock + AllocGlobal, P: Progress + Sync> Filing
         looks: Looks,
         writer: &mut W,
     ) -> Result<Status, Complaint>
-        ensures { IsFollowRun R.form (W.contents writer.old) (W.contents writer.new) result R.spelling what.entry }
+        ensures { IsFollowRun R.form (W.contents writer.old) (W.contents writer.new) result R.spelling what.entry looks }
     {
         match what {
             Following::Records { from } => {

@@ -89,7 +89,10 @@ impl<'a, F: Files<File = File> + Clock + AllocGlobal, P: Progress + Sync> Filing
         requires few { length records.items ≤ 2 ^ 32 }
         ensures { IsJustOpened disk.entry → MatchResult result (IsNewMade R.form format block own records.items) (IsNewUnmade R.form format block own records.items) }
     {
-        let disk = new_place::<R>(disk, format)?;
+        let disk = match new_place::<R>(disk, format) {
+            Ok(disk) => disk,
+            Err((_asked, fault)) => return Err(Complaint::Fault(fault)),
+        };
         let before = vector_len(&lock.file);
         match copy_to::<R, NotedDisk<'_>>(self.alloc, own, records, disk, format, block) {
             Ok(vault) => Ok(vault.len()),

@@ -1,8 +1,7 @@
 //! What stands in a file, where a new one may be made, and what a copy that was refused leaves there.
 
 ghost use Rattle.std.specs.Prelude.{false, Some, IfOk, IfErr};
-ghost use Rattle.filing_core.specs.Complaints.{IsJustOpened};
-ghost use Rattle.filing_core.specs.Commands.{IsNewTaken, IsPlaceTaken, IsOccupied, MayBeMadeOn};
+ghost use Rattle.filing_core.specs.Commands.{IsNewTakenBy, IsOccupied, IsTakenBy, MayBeMadeOn};
 
 use crate::access::{known_of, open_to_read};
 use crate::noting::NotedDisk;
@@ -39,19 +38,19 @@ pub fn standing_in<F: Files<File = File>>(files: &F, path: &str) -> Standing {
 }
 
 /// The disk, where nothing stands on it but what a stopped creation of such a file leaves, or where no version is said of one
-/// of either.
+/// of either. Gives it back with the refusal, too.
 fn vacant<'a, R: TextRecord>(
     disk: NotedDisk<'a>,
     format: Option<Format>,
-) -> Result<NotedDisk<'a>, PenFault>
+) -> Result<NotedDisk<'a>, (NotedDisk<'a>, PenFault)>
     ensures vacant { IfOk result (MayBeMadeOn R.form format false disk.entry) }
-    ensures taken { IsJustOpened disk.entry → IfErr result (IsOccupied R.form format) }
+    ensures taken { IfErr result (λ r. IsOccupied R.form format disk.entry r.0 r.1) }
 {
     let mut disk = disk;
     match is_vacant::<R, NotedDisk<'_>>(&mut disk, format) {
         Ok(true) => Ok(disk),
-        Ok(false) => Err(PenFault::Exists),
-        Err(fault) => Err(PenFault::Disk(fault)),
+        Ok(false) => Err((disk, PenFault::Exists)),
+        Err(fault) => Err((disk, PenFault::Disk(fault))),
     }
 }
 
@@ -59,13 +58,13 @@ fn vacant<'a, R: TextRecord>(
 pub fn takeable<'a, R: TextRecord>(
     disk: NotedDisk<'a>,
     format: Format,
-) -> Result<NotedDisk<'a>, FileFault>
+) -> Result<NotedDisk<'a>, (NotedDisk<'a>, FileFault)>
     ensures vacant { IfOk result (MayBeMadeOn R.form (Some format) false disk.entry) }
-    ensures taken { IsJustOpened disk.entry → IfErr result (IsPlaceTaken R.form format false) }
+    ensures taken { IfErr result (λ r. IsTakenBy R.form format disk.entry r.0 r.1) }
 {
     match vacant::<R>(disk, Some(format)) {
         Ok(disk) => Ok(disk),
-        Err(fault) => Err(FileFault::Vault(VaultFault::Pen(fault))),
+        Err((disk, fault)) => Err((disk, FileFault::Vault(VaultFault::Pen(fault)))),
     }
 }
 
@@ -73,13 +72,16 @@ pub fn takeable<'a, R: TextRecord>(
 pub fn new_place<'a, R: TextRecord>(
     disk: NotedDisk<'a>,
     format: Option<Format>,
-) -> Result<NotedDisk<'a>, FileFault>
+) -> Result<NotedDisk<'a>, (NotedDisk<'a>, FileFault)>
     ensures vacant { IfOk result (MayBeMadeOn R.form format false disk.entry) }
-    ensures taken { IsJustOpened disk.entry → IfErr result (IsNewTaken R.form format) }
+    ensures taken { IfErr result (λ r. IsNewTakenBy R.form format disk.entry r.0 r.1) }
 {
     match vacant::<R>(disk, format) {
         Ok(disk) => Ok(disk),
-        Err(fault) => Err(FileFault::Upgrade(UpgradeFault::New(VaultFault::Pen(fault)))),
+        Err((disk, fault)) => {
+            let fault = UpgradeFault::New(VaultFault::Pen(fault));
+            Err((disk, FileFault::Upgrade(fault)))
+        }
     }
 }
 

@@ -1,7 +1,7 @@
 //! What `follow` does between two looks.
 
 ghost use Rattle.std.specs.Prelude.{◌≡◌, ◌⊎◌, IfErr, IfOk};
-ghost use Rattle.filing_core.specs.Beside.{IsJustShared};
+ghost use Rattle.filing_core.specs.Beside.{IsJustShared, looks_asked};
 ghost use Rattle.filing_core.specs.Complaints.{IsUnopened};
 
 use crate::access::{known_of, open_to_read, shared};
@@ -25,7 +25,9 @@ pub enum Looks {
 }
 
 /// The looks that the words of `follow` ask for.
-pub fn looks_of(poll: u64, once: bool) -> Looks {
+pub fn looks_of(poll: u64, once: bool) -> Looks
+    ensures { result ≡ looks_asked poll once }
+{
     if once { Looks::Once } else { Looks::Each(poll) }
 }
 
@@ -46,7 +48,7 @@ enum Standing {
 pub struct Polling<'a, F> {
     files: &'a F,
     path: &'a str,
-    looks: Looks,
+    pub(crate) looks: Looks,
     /// The system's numbers of the file.
     device: u64,
     inode: u64,
@@ -70,6 +72,7 @@ pub fn open_polled<'a, F: Files<File = File>>(
     looks: Looks,
 ) -> Result<(SharedFile, Polling<'a, F>), Complaint>
     ensures opened { IfOk result (λ opened. IsJustShared opened.0) }
+    ensures looks { IfOk result (λ opened. opened.1.looks ≡ looks) }
     ensures shut { IfErr result (IsUnopened Role.File) }
 {
     let (file, metadata) = match open_known(files, path) {
@@ -90,7 +93,9 @@ pub fn open_polled<'a, F: Files<File = File>>(
 
 impl<'a, F: Files<File = File> + Clock> Polling<'a, F> {
     /// Whether these are what the system knows of the file that was opened, and how it stands.
-    fn standing_by(&mut self, metadata: &Metadata) -> Standing {
+    fn standing_by(&mut self, metadata: &Metadata) -> Standing
+        ensures { self.new.looks ≡ self.old.looks }
+    {
         if metadata.dev() != self.device || metadata.ino() != self.inode {
             return Standing::Replaced;
         }
@@ -102,7 +107,9 @@ impl<'a, F: Files<File = File> + Clock> Polling<'a, F> {
     }
 
     /// How the file stands by its name. Where the system doesn't say, it stands as before.
-    fn ask(&mut self) -> Standing {
+    fn ask(&mut self) -> Standing
+        ensures { self.new.looks ≡ self.old.looks }
+    {
         match fs::metadata(self.files, self.path) {
             Ok(metadata) => self.standing_by(&metadata),
             Err(error) => match error.kind() {
@@ -113,7 +120,10 @@ impl<'a, F: Files<File = File> + Clock> Polling<'a, F> {
     }
 
     /// Sleeps for so many milliseconds, and asks how the file stands then.
-    fn sleep(&mut self, millis: u64) -> Rest {
+    fn sleep(&mut self, millis: u64) -> Rest
+        ensures goes_on { (result ≡ Rest.GoOn) ⊎ (result ≡ Rest.Replaced) }
+        ensures same { self.new.looks ≡ self.old.looks }
+    {
         thread::sleep(self.files, Duration::from_millis(millis));
         self.standing = self.ask();
         match self.standing {
@@ -134,6 +144,10 @@ impl<'a, F: Files<File = File> + Clock> Polling<'a, F> {
 }
 
 impl<'a, F: Files<File = File> + Clock> Pause for Polling<'a, F> {
+    ghost use Rattle.filing_core.specs.Beside.{MayRest};
+
+    ghost may_answer = { λ polling. MayRest polling.looks };
+
     fn rest(&mut self) -> Rest {
         match (self.looks, self.standing) {
             (Looks::Once, _) => Rest::End,

@@ -20,7 +20,10 @@ use Rattle.beside_core.specs.declared.fault.LookFault.TheVariants.{Scan}
 use Rattle.beside_core.specs.PensFile.{IsPensFile}
 use Rattle.follow_core.specs.Beside.{WereOnce, AreRecordsLeft, AnswersRecords, IsSummaryTold, IsSummarizedBeside}
 use Rattle.follow_core.specs.declared.ended.LookEnd.TheVariants.{Refused}
-use Rattle.follow_core.specs.Followed.{AreSettled, HasFollowed}
+use Rattle.follow_core.specs.Followed.{AreSettled, HasFollowed, IsEndOfLook, MayEndBy}
+use Rattle.follow_core.specs.declared.ended.FollowEnd.TheVariants as ends
+use Rattle.follow_core.specs.declared.pause.Rest.{Rest}
+use Rattle.follow_core.specs.declared.pause.Rest.TheVariants as rests
 
 -- ---- texts
 
@@ -183,3 +186,26 @@ not_of_two is = let byte : 50 ≡ 49 = ap (λ (t : List ℕ). get_or t 8 0) is i
 -- the file of a pen is never called damaged
 never_damaged : (held : ℕ → List ℕ) (fault : ScanFault) → IsPensFile one_byte held frames → IsSummarizedBeside Lines (Unit {0}) held 0 1 0 None None (Refused (Scan fault)) → ⊥
 never_damaged held fault file is = absurd (is.1 tt one_byte frames file)
+
+-- ---- pauses
+
+-- what a pause may answer that never ends a follower, and one that ends it behind the first look
+abbrev GoesOn : Rest → Type 0
+GoesOn rests.End = ⊥
+GoesOn rests.GoOn = Unit {0}
+GoesOn rests.Replaced = Unit {0}
+
+abbrev EndsAtOnce : Rest → Type 0
+EndsAtOnce rests.End = Unit {0}
+EndsAtOnce rests.GoOn = ⊥
+EndsAtOnce rests.Replaced = ⊥
+
+goes_on : MayEndBy GoesOn ends.Replaced × MayEndBy GoesOn ends.OutputFailed × (MayEndBy GoesOn ends.Ended → ⊥)
+goes_on = (tt, tt, λ may. may)
+
+ends_at_once : MayEndBy EndsAtOnce ends.Ended × MayEndBy EndsAtOnce ends.OutputFailed × (MayEndBy EndsAtOnce ends.Replaced → ⊥)
+ends_at_once = (tt, tt, λ may. may)
+
+-- no look ends as a pause does
+by_a_pause : IsEndOfLook ends.OutputFailed × (IsEndOfLook ends.Ended → ⊥) × (IsEndOfLook ends.Replaced → ⊥)
+by_a_pause = (tt, (λ is. is), λ is. is)

@@ -18,6 +18,8 @@ use Rattle.beside_core.specs.Since.{IsSinceAt, MayRefuse}
 use Rattle.follow_core.specs.declared.ended.FollowEnd.{FollowEnd}
 use Rattle.follow_core.specs.declared.ended.FollowEnd.TheVariants.{Lost, Refused, OutputFailed, Ended, Replaced}
 use Rattle.follow_core.specs.declared.following.Reached.{Reached}
+use Rattle.follow_core.specs.declared.pause.Rest.{Rest}
+use Rattle.follow_core.specs.declared.pause.Rest.TheVariants as rests
 
 -- the records that a look answered were written, but for the first ones, and the bookmark lies behind them
 pub record WroteRecords {R : Type 0} (form : Encoding R) (text_of : R → List ℕ) (skip : ℕ) (shape : Shape) (frames : ℕ
@@ -96,3 +98,19 @@ IsFollowedWhole form text_of first held from to synced old new (Refused fault) =
 IsFollowedWhole form text_of first held from to synced old new OutputFailed = Unit {0}
 IsFollowedWhole form text_of first held from to synced old new Ended = HasFollowedWhole form text_of first held from to synced old new
 IsFollowedWhole form text_of first held from to synced old new Replaced = HasFollowedWhole form text_of first held from to synced old new
+
+-- a look has ended a follower, or a write: no pause has
+abbrev pub IsEndOfLook : FollowEnd → Type 0
+IsEndOfLook Ended = ⊥
+IsEndOfLook Replaced = ⊥
+IsEndOfLook (Lost loss) = Unit {0}
+IsEndOfLook (Refused fault) = Unit {0}
+IsEndOfLook OutputFailed = Unit {0}
+
+-- A follower whose pause may give these answers may end so: as ended or replaced only by that answer.
+abbrev pub MayEndBy : (Rest → Type 0) → FollowEnd → Type 0
+MayEndBy may Ended = may rests.End
+MayEndBy may Replaced = may rests.Replaced
+MayEndBy may (Lost loss) = Unit {0}
+MayEndBy may (Refused fault) = Unit {0}
+MayEndBy may OutputFailed = Unit {0}

@@ -1,6 +1,6 @@
 //! Events, by which another process keeps a copy of a vector, step by step.
 
-ghost use Rattle.std.specs.Prelude.{◌≡◌, ◌≤◌, ℕ, List, OnOk, MatchResult};
+ghost use Rattle.std.specs.Prelude.{◌≡◌, ◌≤◌, ℕ, List, OnOk, IfErr, MatchResult};
 ghost use Rattle.std.specs.Io.KnownBytes.{Appends};
 ghost use Rattle.segment_core.specs.declared.format.Shape.{Shape};
 ghost use Rattle.segment_core.specs.Frame.{Frame};
@@ -9,6 +9,7 @@ ghost use Rattle.beside_core.specs.PensFile.{IsPensFile};
 ghost use Rattle.beside_core.specs.Bookmark.{LiesBehind};
 ghost use Rattle.beside_core.specs.Fault.{IsNoDamage};
 ghost use Rattle.follow_core.specs.Event.{event_of, event_text, edit_lines, put_lines};
+ghost use Rattle.follow_core.specs.Followed.{IsEndOfLook, MayEndBy};
 ghost use Rattle.follow_core.specs.Stepped.{step_end, WritesStep, IsStepped, BeginsBehind, IsFollowedByEvents, IsSteppedWhole};
 
 use crate::ended::FollowEnd;
@@ -94,6 +95,7 @@ pub fn follow_step<R: TextRecord, S: Shared, W: Write>(
 ) -> Result<Bookmark, FollowEnd>
     ensures stepped { S.keeps file.new → IsStepped R.form R.spelling.text_of mark (S.held file.old) (S.now file.old) (S.now file.new) (S.synced file.new)
         (W.contents writer.old) (W.contents writer.new) result }
+    ensures by_look { IfErr result IsEndOfLook }
     ensures same { S.held file.new ≡ S.held file.old }
     ensures time { S.now file.old ≤ S.now file.new }
     ensures keeps_settled { S.synced file.old ≤ S.synced file.new }
@@ -145,6 +147,7 @@ pub fn follow_events<R: TextRecord, S: Shared, W: Write, P: Pause>(
         (W.contents writer.old) (W.contents writer.new) result }
     ensures whole { S.keeps file.new → IsSteppedWhole R.form R.spelling.text_of after (S.held file.old) (S.now file.old) (S.now file.new) (S.synced file.new)
         (W.contents writer.old) (W.contents writer.new) result }
+    ensures paused { MayEndBy (P.may_answer pause.old) result }
     ensures same { S.held file.new ≡ S.held file.old }
     ensures time { S.now file.old ≤ S.now file.new }
     ensures model { S.keeps file.new → S.keeps file.old }

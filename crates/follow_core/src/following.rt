@@ -1,9 +1,9 @@
 //! Looks, one behind the other, and what is written of each.
 
-ghost use Rattle.std.specs.Prelude.{◌≡◌, ◌-◌, ◌≤◌, OnOk, drop};
+ghost use Rattle.std.specs.Prelude.{◌≡◌, ◌-◌, ◌≤◌, OnOk, IfErr, drop};
 ghost use Rattle.std.specs.Io.KnownBytes.{Appends};
 ghost use Rattle.text_core.specs.Text.{record_lines};
-ghost use Rattle.follow_core.specs.Followed.{IsFollowedOn, IsFollowed, IsFollowedWhole};
+ghost use Rattle.follow_core.specs.Followed.{IsEndOfLook, IsFollowedOn, IsFollowed, IsFollowedWhole, MayEndBy};
 
 use crate::ended::FollowEnd;
 use crate::pause::{Pause, Rest};
@@ -42,6 +42,7 @@ pub fn follow_on<R: TextRecord, S: Shared, W: Write>(
 ) -> Result<Reached, FollowEnd>
     ensures followed { S.keeps file.new → IsFollowedOn R.form R.spelling.text_of reached (S.held file.old) (S.now file.old) (S.now file.new) (S.synced file.new)
         (W.contents writer.old) (W.contents writer.new) result }
+    ensures by_look { IfErr result IsEndOfLook }
     ensures same { S.held file.new ≡ S.held file.old }
     ensures time { S.now file.old ≤ S.now file.new }
     ensures keeps_settled { S.synced file.old ≤ S.synced file.new }
@@ -73,6 +74,7 @@ pub fn follow<R: TextRecord, S: Shared, W: Write, P: Pause>(
     ensures followed { S.keeps file.new → IsFollowed R.form R.spelling.text_of from (S.held file.old) (S.now file.new) (S.synced file.new) (W.contents writer.old) (W.contents writer.new) result }
     ensures whole { S.keeps file.new → IsFollowedWhole R.form R.spelling.text_of from (S.held file.old) (S.now file.old) (S.now file.new) (S.synced file.new)
         (W.contents writer.old) (W.contents writer.new) result }
+    ensures paused { MayEndBy (P.may_answer pause.old) result }
     ensures same { S.held file.new ≡ S.held file.old }
     ensures model { S.keeps file.new → S.keeps file.old }
 {

@@ -88,8 +88,9 @@ fn append_batch<R: TextRecord, D: Disk, P: Progress>(
     *appended = more_appended(*appended, settled as u64, block, pen.len());
     match done {
         Ok(()) => {
+            let over = go_on(rest, before, lines, appended);
             progress.appended(*appended);
-            go_on(rest, before, lines, appended)
+            over
         }
         Err(fault) => Some(Err(fault_behind(appended, fault))),
     }

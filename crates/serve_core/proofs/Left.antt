@@ -39,7 +39,7 @@ module _ {R D : Type 0} (form : Encoding R) (keeps : D → Type 0) (states : D �
 
   -- the file opens to the list as ever
   nothing_grown : (left : D) → left ≡ vault.pen.disk → ((image : List ℕ) → IsImage (now (states left)) image → OpensTo form image (list_of vault))
-      → keeps left → (served : IsServed form states disk left 0) × (served.growths ≡ [])
+      → keeps left → (served : IsServed form states disk left 0) × (served.growths ≡ []) × (served.before ≡ list_of vault)
   nothing_grown left same opens kept =
       let still : keeps vault.pen.disk = subst keeps same kept in (
         record {
@@ -54,6 +54,7 @@ module _ {R D : Type 0} (form : Encoding R) (keeps : D → Type 0) (states : D �
           stands = λ image is. record { count = 0; at_least = omega arith; known = omega arith; opens = subst (OpensTo form image) (sym (append-nil (list_of vault))) (opens image is) };
         },
         refl,
+        refl,
       )
 
   -- no phase was begun
@@ -61,7 +62,8 @@ module _ {R D : Type 0} (form : Encoding R) (keeps : D → Type 0) (states : D �
       → (keeps left → (image : List ℕ) → IsImage (now (states left)) image → MayHold form back image) → keeps left
       → (served : IsServed form states disk left 0) × (served.growths ≡ [])
   handed_back back is left same sure images kept =
-      nothing_grown left whole (λ image at. one image (subst (λ (v : VaultOf R D). MayHold form v image) is (images kept image at))) kept
+      let none = nothing_grown left whole (λ image at. one image (subst (λ (v : VaultOf R D). MayHold form v image) is (images kept image at))) kept in
+      (none.0, none.1)
     where
       whole : left ≡ vault.pen.disk
       whole = same ∙ ap (λ (v : VaultOf R D). v.pen.disk) is
@@ -74,7 +76,7 @@ module _ {R D : Type 0} (form : Encoding R) (keeps : D → Type 0) (states : D �
   pub not_started : (live : Phase R) (begun back : FlusherOf R D) → live.blocks ≡ vault.blocks → begun.pen ≡ vault.pen
       → IsFlusherOf (keeps vault.pen.disk) live begun → begun.pass.entries ≡ [] → back ≡ begun
       → (left : D) → left ≡ back.pen.disk → (keeps left → (image : List ℕ) → IsImage (now (states left)) image → OpensToJob form back image)
-      → keeps left → (served : IsServed form states disk left 0) × (served.growths ≡ [])
+      → keeps left → (served : IsServed form states disk left 0) × (served.growths ≡ []) × (served.before ≡ list_of vault)
   not_started live begun back blocks pen of none is left same images kept =
       nothing_grown left whole (λ image at. first image (subst (λ (f : FlusherOf R D). OpensToJob form f image) is (images kept image at))) kept
     where
@@ -177,23 +179,29 @@ module _ {R D : Type 0} (form : Encoding R) (keeps : D → Type 0) (states : D �
       unfolding was_served
       all_settled all = (was_served, count_is ∙ all)
 
+  -- the flusher of a phase came back as it was, so nothing was grown
+  pub unserved : (room seats : ℕ) (live : Phase R) (begun back : FlusherOf R D) → Shares (keeps vault.pen.disk) vault room seats live begun → back ≡ begun
+      → (left : D) (settled : ℕ) → left ≡ back.pen.disk → settled ≡ back.settled → (keeps left → (image : List ℕ) → IsImage (now (states left)) image → OpensToJob form back image)
+      → keeps left → (served : IsServed form states disk left settled) × (served.growths ≡ []) × (served.before ≡ list_of vault)
+  unserved room seats live begun back shares is left settled same count images kept =
+      let none : settled ≡ 0 = count ∙ ap (λ (f : FlusherOf R D). f.settled) is ∙ shares.counts.1 in
+      subst (λ n. (served : IsServed form states disk left n) × (served.growths ≡ []) × (served.before ≡ list_of vault)) (sym none)
+      (not_started live begun back shares.blocks shares.pen shares.of shares.knows is left same images kept)
+
   -- what came of the phase is left
   pub phase_left : {X : Type 0} (faults : D → ℕ) (room seats : ℕ) (live : Phase R) (begun : FlusherOf R D) → Shares (keeps vault.pen.disk) vault room seats live begun
       → (left : D) (settled : ℕ) (result : Result X ServeFault) → IsPhaseLeft form keeps states faults live begun left settled result → keeps left → IsLeft form states disk left settled result
   phase_left faults room seats live begun shares left settled result ended kept = by_result result ended.comes
     where
-      unserved : ended.flusher ≡ begun → (served : IsServed form states disk left settled) × (served.growths ≡ [])
-      unserved is =
-          let none : settled ≡ 0 = ended.settled_is ∙ ap (λ (f : FlusherOf R D). f.settled) is ∙ shares.counts.1 in
-          subst (λ n. (served : IsServed form states disk left n) × (served.growths ≡ [])) (sym none)
-          (not_started live begun ended.flusher shares.blocks shares.pen shares.of shares.knows is left ended.disk_is ended.images kept)
+      back : ended.flusher ≡ begun → (served : IsServed form states disk left settled) × (served.growths ≡ [])
+      back is = let none = unserved room seats live begun ended.flusher shares is left settled ended.disk_is ended.settled_is ended.images kept in (none.0, none.1)
 
       by_result : {X : Type 0} (result : Result X ServeFault) → ComesBack form keeps states faults live begun ended.flusher result → IsLeft form states disk left settled result
       by_result (Ok x) comes =
           all_settled live begun ended.flusher shares.blocks shares.pen comes.of comes.served left settled ended.disk_is ended.settled_is ended.known ended.images kept comes.ended.all
       by_result (Err (Open fault)) comes = absurd comes
-      by_result (Err (Share fault)) comes = unserved comes.1
-      by_result (Err Thread) comes = unserved comes
+      by_result (Err (Share fault)) comes = back comes.1
+      by_result (Err Thread) comes = back comes
       by_result (Err (Flush fault)) comes =
           was_served live begun ended.flusher shares.blocks shares.pen (IsFlusherOf-learns keeps live comes.stopped ended.flusher comes.flushed.of comes.learns)
           (Serves-learns comes.flushed.served comes.learns) left settled ended.disk_is ended.settled_is ended.known ended.images kept
@@ -206,14 +214,27 @@ module _ {R D : Type 0} (form : Encoding R) (keeps : D → Type 0) (states : D �
   unfolding was_served served_to
   phase_clients {X} faults room seats live begun shares wide remaining contents pipes left settled result ended taken kept = by_result result ended.comes taken
     where
+      back : ended.flusher ≡ begun → (served : IsServed form states disk left settled) × (served.growths ≡ []) × (served.before ≡ list_of vault)
+      back is = unserved room seats live begun ended.flusher shares is left settled ended.disk_is ended.settled_is ended.images kept
+
       by_result : (result : Result X ServeFault) → ComesBack form keeps states faults live begun ended.flusher result → TakesClientsIn form keeps states live remaining contents pipes ended.flusher result
           → LeavesClients form states remaining contents pipes disk left settled result
       by_result (Ok x) comes takes =
           let to = served_to live begun ended.flusher shares.blocks shares.pen comes.of comes.served left settled ended.disk_is ended.settled_is ended.known ended.images kept wide remaining contents pipes takes.0 in
           (to, ended.settled_is ∙ comes.ended.all, to.just_theirs takes.1)
-      by_result (Err (Open fault)) comes takes = tt
-      by_result (Err (Share fault)) comes takes = tt
-      by_result (Err Thread) comes takes = tt
+      by_result (Err (Open fault)) comes takes = absurd comes
+      by_result (Err (Share fault)) comes takes = let none = back comes.1 in (none.0, none.1)
+      by_result (Err Thread) comes takes =
+          let none = back comes in
+          record {
+            served = none.0;
+            none = none.1;
+            live = live;
+            room = wide;
+            opening = ap joined_pieces shares.blocks ∙ sym none.2;
+            seats = takes.0;
+            clients = takes.1;
+          }
       by_result (Err (Flush fault)) comes takes =
           served_to live begun ended.flusher shares.blocks shares.pen (IsFlusherOf-learns keeps live comes.stopped ended.flusher comes.flushed.of comes.learns)
           (Serves-learns comes.flushed.served comes.learns) left settled ended.disk_is ended.settled_is ended.known ended.images kept wide remaining contents pipes takes

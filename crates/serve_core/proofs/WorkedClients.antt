@@ -1,5 +1,5 @@
 -- Worked clients: what they may be told as settled, whose growths may stand, and the nearest that may not.
-use Rattle.std.proofs.Common.{◌≡◌, ◌≢◌, ℕ, zero, suc, ◌^◌, ◌<◌, ◌≤◌, inl, inr, List, [], ◌∷◌, ◌++◌, length, take, slice_get, All, Some, None, Option, Ok, refl, sym, ap, subst, ◌∙◌, arith}
+use Rattle.std.proofs.Common.{◌≡◌, ◌≢◌, ℕ, zero, suc, ◌^◌, ◌<◌, ◌≤◌, inl, inr, List, [], ◌∷◌, ◌++◌, length, take, slice_get, All, Some, None, Option, Ok, Err, refl, sym, ap, subst, ◌∙◌, arith}
 use Rattle.std.proofs.lemmas.List.Elements.{All-nil, All-cons}
 use Rattle.std.proofs.lemmas.Option.{none-some, same_Some}
 use Rattle.record_core.specs.Bytes.{Encoding}
@@ -22,7 +22,9 @@ use Rattle.serve_core.specs.declared.talking.TalkEnd.{TalkEnd}
 use Rattle.serve_core.specs.Talks.{Exchange, HasTalked}
 use Rattle.serve_core.specs.Serving.{IsServed}
 use Rattle.serve_core.proofs.Clients.{client_is}
-use Rattle.serve_core.specs.Clients.{AreClients, AreToldByRaises, HasRaiseTo, IsClient, IsServedTo, IsServerRoom, LeavesClients, RaisesStand, TellsSettled}
+use Rattle.serve_core.specs.declared.fault.ServeFault.TheVariants as faults
+use Rattle.vault_core.specs.declared.fault.VaultFault.TheVariants as vaults
+use Rattle.serve_core.specs.Clients.{AreClients, AreNotServed, AreToldByRaises, HasRaiseTo, IsClient, IsServedTo, IsServerRoom, LeavesClients, RaisesStand, TellsSettled}
 
 -- ---- what is told as settled
 
@@ -211,3 +213,35 @@ module _ {R I W : Type 0} (form : Encoding R) (live : Phase R) (remaining : I �
 
     all_settled : (growth : Growth R) (leaves : LeavesClients {X = Unit {0}} form states remaining contents [] disk left 0 (Ok tt)) → leaves.0.served.growths ≡ growth ∷ [] → ⊥
     all_settled growth leaves one = absurd (let all = leaves.1 in let long = ap length one in omega (arith, all, long))
+
+    -- where a thread was refused nothing was grown, so nothing is settled, and each client has grown nothing
+    none_by_a_refused_thread : (pipes : List (Pipes I W)) (leaves : LeavesClients {X = Unit {0}} form states remaining contents pipes disk left settled_to (Err faults.Thread))
+        → (settled_to ≡ 0) × ((k : ℕ) (seat : Seated R) → slice_get leaves.seats k ≡ Some seat → seat.made ≡ [])
+    none_by_a_refused_thread pipes leaves = (
+      (let few = leaves.served.few in let long = ap length leaves.none in omega (arith, few, long)),
+      λ k seat there. (leaves.clients.new k seat there).made,
+    )
+
+    not_one_by_a_refused_thread : (growth : Growth R) (leaves : LeavesClients {X = Unit {0}} form states remaining contents [] disk left settled_to (Err faults.Thread)) → leaves.served.growths ≡ growth ∷ [] → ⊥
+    not_one_by_a_refused_thread growth leaves one = absurd (let none = sym leaves.none ∙ one in cc)
+
+    -- nor was anything where no phase was begun
+    not_one_without_a_phase : (growth : Growth R) (leaves : LeavesClients {X = Unit {0}} form states remaining contents [] disk left settled_to (Err (faults.Share vaults.WrongPhase))) → leaves.0.growths ≡ growth ∷ [] → ⊥
+    not_one_without_a_phase growth leaves one = absurd (let none = sym leaves.1 ∙ one in cc)
+
+  -- ---- clients that weren't talked with
+
+  -- each pair of pipes has its seat, which is as it was new
+  new_of_one : (pair : Pipes I W) (begun : Seated R) → IsNewSeat live.directory live.mark 0 begun → AreNotServed live (pair ∷ []) (begun ∷ [])
+  new_of_one pair begun new = record { as_many = refl; new = each }
+    where
+      each : (k : ℕ) (seat : Seated R) → slice_get (begun ∷ []) k ≡ Some seat → IsNewSeat live.directory live.mark k seat
+      each zero seat there = subst (λ (s : Seated R). IsNewSeat live.directory live.mark 0 s) (same_Some begun seat there) new
+      each (suc k) seat there = absurd (none-some seat there)
+
+  not_of_more : (pair : Pipes I W) (begun : Seated R) → AreNotServed live (pair ∷ pair ∷ []) (begun ∷ []) → ⊥
+  not_of_more pair begun are = absurd (let many = are.as_many in omega (arith, many))
+
+  -- one that has grown was talked with
+  not_grown : (pair : Pipes I W) (seat : Seated R) (growth : Growth R) → seat.made ≡ growth ∷ [] → AreNotServed live (pair ∷ []) (seat ∷ []) → ⊥
+  not_grown pair seat growth one are = absurd (let none = sym (are.new 0 seat refl).made ∙ one in cc)

@@ -11,7 +11,7 @@ use Rattle.directory_core.specs.Limits.{place_limit, growth_limit}
 use Rattle.book_core.specs.declared.mark.Raise.{Raise}
 use Rattle.book_core.specs.Marks.{IsRaiseOf}
 use Rattle.book_core.specs.Lists.{Phase, Seated, IsSeatOf, StandInList, opening_of}
-use Rattle.book_core.specs.Beginning.{IsNewSeat}
+use Rattle.book_core.specs.Beginning.{AreNewSeats, IsNewSeat}
 use Rattle.flush_core.specs.Flusher.{FlusherOf, ToldIsLeft}
 use Rattle.vault_core.specs.Gathering.{made_by}
 use Rattle.vault_core.specs.Leaving.{AreOfGrowers, StandAmong}
@@ -22,7 +22,7 @@ use Rattle.serve_core.specs.declared.fault.ServeFault.{ServeFault}
 use Rattle.serve_core.specs.declared.fault.ServeFault.TheVariants.{Open, Share, Thread, Flush}
 use Rattle.serve_core.specs.declared.talking.TalkEnd.{TalkEnd}
 use Rattle.serve_core.specs.Talks.{Exchange, HasFinished, HasTalked}
-use Rattle.serve_core.specs.Serving.{IsServed, OpensBehind}
+use Rattle.serve_core.specs.Serving.{IsLeft, IsServed, OpensBehind}
 
 -- ---- what a client was told as settled
 
@@ -90,14 +90,30 @@ pub record IsServedTo {R D I W : Type 0} (form : Encoding R) (states : D → Lis
   pub just_theirs : made_by seats ≡ length served.growths → AreOfGrowers (length pipes) seats served.growths
   pub told : All (λ seat. RaisesStand form (states left) served.before served.growths seat.mark.raises) seats
 
+-- The clients of these pipes weren't talked with: each has the seat of its place as it was new, so it has grown nothing, and was
+-- told nothing.
+pub record AreNotServed {R I W : Type 0} (live : Phase R) (pipes : List (Pipes I W)) (seats : List (Seated R)) : Type 0 where
+  pub as_many : length seats ≡ length pipes
+  pub new : AreNewSeats live.directory live.mark seats
+
+-- Nothing was grown in the phase of the clients of these pipes, none of which was talked with.
+pub record IsServedToNone {R D I W : Type 0} (form : Encoding R) (states : D → List State) (pipes : List (Pipes I W)) (disk left : D) (settled : ℕ) : Type 0 where
+  pub served : IsServed form states disk left settled
+  pub none : served.growths ≡ []
+  pub live : Phase R
+  pub room : IsServerRoom live.directory.room
+  pub opening : opening_of live ≡ served.before
+  pub seats : List (Seated R)
+  pub clients : AreNotServed live pipes seats
+
 -- So it is where clients were served; where nothing was refused, all growths are settled, and each was made by one of the
--- clients.
+-- clients. Where a thread was refused, no client was served. Where the file wasn't opened, or no phase begun, there was none.
 abbrev pub LeavesClients : {R D I W X : Type 0} → Encoding R → (D → List State) → (I → Option (List ℕ)) → (W → Option (List ℕ)) → List (Pipes I W) → D → D → ℕ → Result X ServeFault → Type 0
 LeavesClients form states remaining contents pipes disk left settled (Ok x) =
     (to : IsServedTo form states remaining contents pipes disk left settled) × (settled ≡ length to.served.growths) × AreOfGrowers (length pipes) to.seats to.served.growths
-LeavesClients form states remaining contents pipes disk left settled (Err (Open fault)) = Unit {0}
-LeavesClients form states remaining contents pipes disk left settled (Err (Share fault)) = Unit {0}
-LeavesClients form states remaining contents pipes disk left settled (Err Thread) = Unit {0}
+LeavesClients {X = X} form states remaining contents pipes disk left settled (Err (Open fault)) = IsLeft {X = X} form states disk left settled (Err (Open fault))
+LeavesClients {X = X} form states remaining contents pipes disk left settled (Err (Share fault)) = IsLeft {X = X} form states disk left settled (Err (Share fault))
+LeavesClients form states remaining contents pipes disk left settled (Err Thread) = IsServedToNone form states pipes disk left settled
 LeavesClients form states remaining contents pipes disk left settled (Err (Flush fault)) = IsServedTo form states remaining contents pipes disk left settled
 
 -- ---- the threads of a phase
@@ -128,12 +144,12 @@ pub record HasTakenIn {R D I W : Type 0} (form : Encoding R) (keeps : D → Type
   pub stand : All StandInList seats
   pub left : keeps f.pen.disk → All (λ seat. ToldIsLeft form (states f.pen.disk) f seat.mark.raises) seats
 
--- so where clients were served, and where that wasn't refused their seats made all growths that it knows
+-- so where clients were served, and where that wasn't refused their seats made all growths that it knows; or none was served
 abbrev pub TakesClientsIn : {R D I W X : Type 0} → Encoding R → (D → Type 0) → (D → List State) → Phase R → (I → Option (List ℕ)) → (W → Option (List ℕ)) → List (Pipes I W) → FlusherOf R D
     → Result X ServeFault → Type 0
 TakesClientsIn form keeps states live remaining contents pipes f (Ok x) =
     (has : HasTakenIn form keeps states live remaining contents pipes f) × (made_by has.seats ≡ length f.pass.entries)
-TakesClientsIn form keeps states live remaining contents pipes f (Err (Open fault)) = Unit {0}
-TakesClientsIn form keeps states live remaining contents pipes f (Err (Share fault)) = Unit {0}
-TakesClientsIn form keeps states live remaining contents pipes f (Err Thread) = Unit {0}
+TakesClientsIn form keeps states live remaining contents pipes f (Err (Open fault)) = ⊥
+TakesClientsIn {R = R} form keeps states live remaining contents pipes f (Err (Share fault)) = (seats : List (Seated R)) × AreNotServed live pipes seats
+TakesClientsIn {R = R} form keeps states live remaining contents pipes f (Err Thread) = (seats : List (Seated R)) × AreNotServed live pipes seats
 TakesClientsIn form keeps states live remaining contents pipes f (Err (Flush fault)) = HasTakenIn form keeps states live remaining contents pipes f

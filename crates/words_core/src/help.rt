@@ -120,7 +120,7 @@ const SERVE: &[u8] = b"cvec serve TYPE FILE --seats=N
 Lets N other programs, of any language, grow the vector at once, 1 to 64. Client k, from 0, writes its requests to a pipe
 that this program has as descriptor 3 + 2k, and reads the answers from 4 + 2k: to grow by a block of records, to wait until
 what it grew is on the device, to look how many records there are, to read some. docs/use/serve.md has their bytes, and
-examples/c and bindings/python have clients. It ends when all clients have; a signal ends it as a crash does.
+bindings/c and bindings/python have clients. It ends when all clients have; a signal ends it as a crash does.
 
   $ mkfifo requests answers
   $ cvec serve u64 t.cv --seats=1 3<requests 4>answers & your_program 3>requests 4<answers

@@ -78,9 +78,9 @@ fn next_pause(draws: u64, too_short: bool, number: u64) -> u64 {
 
 /// One thread's seat in a phase, and its number among the seats.
 #[derive(Drop)]
-struct Seated<'a> {
-    live: &'a Live<u64>,
-    seat: Seat<u64>,
+pub(super) struct Seated<'a> {
+    pub(super) live: &'a Live<u64>,
+    pub(super) seat: Seat<u64>,
     number: u64,
     ghost of: { IsSeatOf live.now seat },
 }
@@ -138,7 +138,7 @@ fn begin<D: Disk + Drop>(alloc: Global, disk: D, course: Course) -> Option<Serve
 }
 
 /// The new seats, numbered from 0 on.
-fn seat_all<'a>(
+pub(super) fn seat_all<'a>(
     alloc: Global,
     live: &'a Live<u64>,
     seats: Vec<Seat<u64>>,

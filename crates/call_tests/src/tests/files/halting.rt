@@ -3,7 +3,7 @@ ghost use Rattle.std.specs.Prelude.{◌≡◌, ◌≤◌, [], ◌∷◌, IfOk};
 ghost use Rattle.disk_core.specs.File.{opened};
 ghost use Rattle.disk_core.specs.FileDisk.{states_of};
 
-use disk_core::{Disk, DiskFault, FileDisk};
+use disk_core::{Disk, DiskFault, FileDisk, Shared, SharedFile};
 use std::fs::{Metadata, OpenFile};
 use std::io;
 use std::os::unix::fs::FileExt;
@@ -127,7 +127,23 @@ fn sync_twice() -> [Result<(), DiskFault>; 2] {
     [first, disk.sync()]
 }
 
+/// A file that another process writes. What it holds isn't told.
+fn shared<F: FileExt + OpenFile + Drop>(file: F) -> SharedFile<F> {
+    SharedFile::over(file)
+}
+
+/// What two syncs of such a file answer.
+fn sync_shared_twice() -> [Result<(), DiskFault>; 2] {
+    let mut file = shared(Halting {
+        calls: AtomicU64::new(0),
+        end: 0,
+    });
+    let first = file.sync();
+    [first, file.sync()]
+}
+
 #[test]
 fn a_sync_that_failed_is_not_asked_for_again(rt: HostRuntime) {
-    assert_eq!(rt; sync_twice(), [Err(DiskFault::Sync); 2]);
+    let synced = [sync_twice(), sync_shared_twice()];
+    assert_eq!(rt; synced, [[Err(DiskFault::Sync); 2]; 2]);
 }

@@ -1,5 +1,5 @@
-use Rattle.std.proofs.Common.{refl, sym, ◌∙◌}
+use Rattle.std.proofs.Common.{refl}
 use Rattle.filing_core.proofs.ending.complaint_of.Goals as goal
 
-pub returns-in-Ok : goal.returns-in-Ok
-returns-in-Ok g c = (refl, record { at = c.in-Some.at; damaged = sym c.damage_of.ensures ∙ c.in-Some.is; last = c.sound_front.new.disk; front = c.in-Ok.ensures.sound })
+pub returns-in-Some : goal.returns-in-Some
+returns-in-Some g c = (refl, c.sound_on.new.disk, c.in-Some.ensures)

@@ -17,6 +17,7 @@ looks-init g c = record {
   same = c.in-Ok.ensures.same;
   time = c.in-Ok.ensures.time;
   model = c.in-Ok.ensures.model;
+  paused = λ answer may. may;
   followed = λ kept shape frames known file begins more. steps_begin g.R.Record.form g.R.TextRecord.spelling.text_of shape (g.S.Shared.held c.args.file.now) frames known c.in-Ok.mark
       (g.S.Shared.now c.args.file.now) (g.S.Shared.now c.first_mark.new.file) (g.S.Shared.synced c.first_mark.new.file) (g.W.Write.contents c.args.writer.now) file c.in-Ok.ensures.time more
       (c.in-Ok.ensures.begins kept shape frames known file begins);
@@ -42,6 +43,7 @@ looks-preserved g c =
       same = e.same ∙ i.same;
       time = omega (arith, i.time, e.time);
       model = λ kept. i.model (e.model kept);
+      paused = λ answer may. i.paused answer (c.rest.ensures.no_more answer may);
       followed = λ kept shape frames known file begins more. (
           let at = i.followed (e.model kept) shape frames known file begins more in
           steps_more g.R.Record.form g.R.TextRecord.spelling.text_of shape held frames known c.looks.mark c.in-Ok-follow_step.next (g.S.Shared.now c.looks.file)

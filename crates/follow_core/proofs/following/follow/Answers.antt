@@ -17,6 +17,7 @@ looks-init g c = record {
   same = c.in-Ok.ensures.same;
   time = c.in-Ok.ensures.time;
   model = c.in-Ok.ensures.model;
+  paused = λ answer may. may;
   followed = λ kept shape frames file. follows_first g.R.Record.form g.R.TextRecord.spelling.text_of c.args.from shape frames _ (g.S.Shared.now c.first.new.file) (g.S.Shared.synced c.first.new.file)
       (g.W.Write.contents c.args.writer.now) (c.in-Ok.ensures.behind kept shape frames file) refl;
 }
@@ -49,6 +50,7 @@ looks-preserved g c =
       same = e.same ∙ i.same;
       time = omega (arith, i.time, e.time);
       model = λ kept. i.model (e.model kept);
+      paused = λ answer may. i.paused answer (c.rest.ensures.no_more answer may);
       followed = λ kept shape frames file. follows_look g.R.Record.form g.R.TextRecord.spelling.text_of c.args.from (g.S.Shared.held c.args.file.now) (g.S.Shared.now c.looks.file)
           (g.S.Shared.now c.follow_on.new.file) (g.S.Shared.synced c.looks.file) (g.S.Shared.synced c.follow_on.new.file)
           (g.W.Write.contents c.args.writer.now) (g.W.Write.contents c.looks.writer) (g.W.Write.contents c.follow_on.new.writer) c.looks.reached c.in-Ok-follow_on.next e.keeps_settled (λ shape frames file.

@@ -27,7 +27,7 @@ returns-in-Ok-clause-appended g c start input coming left read so_far =
       growths_are = c.more_appended.ensures.growths;
       lines_are = c.more_appended.ensures.lines;
     } in
-    batch_over g.D.Disk.faults it c.go_on.new.appended c.go_on.result (rw c.in-Ok.is at all) (rw c.in-Ok.is at row) c.go_on.ensures
+    batch_over g.D.Disk.faults it c.go_on-over.new.appended c.go_on-over.result (rw c.in-Ok.is at all) (rw c.in-Ok.is at row) c.go_on-over.ensures
 
 pub returns-clause-appended : goal.returns-clause-appended
 returns-clause-appended g c start input coming left read so_far disk begin =

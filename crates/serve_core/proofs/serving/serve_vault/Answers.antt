@@ -9,6 +9,11 @@ returns-in-Err-clause-left g c = λ disk from kept.
     handed_back g.R.Record.form g.D.Disk.keeps g.D.Disk.states disk c.args.vault from.opened from.only_syncs
     c.in-Err.vault c.in-Err.ensures.refused.0 c.into_disk.result c.into_disk.ensures.disk from.sure c.into_disk.ensures.images kept
 
+pub returns-in-Err-clause-clients : goal.returns-in-Err-clause-clients
+returns-in-Err-clause-clients g c = λ disk from kept.
+    handed_back g.R.Record.form g.D.Disk.keeps g.D.Disk.states disk c.args.vault from.opened from.only_syncs
+    c.in-Err.vault c.in-Err.ensures.refused.0 c.into_disk.result c.into_disk.ensures.disk from.sure c.into_disk.ensures.images kept
+
 pub returns-in-Err-clause-refused : goal.returns-in-Err-clause-refused
 returns-in-Err-clause-refused g c =
     let len = c.len.ensures in

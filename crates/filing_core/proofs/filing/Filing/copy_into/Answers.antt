@@ -1,33 +1,36 @@
-use Rattle.std.proofs.Common.{◌∙◌, ap, refl, inr, length}
+use Rattle.std.proofs.Common.{◌∙◌, ap, refl, inl, inr, length}
 use Rattle.filing_core.proofs.filing.Filing.copy_into.Goals as goal
 
-pub returns-in-Ok : goal.returns-in-Ok
-returns-in-Ok g c = λ opened. record {
-  vault = c.in-Ok.vault;
+pub returns-in-Err : goal.returns-in-Err
+returns-in-Err g c = λ opened. inr (inl (c.in-Err.fault, refl, (c.args.disk, c.in-Err._asked, opened, c.in-Err.ensures.taken)))
+
+pub returns-in-Ok-copy_to : goal.returns-in-Ok-copy_to
+returns-in-Ok-copy_to g c = λ opened. record {
+  vault = c.in-Ok-copy_to.vault;
   file = record {
     made = c.args.disk;
-    asked = c.in_ok-disk.disk;
+    asked = c.in-Ok.disk;
     opened = opened;
-    vacant = c.in_ok-disk.ensures.vacant;
-    piece = c.in-Ok.ensures.0;
-    piece_is = c.in-Ok.ensures.1;
-    copied = c.in-Ok.ensures.2;
+    vacant = c.in-Ok.ensures.vacant;
+    piece = c.in-Ok-copy_to.ensures.0;
+    piece_is = c.in-Ok-copy_to.ensures.1;
+    copied = c.in-Ok-copy_to.ensures.2;
   };
-  size_is = c.len.ensures.is ∙ ap length c.in-Ok.ensures.2.list;
+  size_is = c.len.ensures.is ∙ ap length c.in-Ok-copy_to.ensures.2.list;
 }
 
-pub returns-in-Err : goal.returns-in-Err
-returns-in-Err g c = λ opened. inr (inr (
-  c.in-Err._disk,
-  c.in-Err.fault,
+pub returns-in-Err-copy_to : goal.returns-in-Err-copy_to
+returns-in-Err-copy_to g c = λ opened. inr (inr (
+  c.in-Err-copy_to._disk,
+  c.in-Err-copy_to.fault,
   refl,
   record {
     made = c.args.disk;
-    asked = c.in_ok-disk.disk;
+    asked = c.in-Ok.disk;
     opened = opened;
-    vacant = c.in_ok-disk.ensures.vacant;
-    piece = c.in-Err.ensures.0;
-    piece_is = c.in-Err.ensures.1;
-    copied = c.in-Err.ensures.2;
+    vacant = c.in-Ok.ensures.vacant;
+    piece = c.in-Err-copy_to.ensures.0;
+    piece_is = c.in-Err-copy_to.ensures.1;
+    copied = c.in-Err-copy_to.ensures.2;
   },
 ))

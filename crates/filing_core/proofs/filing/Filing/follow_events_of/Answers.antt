@@ -8,5 +8,6 @@ returns g c = λ opened. record {
   opened = opened;
   stays = record { same = c.follow_events-end.ensures.same; model = c.follow_events-end.ensures.model };
   engine = (c.follow_events-end.ensures.followed, c.follow_events-end.ensures.whole);
+  paused = c.follow_events-end.ensures.paused;
   told = c.status_of_follow.ensures;
 }

@@ -8,5 +8,6 @@ returns g c = λ opened. record {
   opened = opened;
   stays = record { same = c.follow-end.ensures.same; model = c.follow-end.ensures.model };
   engine = (c.follow-end.ensures.followed, c.follow-end.ensures.whole);
+  paused = c.follow-end.ensures.paused;
   told = c.status_of_follow.ensures;
 }
