@@ -187,7 +187,7 @@ bugs() {
 30|line|all|who is first in line was called
 31|whole_flush|all|each other handle is closed
 32|line|all|who is first in line was called
-33|line|all|whose turn it is has a seat
+33|line|all|who waits for a seat is late for a reason
 34|line|all|nothing
 35|renew|all|deadlock
 36|renew_often|all|nobody has all handles
@@ -202,7 +202,7 @@ bugs() {
 45|fork|all|CVEC_FORKED
 46|wait_twice|all|nothing
 47|hold_compact|all|the vector is there
-48|whole_two|all|each other handle is closed
+48|whole_two|all|nobody has all handles
 49|hold|all|a call of the whole vector has it alone
 50|lend|all|what is lent stays
 51|lend|all|nothing
