@@ -48,7 +48,7 @@ _ASKED = 64
 
 
 class Status(enum.IntEnum):
-    """Why a call was refused, by the names of cvec.h and cvec_vector.h."""
+    """Why a call was refused, by the names of cvec.h."""
 
     UNBORN = 1
     NOT_SEGMENT = 2

@@ -2,7 +2,7 @@
 #ifndef CVEC_EXAMPLE_H
 #define CVEC_EXAMPLE_H
 
-#include "cvec_vector.h"
+#include "cvec.h"
 
 #include <errno.h>
 #include <pthread.h>

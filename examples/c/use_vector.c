@@ -1,6 +1,6 @@
 /* Threads that grow one vector: each grows by blocks of its own, waits until they are durable, and reads them back.
  * ./use_vector FILE THREADS GROWTHS */
-#include "cvec_vector.h"
+#include "cvec.h"
 
 #include <inttypes.h>
 #include <pthread.h>

@@ -282,7 +282,7 @@ a_c_program_has_images_of_each_type() (
 the_headers_are_c_and_cpp() (
     has cc 'the headers in C' && has c++ 'the headers in C++' || exit $is_skipped
     words='-Wall -Wextra -Wconversion -Werror -pedantic -fsyntax-only'
-    for headers in cvec.h cvec/proved.h cvec_vector.h 'cvec/proved.h cvec.h cvec_vector.h'; do
+    for headers in cvec.h cvec/proved.h 'cvec/proved.h cvec.h'; do
         printf '#include "%s"\n' $headers >"$work/use.c"
         echo 'cvec_status status_of(const char *path, cvec_file **file) { return cvec_file_open(file, path, CVEC_U64, NULL); }' >>"$work/use.c"
         cc -std=c99 $words "-I$c_headers" "$work/use.c"

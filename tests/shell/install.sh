@@ -123,7 +123,7 @@ a_c_program_is_built_by_pkg_config() (
 the_shared_library_has_what_its_headers_declare() (
     can_install && has nm 'the names in a library' || exit $is_skipped
     installs_once
-    printf '#include "%s"\n' cvec.h cvec/proved.h cvec_vector.h >"$work/all.c"
+    printf '#include "%s"\n' cvec.h cvec/proved.h >"$work/all.c"
     cc -E -P "-I$prefix/include" "$work/all.c" >"$work/declared"
     nm -D --defined-only "$prefix/lib/python3/dist-packages/libcvec.so" | sed -n 's/.* \(cvec_[a-z0-9_]*\)$/\1/p' >"$work/names"
     [ "$(wc -l <"$work/names")" -gt 90 ]

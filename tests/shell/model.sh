@@ -18,7 +18,7 @@ functions_with_the_mutex() {
 # All that bindings/c/src defines, and what the library for threads exports.
 functions_of_c() {
     cat "$c_sources"/*.[ch] | sed -n 's/^[a-z][^(]*[ *]\([a-z0-9_]*\)(.*) {.*/\1/p'
-    sed -n 's/^uint32_t \([a-z0-9_]*\)(.*);/\1/p' "$c_headers/cvec_vector.h"
+    sed -n 's/^uint32_t \([a-z0-9_]*\)(.*);/\1/p' "$c_headers/cvec/proved.h"
 }
 
 inlines_of() { sed -n 's/^inline \([a-z0-9_]*\)(.*/\1/p' "$@"; }

@@ -19,7 +19,7 @@ make_threads() {
 # ---- the programs of the page and the example
 
 # The program of this number on the page.
-shown_program() { shown_in use/threads.md c | awk -v wanted="$1" '/^#include "cvec_vector.h"$/ { at++ } at == wanted'; }
+shown_program() { shown_in use/threads.md c | awk -v wanted="$1" '/^#include "cvec.h"$/ { at++ } at == wanted'; }
 
 the_c_programs_of_the_page_grow_and_read() (
     has_c || exit $is_skipped

@@ -5,7 +5,7 @@
  * vector is closed, opened and read: the line that is printed says what is there. `told`: no flusher; each thread prints its name and
  * how many of its growths are settled, right behind the first ones, and as its last ones are. */
 #define _POSIX_C_SOURCE 200809L
-#include "cvec_vector.h"
+#include "cvec.h"
 
 #include <pthread.h>
 #include <stdio.h>

@@ -237,7 +237,7 @@ static void *test_malloc(size_t len) { return mallocs >= 0 && mallocs-- == 0 ? N
 /* What asks the library for memory may be refused. */
 static int requests = -1; /* of the library's that pass before one is refused; none is below 0 */
 
-#include "cvec_vector.h"
+#include "cvec.h"
 
 void *__real_malloc(size_t len);
 void *__real_realloc(void *there, size_t len);

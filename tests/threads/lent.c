@@ -1,7 +1,7 @@
 /* What the C for threads lends, each behaviour by its name: lent NAME FILE. The status is 0 where the behaviour is as it is promised; else
  * a line says what isn't. */
 #define _POSIX_C_SOURCE 200809L
-#include "cvec_vector.h"
+#include "cvec.h"
 #include "typed.h"
 
 #include <inttypes.h>

@@ -1,6 +1,6 @@
 /* How much memory a vector takes while it is opened, and then: opening FILE, which has COUNT records of u64. Both in parts of the
  * file's length, in hundredths: the most so far, and what stays. */
-#include "cvec_vector.h"
+#include "cvec.h"
 
 #include <inttypes.h>
 #include <malloc.h>

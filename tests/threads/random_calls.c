@@ -5,7 +5,7 @@
  * a line says what isn't, and by which seed and round it is found again. */
 #define _DEFAULT_SOURCE 1
 #define _POSIX_C_SOURCE 200809L
-#include "cvec_vector.h"
+#include "cvec.h"
 
 #include <inttypes.h>
 #include <pthread.h>

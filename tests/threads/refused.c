@@ -2,7 +2,7 @@
  * request for memory refused, once with the second, and so on, until none is met. A call that answers CVEC_MEMORY is made once
  * more. The status is 0 where each growth is then made, and the file has what was awaited; else a line says what isn't so. */
 #define _POSIX_C_SOURCE 200809L
-#include "cvec_vector.h"
+#include "cvec.h"
 
 #include <errno.h>
 #include <inttypes.h>

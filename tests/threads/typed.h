@@ -2,7 +2,7 @@
 #ifndef TYPED_H
 #define TYPED_H
 
-#include "cvec_vector.h"
+#include "cvec.h"
 
 #include <string.h>
 

@@ -1,7 +1,7 @@
 /* Grows a vector by threads until it is killed, and prints of each growth that is settled its thread, its turn and its place:
  * writer FILE ROUND THREADS TURNS. The blocks are those of tests/bindings/vector_blocks.py. */
 #define _POSIX_C_SOURCE 200809L
-#include "cvec_vector.h"
+#include "cvec.h"
 
 #include <inttypes.h>
 #include <pthread.h>

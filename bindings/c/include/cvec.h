@@ -1,7 +1,7 @@
 /* A durable vector in a file, from C (C99) and C++.
  *
  *     cvec_file      one process appends, others read           docs/use/c.md
- *     cvec_vector    threads of one process grow and read it    docs/use/threads.md, in cvec_vector.h
+ *     cvec_vector    threads of one process grow and read it    docs/use/threads.md
  *     cvec_server    processes grow it by pipes                 docs/use/serve.md
  *
  * The functions here make the system's calls, around the proved ones of <cvec/proved.h>; they are tested and not proved.
@@ -35,7 +35,7 @@ extern "C" {
 #endif
 
 /* What a function answers: the one list. X(NAME, number, a sentence for any caller to show, which cvec_status_text has). Those from 32
- * on are of what makes the system's calls, those from 64 on of cvec_vector.h, but for CVEC_NOT_SO, those from 96 on of clients. */
+ * on are of what makes the system's calls, those from 64 on of a vector, but for CVEC_NOT_SO, those from 96 on of clients. */
 #define CVEC_STATUSES(X) \
     X(DONE, 0, "done") \
     X(UNBORN, 1, "no vector was begun in the file") /* at most one byte, or the first isn't 1 */ \
@@ -241,6 +241,280 @@ typedef struct cvec_receipt {
     uint16_t seat;   /* whose growth it is: how many seats were taken before that one, if they are fewer than 65,536; of a client its
                         number, and 0 of one by descriptors */
 } cvec_receipt;
+
+/* ---- a vector that threads of this process grow and read, by a seat each, over POSIX threads. Its records are of one type, uint32_t,
+ * uint64_t, int64_t, cvec_pair or cvec_flagged, which is passed where it is made or opened.
+ *
+ * CVEC_MEMORY and CVEC_FILE_FULL lose no record, and the same call may be made again; but a close that answers one of them has lost what
+ * wasn't durable. Memory that is refused while the calls of a commit or of a fold are listed is CVEC_BROKEN: nothing of it was written,
+ * and what was durable is in the file, which is opened again.
+ *
+ * What a status from 64 on says, beside its sentence:
+ *   CVEC_NOT_SO    a handle that is NULL, or of a vector that was ended
+ *   CVEC_FULL      of a vector that has lent records
+ *   CVEC_BUSY      of a seat: another thread is inside a call by it; of the vector: it is held; of its close: or a seat isn't closed
+ *   CVEC_LATE      of what has a deadline
+ *   CVEC_UNFOLDED  of a resize that takes records away, and of a clear */
+
+typedef struct cvec_vector cvec_vector;
+typedef struct cvec_seat cvec_seat;
+
+enum { CVEC_PUSHES = 1024 };
+
+/* In milliseconds, of what has a deadline: as long as it takes. With 0 a call only looks, and is CVEC_LATE. */
+#define CVEC_NO_LIMIT UINT64_MAX
+
+/* 0 of any: the default, so {0} is all of them. */
+typedef struct cvec_options {
+    uint8_t version;  /* of a file that is made: 1 by default, or 2 (else CVEC_NOT_SO) */
+    uint16_t seats;   /* 64 by default, or fewer (CVEC_TOO_LARGE past that) */
+    uint32_t pushes;  /* so many records that were pushed are grown at once: CVEC_PUSHES by default, what fits one growth at most */
+    uint64_t growths; /* for so many a phase has room: 536,870,904 at most (CVEC_TOO_LARGE); 4,129,776 by default with 64 seats */
+} cvec_options;
+
+/* Makes a file, or opens one that is there. The file is locked (flock) until the vector is closed; a lock that readers share is waited
+ * for, 10 seconds. It is the one that has the name then. Any other number than CVEC_DONE leaves *vector NULL. CVEC_EXISTS: what is
+ * there stays; a file is made over nothing but what a stopped creation of that version and type leaves. CVEC_WIDTH: its records have
+ * another width. A file has no name for their type: one of u64 is opened as i64 too. Standard streams that are closed get /dev/null,
+ * where to read and to print fails as before: else the file might have their numbers, and get what another thread prints.
+ *
+ * A vector's records are of u32, u64, i64, pair or flagged (else CVEC_NOT_SO). A call that names records takes their type, and is
+ * CVEC_WIDTH where the vector's have another width; it takes them, or writes them, by a pointer to them as C has them. A flag that is
+ * neither 0 nor 1 is CVEC_NO_RECORD, and nothing is done then. The typed functions at the end are the same calls.
+ *
+ * Options may be NULL. What is refused by them is so before a file is made. A phase is what is grown between two pauses (cvec_seat_grow). With room for more than 1,048,568 growths each seat and who
+ * commits reserve 4 bytes of addresses for each growth of it, of which memory is touched only as growths are made; where the system
+ * refuses them it has room for 1,048,568. By default they reserve 1 GiB together: so the room is 268,435,456 divided by one more than
+ * the seats. With more a fork may be refused, since it asks the system for all that is reserved once more. Built with the address or
+ * the thread sanitizer, which pay for what is reserved, the default is 1,048,568. */
+cvec_status cvec_vector_create(cvec_vector **vector, const char *path, cvec_type type, const cvec_options *options);
+cvec_status cvec_vector_open(cvec_vector **vector, const char *path, cvec_type type, const cvec_options *options);
+
+/* Opens a file that is there, and makes one where there is none, or only what a stopped creation left. */
+cvec_status cvec_vector_open_or_create(cvec_vector **vector, const char *path, cvec_type type, const cvec_options *options);
+
+/* Ends the loops of flushers and waits for these, commits what was grown, and closes the file. CVEC_BUSY, and nothing ends or
+ * is closed, while a seat isn't closed, or a borrowed one not given back, or it is held (below), or a call by no seat waits, or has
+ * the whole vector. Whatever else
+ * it answers, the vector is gone, and all that it lent, but in a forked process, where memory stays, and *vector is NULL; another number than CVEC_DONE
+ * says that growths nobody awaited may be lost. But for such a call and for loops of flushers that have begun, no call may be
+ * under way beside it, or begin. */
+cvec_status cvec_vector_close(cvec_vector **vector);
+
+/* The same for who can't know which threads are about to borrow a seat: it waits until those that are borrowed are given back, and the
+ * calls under way have ended, or are refused where they wait for a seat. Later calls, but of seats that are closed, are CVEC_NOT_SO.
+ * The handle stays, for cvec_vector_close to give up. CVEC_BUSY, and nothing ends: a seat of a caller's own isn't closed, or it is
+ * held. */
+cvec_status cvec_vector_end(cvec_vector *vector);
+
+/* Which file it is: the number of its device, and its own there. One that is put in its place has another. */
+cvec_status cvec_vector_identity(const cvec_vector *vector, uint64_t *device, uint64_t *file);
+
+/* A seat, for one thread at a time. CVEC_NOT_SO: as many are taken, or waited for, as the vector has. It waits for nothing but a
+ * pause: while another call has the whole vector, or a growth settles all (below). CVEC_FULL: memory was refused to takers so
+ * often that the phase has no more seats, and records are lent (below). */
+cvec_status cvec_seat_take(cvec_vector *vector, cvec_seat **seat);
+
+/* The same, but it waits so many milliseconds at most for a seat that another thread closes, and for a pause: CVEC_LATE. Who came
+ * first has the first one. With 0 it only looks. So any number of threads work by the seats that there are. */
+cvec_status cvec_seat_take_within(cvec_vector *vector, uint64_t milliseconds, cvec_seat **seat);
+
+/* For threads that keep no seat: one for a call or a few, mostly the one that this thread had last, without a lock then. CVEC_LATE: so
+ * many milliseconds none was free. Who waits is in one line with those of cvec_seat_take_within; who has waited for a millisecond
+ * goes before who comes. Borrowed seats count among the vector's. While it is idle one holds up no other call: to take a seat where
+ * there is no other closes it, and so does the close of the vector. A borrowed seat whose call waits for a commit is lent to others
+ * who would wait for one, if it keeps nothing, and had again before that call returns. */
+cvec_status cvec_seat_borrow(cvec_vector *vector, uint64_t milliseconds, cvec_seat **seat);
+
+/* Gives it back, and *seat is NULL. It keeps nothing: what was pushed is grown, and its block given up. CVEC_BUSY, CVEC_FORKED, CVEC_NOT_SO
+ * (it wasn't borrowed): *seat stays. Any other number says why what waited wasn't grown, and is lost. */
+cvec_status cvec_seat_return(cvec_seat **seat);
+
+/* Grows by what was pushed and still waits, and gives the seat up. Its growths stay. CVEC_BUSY, CVEC_FORKED: it stays. Whatever
+ * else it answers, the seat is gone, and *seat NULL; another number than CVEC_DONE says why what waited wasn't grown, and is lost: who can't
+ * lose that calls cvec_seat_flush before. NULL, as a seat that was refused is, is CVEC_NOT_SO here too. One that
+ * was borrowed is given back. */
+cvec_status cvec_seat_close(cvec_seat **seat);
+
+/* Grows by copies of these records, as one block behind all that was grown before: all of them are in the vector, in a row,
+ * or none. Others read them from then on; durable they are once they are awaited. receipt may be NULL.
+ *
+ * Where the phase has no more room, it settles all that was grown, and begins a new phase, while other calls wait: so it may
+ * answer what a commit does; or CVEC_FULL, where records are lent (below). Refused for memory, it may be made again; until then
+ * calls by other seats may be refused so too. Where the library lacks memory even to keep what it has, the vector is CVEC_BROKEN
+ * from then on, and the file has all. */
+cvec_status cvec_seat_grow(cvec_seat *seat, cvec_type type, const void *records, size_t count, cvec_receipt *receipt);
+
+/* Lends a block of so many records to be written in place: a growth without a copy. They are all zero at first, and the caller's
+ * alone: nobody reads them. A seat has one block at a time (else CVEC_NOT_SO), and makes other calls meanwhile, which leave it as it
+ * is. CVEC_EMPTY, CVEC_TOO_LARGE, CVEC_BROKEN: as of a growth. */
+cvec_status cvec_seat_block(cvec_seat *seat, size_t count, void **records);
+
+/* Grows by the seat's block, as cvec_seat_grow would by copies of it: all of its records are in the vector, in a row, or
+ * none. They stay where they are, lent to be read, as what cvec_seat_pieces lends (below), and nobody writes them any more. Where
+ * it is refused, the seat has the block as before, to be written and published again. A flag that is neither 0 nor 1 is
+ * CVEC_NO_RECORD; no block, CVEC_NOT_SO. receipt may be NULL. */
+cvec_status cvec_seat_publish(cvec_seat *seat, cvec_receipt *receipt);
+
+/* Gives up the seat's block, of which nothing is left, as a close of the seat does. CVEC_NOT_SO: it has none. */
+cvec_status cvec_seat_drop(cvec_seat *seat);
+
+/* A block that is taken out of its seat, so that the seat may be given back while the block is written. It is nobody's copy: a block
+ * is in one place. `at` is NULL of none. */
+typedef struct cvec_block {
+    void *at, *records;
+    size_t count;
+} cvec_block;
+
+/* Takes the seat's block out, and puts one into a seat of the same vector, to be published or dropped by it; *block has none then.
+ * CVEC_NOT_SO: the seat has no block; it has one, or there is none to put in. */
+cvec_status cvec_seat_detach(cvec_seat *seat, cvec_block *block);
+cvec_status cvec_seat_attach(cvec_seat *seat, cvec_block *block);
+
+/* Gives it up by no seat, also where its vector is closed. */
+void cvec_block_drop(cvec_block *block);
+
+/* Puts a copy of one record into a buffer of the seat, where it waits. The last of so many as the option says grows the vector by all of them, as
+ * cvec_seat_grow would: as one growth. Before that nobody reads them, nothing makes them durable, and whatever ends
+ * the process loses them. But for the next two calls and the close of the seat, none moves them: a growth in between stands
+ * before them, and an await is for none of them.
+ *
+ * Where it is refused this record isn't in the buffer, and the others wait as before: the same call may be made again. The
+ * first push takes memory for so many records, later ones none but for growths. */
+cvec_status cvec_seat_push(cvec_seat *seat, cvec_type type, const void *record);
+
+/* From now on so many records are grown at once: 1 at least (CVEC_EMPTY), and no more than fit one growth (CVEC_TOO_LARGE).
+ * What waits is grown first; where that is refused, all stays as it was. */
+cvec_status cvec_seat_push_block(cvec_seat *seat, size_t records);
+
+/* Grows by what waits, if anything does, as one growth. The receipt, which may be NULL, is that of the last growth by what
+ * the seat pushed, also where a push has made it. CVEC_EMPTY: there is none yet. Where it is refused all wait as before. */
+cvec_status cvec_seat_flush(cvec_seat *seat, cvec_receipt *receipt);
+
+/* Lends what waits, *count records in their order, until the next call by this seat. */
+cvec_status cvec_seat_waiting(cvec_seat *seat, const void **records, size_t *count);
+
+/* Waits until the growth of that number, and each before it, is durable: for commits of others so many milliseconds at most (CVEC_LATE).
+ * Who finds that nobody commits commits for all. A commit that it has begun itself it ends, and begins a further one only while there
+ * is time. So with 0 it commits where nobody does, and else only looks. */
+cvec_status cvec_seat_settle(cvec_seat *seat, uint64_t number, uint64_t milliseconds);
+
+/* Waits so long, by no seat, until each growth is durable that had returned when it was called, of whichever seat. Once a write or a
+ * sync has failed it is CVEC_BROKEN, also where nothing was grown. */
+cvec_status cvec_vector_settle(cvec_vector *vector, uint64_t milliseconds);
+
+/* Begins a thread of the library's own that commits what was grown each so many milliseconds (at least 1), takes no signals, and which
+ * a stop or the close ends. CVEC_MEMORY: the system makes no thread. A commit that is refused for good ends it. */
+cvec_status cvec_vector_start_flusher(cvec_vector *vector, uint64_t every_milliseconds);
+
+/* For a thread of the caller's, which takes no seat: commits what was grown, and so again and again, this many milliseconds
+ * (at least 1) behind the last time. CVEC_DONE: it was ended by cvec_vector_stop_flusher or the close; any other number: a
+ * commit was refused, and it ends. What was grown behind its last commit is left to who waits, or to the close. As any other
+ * call it has to have begun before the close does: who can't know that stops it and joins its thread first. */
+cvec_status cvec_vector_run_flusher(cvec_vector *vector, uint64_t every_milliseconds);
+
+/* One turn of such a loop, for a thread that rests by itself: commits what was grown, by no seat. It too has to have begun before the
+ * close does, and behind a stop it leaves what there is. */
+cvec_status cvec_vector_flush(cvec_vector *vector);
+
+/* Ends the loops of this vector, each that is begun later too. It doesn't wait for them. */
+cvec_status cvec_vector_stop_flusher(cvec_vector *vector);
+
+/* How many growths are durable: the first ones are. It doesn't wait for commits; by no seat it is as the last one that ended told. */
+cvec_status cvec_seat_settled(cvec_seat *seat, uint64_t *count);
+cvec_status cvec_vector_settled(cvec_vector *vector, uint64_t *count);
+
+/* How many records there are, durable or not. */
+cvec_status cvec_seat_size(cvec_seat *seat, uint64_t *size);
+
+/* Copies the records from position `from` on, as far as `out` and the vector reach, durable or not; *count says how many. */
+cvec_status cvec_seat_read(cvec_seat *seat, cvec_type type, uint64_t from, void *out, size_t room, uint64_t *count);
+
+/* Copies the record at this position, durable or not. CVEC_OUT_OF_RANGE: the vector has none there. */
+cvec_status cvec_seat_at(cvec_seat *seat, cvec_type type, uint64_t position, void *record);
+
+/* Records that stand in the vector one behind the other, lent: from position `start` on `len` records of the vector's type begin
+ * at `records`. Nobody writes them. */
+typedef struct cvec_piece {
+    uint64_t start;
+    const void *records;
+    uint64_t len; /* 1 at least */
+} cvec_piece;
+
+/* Lends the records from position `from` on, durable or not, without a copy: *count pieces, of which the first begins at `from`
+ * and each other where the one before it ends. They are all that there are, or as many as `out` has room for: the next call goes
+ * on where the last one ends. A piece is a growth or more, or the rest of one.
+ *
+ * What is lent stays where it is, as it is, while threads grow, wait, and take and close seats, this one too: until a call of the
+ * whole vector (below) or its close begins; one that answers CVEC_BUSY hasn't. Who reads what is lent beside such calls holds the
+ * vector, so that they are refused. A vector that has lent records never moves them to go on growing: where the phase has no more
+ * room growths are CVEC_FULL, and a call of the whole vector, as cvec_vector_compact, makes room. A forked process may read what was
+ * lent before the fork. */
+cvec_status cvec_seat_pieces(cvec_seat *seat, uint64_t from, cvec_piece *out, size_t room, size_t *count);
+
+/* From now on calls of the whole vector and its close answer CVEC_BUSY, until each hold is released: what is lent from then on
+ * stays. It takes no seat, and stops neither growths nor commits. It waits for such a call that is under way; one that only waits for
+ * a commit is refused. Any thread may release;
+ * CVEC_NOT_SO: nobody holds it. */
+cvec_status cvec_vector_hold(cvec_vector *vector);
+cvec_status cvec_vector_release(cvec_vector *vector);
+
+/* How many records equal this one, durable or not. */
+cvec_status cvec_seat_count(cvec_seat *seat, cvec_type type, const void *record, uint64_t *count);
+
+/* The first position from `from` on that has this record; where none has, how many records there are. */
+cvec_status cvec_seat_find(cvec_seat *seat, cvec_type type, const void *record, uint64_t from, uint64_t *place);
+
+/* Of the whole vector. They wait for calls by seats that are under way, but not for those that wait for a commit, and later calls wait
+ * for them: seats may be taken meanwhile. Who waited comes in before the next such call. What a seat keeps stays: what was pushed and
+ * waits, and its block. CVEC_BUSY, and nothing is done: somebody holds the vector. What they do is durable when they return. Nothing
+ * that was lent before may be read once they have begun. CVEC_MEMORY and CVEC_FILE_FULL: the same call may be made again.
+ *
+ * Writes the records over those from position `start` on, as one frame. */
+cvec_status cvec_vector_change(cvec_vector *vector, cvec_type type, uint64_t start, const void *records, size_t count);
+
+/* Takes the records behind the first `size` away, or appends copies of this one. */
+cvec_status cvec_vector_resize(cvec_vector *vector, cvec_type type, uint64_t size, const void *record);
+
+/* Takes all records away. */
+cvec_status cvec_vector_clear(cvec_vector *vector);
+
+/* Writes what was changed to its place in the file, which costs a write for each changed record. */
+cvec_status cvec_vector_fold(cvec_vector *vector);
+
+/* Settles what was grown, and puts the records of the growths of this phase behind one another, as one piece: afterwards they take no
+ * more memory than themselves, and the vector takes as many growths as a new one. */
+cvec_status cvec_vector_compact(cvec_vector *vector);
+
+/* ---- the same by type, made of the table: cvec_seat_grow_u64, cvec_vector_change_pair .. */
+
+#define CVEC_TYPED(NAME, name, RECORD, WIDTH) \
+    static inline cvec_status cvec_seat_grow_##name(cvec_seat *seat, const RECORD *records, size_t count, cvec_receipt *receipt) { \
+        return cvec_seat_grow(seat, CVEC_##NAME, records, count, receipt); \
+    } \
+    static inline cvec_status cvec_seat_push_##name(cvec_seat *seat, RECORD record) { \
+        return cvec_seat_push(seat, CVEC_##NAME, &record); \
+    } \
+    static inline cvec_status cvec_seat_read_##name(cvec_seat *seat, uint64_t from, RECORD *out, size_t room, uint64_t *count) { \
+        return cvec_seat_read(seat, CVEC_##NAME, from, out, room, count); \
+    } \
+    static inline cvec_status cvec_seat_at_##name(cvec_seat *seat, uint64_t position, RECORD *record) { \
+        return cvec_seat_at(seat, CVEC_##NAME, position, record); \
+    } \
+    static inline cvec_status cvec_seat_count_##name(cvec_seat *seat, RECORD record, uint64_t *count) { \
+        return cvec_seat_count(seat, CVEC_##NAME, &record, count); \
+    } \
+    static inline cvec_status cvec_seat_find_##name(cvec_seat *seat, RECORD record, uint64_t from, uint64_t *place) { \
+        return cvec_seat_find(seat, CVEC_##NAME, &record, from, place); \
+    } \
+    static inline cvec_status cvec_vector_change_##name(cvec_vector *vector, uint64_t start, const RECORD *records, size_t count) { \
+        return cvec_vector_change(vector, CVEC_##NAME, start, records, count); \
+    } \
+    static inline cvec_status cvec_vector_resize_##name(cvec_vector *vector, uint64_t size, RECORD record) { \
+        return cvec_vector_resize(vector, CVEC_##NAME, size, &record); \
+    }
+CVEC_TYPES(CVEC_TYPED)
+#undef CVEC_TYPED
 
 /* ---- a server (`cvec serve`) over a file that is there, and its clients, which grow and read its vector by pipes. A server and a client
  * belong to one thread at a time; the clients may be in many. After CVEC_GONE errno is EPIPE if the server has ended or the client is over,

@@ -3,7 +3,7 @@
 #ifndef CVEC_VECTOR_PARTS_H
 #define CVEC_VECTOR_PARTS_H
 
-#include "cvec_vector.h"
+#include "cvec/proved.h"
 #include "system.h"
 #include "types.h"
 

@@ -1,7 +1,7 @@
 // cvec::concurrent_vector<T>: a durable vector that the threads of one process grow, in the manner of oneTBB's, for C++17. This is
 // the header to include; those beside it are parts of it.
 //
-// It stands on cvec_vector.h, which is C, and is not proved; docs/use/cpp.md has its rules. In the file a row, which is one T,
+// It stands on cvec.h, which is C, and is not proved; docs/use/cpp.md has its rules. In the file a row, which is one T,
 // is one record: of u32 where T has 4 bytes, of u64 where it has 8, a pair where it has 16, and a flagged where T is
 // cvec_flagged. Any other T is as many records of u64 as it needs, one behind the other; behind T the last of them has zeros.
 #ifndef CVEC_CONCURRENT_VECTOR_HPP

@@ -3,7 +3,7 @@
 #define CVEC_ERROR_HPP
 
 #include "compiler.hpp"
-#include "cvec_vector.h"
+#include "cvec.h"
 
 #include <cstddef>
 #include <cstdint>
@@ -26,7 +26,7 @@ inline std::string sentence(const std::string &path, const std::string &text, in
 
 } // namespace detail
 
-// A call that was refused: why, as a status of cvec.h or cvec_vector.h, and in words.
+// A call that was refused: why, as a status of cvec.h, and in words.
 class error : public std::runtime_error {
   public:
     error(std::uint32_t status, const std::string &path, const std::string &text, int system)

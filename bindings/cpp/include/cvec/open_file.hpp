@@ -1,4 +1,4 @@
-// A file of cvec_vector.h that is open, and by what its calls are refused.
+// A vector of cvec.h that is open, and by what its calls are refused.
 #ifndef CVEC_OPEN_FILE_HPP
 #define CVEC_OPEN_FILE_HPP
 

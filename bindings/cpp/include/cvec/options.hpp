@@ -14,7 +14,7 @@ struct options {
     opening how = opening::open_or_create;
     std::uint8_t version = 1; // of a file that is created: 1 or 2
     std::uint16_t seats = 64; // so many threads may be inside calls at once, 1 to 64: more wait for one another
-    // For so many growths a phase has room, as `growths` of cvec_options (cvec_vector.h); 0 is the default there.
+    // For so many growths a phase has room, as `growths` of cvec_options (cvec.h); 0 is the default there.
     std::uint64_t growths = 0;
     // So long calls that want the vector alone wait for views that live. Then they are refused (CVEC_BUSY): by 0 at once.
     std::chrono::milliseconds wait_for_views{0};

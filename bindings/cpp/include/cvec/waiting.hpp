@@ -15,7 +15,7 @@ using waiting_clock = std::chrono::steady_clock;
 // A year and more is as long as a wait can be.
 inline constexpr std::chrono::hours longest_wait{365 * 24};
 
-// As cvec_vector.h counts it, rounded up. It is compared by double, since a year of picoseconds is past 64 bits.
+// As cvec.h counts it, rounded up. It is compared by double, since a year of picoseconds is past 64 bits.
 template <class Rep, class Period> std::uint64_t milliseconds_of(const std::chrono::duration<Rep, Period> &time) {
     if (time <= time.zero()) return 0;
     if (std::chrono::duration<double>(time) >= longest_wait) return UINT64_MAX;

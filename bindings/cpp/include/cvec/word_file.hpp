@@ -1,4 +1,4 @@
-// A file of words, which are its records, that any thread may use: the calls of cvec_vector.h, by seats that are borrowed.
+// A file of words, which are its records, that any thread may use: the calls of cvec.h, by seats that are borrowed.
 #ifndef CVEC_WORD_FILE_HPP
 #define CVEC_WORD_FILE_HPP
 

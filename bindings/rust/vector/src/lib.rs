@@ -139,7 +139,7 @@ impl fmt::Display for Error {
 impl std::error::Error for Error {}
 
 impl Error {
-    /// The number in `cvec.h` or `cvec_vector.h` by which C refused the call. `None`: this module refused it.
+    /// The number in `cvec.h` by which C refused the call. `None`: this module refused it.
     pub fn status(&self) -> Option<u32> {
         match *self {
             Error::DiskOpen(_) => Some(35),
