@@ -238,14 +238,14 @@ bugs() {
 81|end|all|nothing
 82|settle_own|all|a settle is for each growth
 83|borrow|all|no seat is lent to two
-84|borrow_own|all|deadlock
+84|borrow_own|all|who is first in line was called
 85|borrow|all|who waits to borrow was called
 86|end|all|the file is locked
-88|borrow|all|deadlock
+88|borrow|all|who is first in line was called
 89|borrow|all|who wants it back was called
 90|borrow_often|all|who waits to borrow was called
-91|borrow|all|deadlock
-92|borrow|all|deadlock
+91|borrow|all|who is first in line was called
+92|borrow|all|who is first in line was called
 93|borrow_push|all|a seat that is given back keeps nothing
 94|borrow|all|one thread at a time commits, by a committer
 95|borrow_push|all|a seat that is borrowed keeps nothing

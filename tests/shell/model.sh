@@ -84,7 +84,7 @@ planted_bugs_are_found() (
     cat "$out"
     for found in '1 wait_twice .*what the mark tells is durable' '46 wait_twice .*: nothing' '50 lend .*what is lent stays' \
         '62 shared_seat .*one call at a time has a seat' "71 fork .*who has begun it isn't refused" \
-        '75 whole_loop .*cycle' '92 borrow .*deadlock' '99 settle .*a settle is for each growth'; do
+        '75 whole_loop .*cycle' '92 borrow .*who is first in line was called' '99 settle .*a settle is for each growth'; do
         grep -q "^ *$found" "$out"
     done
     [ "$(tail -n 1 "$out")" = '8 passed, 0 failed' ]
