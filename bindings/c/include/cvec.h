@@ -275,30 +275,28 @@ typedef struct cvec_options {
 /* Makes a file, or opens one that is there. The file is locked (flock) until the vector is closed; a lock that readers share is waited
  * for, 10 seconds. It is the one that has the name then. Any other number than CVEC_DONE leaves *vector NULL. CVEC_EXISTS: what is
  * there stays; a file is made over nothing but what a stopped creation of that version and type leaves. CVEC_WIDTH: its records have
- * another width. A file has no name for their type: one of u64 is opened as i64 too. Standard streams that are closed get /dev/null,
- * where to read and to print fails as before: else the file might have their numbers, and get what another thread prints.
+ * another width. A file has no name for their type: one of u64 is opened as i64 too.
  *
  * A vector's records are of u32, u64, i64, pair or flagged (else CVEC_NOT_SO). A call that names records takes their type, and is
  * CVEC_WIDTH where the vector's have another width; it takes them, or writes them, by a pointer to them as C has them. A flag that is
  * neither 0 nor 1 is CVEC_NO_RECORD, and nothing is done then. The typed functions at the end are the same calls.
  *
- * Options may be NULL. What is refused by them is so before a file is made. A phase is what is grown between two pauses (cvec_seat_grow). With room for more than 1,048,568 growths each seat and who
- * commits reserve 4 bytes of addresses for each growth of it, of which memory is touched only as growths are made; where the system
- * refuses them it has room for 1,048,568. By default they reserve 1 GiB together: so the room is 268,435,456 divided by one more than
- * the seats. With more a fork may be refused, since it asks the system for all that is reserved once more. Built with the address or
- * the thread sanitizer, which pay for what is reserved, the default is 1,048,568. */
+ * Options may be NULL. What is refused by them is so before a file is made. A phase is what is grown between two pauses (cvec_seat_grow).
+ * With room for more than 1,048,568 growths each seat and who commits reserve 4 bytes of addresses for each growth of it, of which memory
+ * is touched only as growths are made; where the system refuses them it has room for 1,048,568. By default they reserve 1 GiB together: so
+ * the room is 268,435,456 divided by one more than the seats. With more a fork may be refused, since it asks the system for all that is
+ * reserved once more. Built with the address or the thread sanitizer, which pay for what is reserved, the default is 1,048,568. */
 cvec_status cvec_vector_create(cvec_vector **vector, const char *path, cvec_type type, const cvec_options *options);
 cvec_status cvec_vector_open(cvec_vector **vector, const char *path, cvec_type type, const cvec_options *options);
 
 /* Opens a file that is there, and makes one where there is none, or only what a stopped creation left. */
 cvec_status cvec_vector_open_or_create(cvec_vector **vector, const char *path, cvec_type type, const cvec_options *options);
 
-/* Ends the loops of flushers and waits for these, commits what was grown, and closes the file. CVEC_BUSY, and nothing ends or
- * is closed, while a seat isn't closed, or a borrowed one not given back, or it is held (below), or a call by no seat waits, or has
- * the whole vector. Whatever else
- * it answers, the vector is gone, and all that it lent, but in a forked process, where memory stays, and *vector is NULL; another number than CVEC_DONE
- * says that growths nobody awaited may be lost. But for such a call and for loops of flushers that have begun, no call may be
- * under way beside it, or begin. */
+/* Ends the loops of flushers and waits for these, commits what was grown, and closes the file. CVEC_BUSY, and nothing ends or is closed,
+ * while a seat isn't closed, or a borrowed one not given back, or it is held (below), or a call by no seat waits, or has the whole vector.
+ * Whatever else it answers, *vector is NULL, and the vector is gone with all that it lent; in a forked process memory stays. Another
+ * number than CVEC_DONE says that growths nobody awaited may be lost. But for such a call and for loops of flushers that have begun, no
+ * call may be under way beside it, or begin. */
 cvec_status cvec_vector_close(cvec_vector **vector);
 
 /* The same for who can't know which threads are about to borrow a seat: it waits until those that are borrowed are given back, and the
