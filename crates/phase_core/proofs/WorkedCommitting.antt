@@ -7,10 +7,11 @@ use Rattle.record_core.specs.declared.record.Record as Record
 use Rattle.record_core.specs.Bytes.{Encoding}
 use Rattle.disk_core.specs.State.{State, now, IsImage}
 use Rattle.disk_core.specs.Moments.{clock, states_at}
-use Rattle.disk_core.specs.FileDisk.{KeepsSoFar}
+use Rattle.disk_core.specs.FileDisk.{KeepsSoFar, faults_of}
 use Rattle.disk_core.specs.declared.disk.Disk.{Ghosts}
 use Rattle.disk_core.specs.declared.fault.DiskFault.{DiskFault}
 use Rattle.pen_core.specs.declared.fault.OpenFault.{OpenFault}
+use Rattle.pen_core.specs.declared.fault.OpenFault.TheVariants as opens
 use Rattle.pen_core.specs.declared.fault.PenFault.TheVariants as faults
 use Rattle.directory_core.specs.Chain.{grown_records}
 use Rattle.book_core.specs.Lists.{opening_of}
@@ -26,7 +27,7 @@ use Rattle.phase_core.specs.declared.ending.GatherFault.TheVariants as ends
 use Rattle.phase_core.specs.declared.host_vault.HostVault.{HostVault}
 use Rattle.phase_core.specs.declared.phase.BeginFault.TheVariants.{Open}
 use Rattle.phase_core.specs.declared.phase.Phase.{Phase}
-use Rattle.phase_core.specs.Beginning.{IsCreateRefusal, IsLendRefusal, IsNotMade}
+use Rattle.phase_core.specs.Beginning.{IsCreateRefusal, IsLendRefusal, IsNotMade, IsNotOpened}
 use Rattle.phase_core.specs.Committing.{GoesOn, HostCommits, IsCallFault, IsUnplanned}
 use Rattle.phase_core.specs.Committer.{phase_of}
 use Rattle.phase_core.specs.Folding.{Folds}
@@ -135,6 +136,13 @@ existing_lent refused = elim refused [
 -- nothing exists where there are no bytes
 nothing_exists : (is : IsNotMade [] faults.Exists) → KeepsSoFar is.disk → ⊥
 nothing_exists is model = elim (is.exists model refl) [ inl long ↦ absurd (omega (arith, long)) | inr begun ↦ (let long = begun.0 in absurd (omega (arith, long))) ]
+
+-- a call of the file has failed where that is told, and of no other refusal
+no_call_failed : {R : Type 0} (form : Encoding R) (bytes : List ℕ) (cause : DiskFault) (is : IsNotOpened form bytes (opens.Disk cause)) → faults_of is.disk ≡ 0 → ⊥
+no_call_failed form bytes cause is none = one_is_no_zero (sym is.failed ∙ none)
+
+no_call_of_creation : (bytes : List ℕ) (cause : DiskFault) (is : IsNotMade bytes (faults.Disk cause)) → faults_of is.disk ≡ 0 → ⊥
+no_call_of_creation bytes cause is none = one_is_no_zero (sym is.failed ∙ none)
 
 -- a file that is made isn't refused as one that is opened
 made_as_opened : (bytes : List ℕ) (fault : OpenFault) → IsCreateRefusal bytes 9 2 (Open fault) → ⊥

@@ -2,7 +2,7 @@
 
 ghost use Rattle.std.specs.Prelude.{◌≡◌, ℕ, List, [], ◌∷◌};
 ghost use Rattle.disk_core.specs.File.{opened};
-ghost use Rattle.disk_core.specs.FileDisk.{states_of};
+ghost use Rattle.disk_core.specs.FileDisk.{faults_of, states_of};
 
 use disk_core::FileDisk;
 use relay_core::{HostFile, RelayDisk};
@@ -29,14 +29,16 @@ impl OfBytes for HostFile {
 #[tactic(auto, unfolding(crate::specs::Host::truth_over))]
 fn disk_over<F: OfBytes>(alloc: Global, bytes: Vec<u8>) -> FileDisk<F>
     ghost held: { List ℕ }
-    ensures { states_of result ≡ opened held ∷ [] }
+    ensures states { states_of result ≡ opened held ∷ [] }
+    ensures faults { faults_of result ≡ 0 }
 {
     FileDisk::over(F::of_bytes(alloc, bytes))
 }
 
 /// A disk that lists its calls, over a file that holds these bytes.
 pub(crate) fn host_disk<F: OfBytes>(alloc: Global, bytes: Vec<u8>) -> RelayDisk<FileDisk<F>>
-    ensures { states_of result.inner ≡ opened bytes.items ∷ [] }
+    ensures states { states_of result.inner ≡ opened bytes.items ∷ [] }
+    ensures faults { faults_of result.inner ≡ 0 }
 {
     RelayDisk::new(alloc, disk_over(alloc, bytes))
 }
