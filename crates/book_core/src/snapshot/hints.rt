@@ -16,7 +16,10 @@ pub(crate) struct Hints {
 /// The number of the last start from that one on that is at or before `i`, if that one is.
 fn walk(starts: &[u32], from: u32, i: u64) -> u32 {
     let mut number = from;
-    for start in starts.iter().skip((from as usize).saturating_add(1)) {
+    for start in starts
+        .get((from as usize).saturating_add(1)..)
+        .unwrap_or(&[])
+    {
         if *start as u64 > i {
             break;
         }
