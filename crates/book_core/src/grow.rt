@@ -131,6 +131,30 @@ impl<R: Record> Live<R> {
         self.put(seat, fresh)
     }
 
+    /// Publishes the block behind all that the seat knows, without a look first: where nobody else has grown since, there is
+    /// nothing to find. No fault where another growth came first, or where the seat has yet to look.
+    fn put_at_once(
+        &self,
+        seat: &mut Seat<R>,
+        block: Fresh<R>,
+    ) -> Result<Receipt, (Fresh<R>, Option<GrowFault>)>
+        requires of { IsSeatOf self.now seat.old }
+        ensures of { IsSeatOf self.now seat.new }
+        ensures list { MatchResult result
+            (λ receipt. Grown self.now seat.old seat.new block receipt)
+            (λ refused. (refused.0 ≡ block) × SeatLearns seat.old seat.new) }
+        ensures fault { IfErr result (λ refused. IfSome refused.1 (IsBookRefusal self.now seat.new (length block))) }
+    {
+        if !seat.has_just_its_own() {
+            return Err((block, None));
+        }
+        match self.put(seat, block) {
+            Ok(receipt) => Ok(receipt),
+            Err((back, GrowFault::Strayed(_))) => Err((back, None)),
+            Err((back, fault)) => Err((back, Some(fault))),
+        }
+    }
+
     /// Publishes the block behind all that the seat finds, as often as another growth comes first.
     fn put_in_turn<E: Wait>(
         &self,
@@ -145,7 +169,13 @@ impl<R: Record> Live<R> {
             (λ refused. (refused.0 ≡ block) × SeatLearns seat.old seat.new) }
         ensures fault { IfErr result (λ refused. IsBookRefusal self.now seat.new (length block) refused.1) }
     {
-        let mut kept = block;
+        let mut kept = match self.put_at_once(seat, block) {
+            Ok(receipt) => return Ok(receipt),
+            Err((back, fault)) => match fault {
+                Some(fault) => return Err((back, fault)),
+                None => back,
+            },
+        };
         let mut patience = Patience::new();
         for _ in rt.forever() {
             if let Err(fault) = self.catch_up(seat) {

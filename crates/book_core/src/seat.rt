@@ -1,8 +1,8 @@
 //! What one thread has of a phase.
 
-ghost use Rattle.std.specs.Prelude.{◌≡◌, ◌≤◌, [], length};
+ghost use Rattle.std.specs.Prelude.{◌≡◌, ◌≤◌, [], length, IsTrue};
 ghost use Rattle.directory_core.specs.Chain.{IsChained, AreBlocks};
-ghost use Rattle.book_core.specs.Lists.{StandInList};
+ghost use Rattle.book_core.specs.Lists.{StandInList, HasJustItsOwn};
 
 use crate::mark::Reader;
 use directory_core::Pass;
@@ -83,6 +83,14 @@ impl<R: Record> Seat<R> {
         ensures stand_in_list { StandInList self.now }
     {
         self.serial
+    }
+
+    /// Whether of the growths that it knows those that bear its id are those that it made: not before it has looked at what
+    /// a `meet` brought it.
+    pub(crate) fn has_just_its_own(&self) -> bool
+        ensures { IsTrue result → HasJustItsOwn self.now }
+    {
+        self.checked >= self.pass.known()
     }
 
     /// How many growths it knows.
