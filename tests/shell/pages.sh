@@ -31,15 +31,15 @@ seeming_pages() {
 sentence_of() { echo "$(yes word | head -n "$1" | paste -sd ' ')."; }
 
 pages_that_are_right_pass() (
-    seeming_pages '# Here' "$(sentence_of 35)" "\`$(sentence_of 50)\` is one word." '```' "$(sentence_of 50)" '[no](link)' '```' \
-        "| $(sentence_of 50) |" '`behind` words. Callers who ask? Who asks? A beehind, or elsewhere.' '[a](../other.md) [b](../other.md#what-it-holds) [c](#here) [d](https://example.org/#none)'
-    answers 0 '23 passed, 0 failed\n'
+    seeming_pages '# Here' '' "$(sentence_of 35)" "\`$(sentence_of 50)\` is one word." '```' "$(sentence_of 50)" '[no](link)' '```' \
+        "| $(sentence_of 50) |" '`behind` words. Callers who ask? Who asks? A foolbehind, or elsewhere.' '[a](../other.md) [b](../other.md#what-it-holds) [c](#here) [d](https://example.org/#none)'
+    answers 0 '24 passed, 0 failed\n'
 )
 
 # The line is all that is found.
 finds() {
     [ "$status" -eq 1 ]
-    printf '%s\n' "$1" '22 passed, 1 failed' | cmp - "$out"
+    printf '%s\n' "$1" '23 passed, 1 failed' | cmp - "$out"
 }
 
 what_is_wrong_with_a_page_is_found() (
@@ -51,6 +51,11 @@ what_is_wrong_with_a_page_is_found() (
     finds 'docs/deep/page.md: no heading: #there'
     seeming_pages '[a](../other.md#here)'
     finds 'docs/deep/page.md: no heading: ../other.md#here'
+    seeming_pages Text.
+    { echo '# A page'; echo; sentence_of 40; echo; sentence_of 41; } >"$there/bench/README.md"
+    status=0
+    "$there/tests/pages" >"$out" || status=$?
+    finds "bench/README.md: 41 words: $(sentence_of 41)"
     seeming_pages Text.
     { echo '# A page'; head -c 9300 /dev/zero | tr '\0' '\n'; } >"$there/README.md"
     status=0
@@ -74,7 +79,12 @@ words_that_have_better_ones_are_found() (
     status=0
     "$there/tests/pages" >"$out" || status=$?
     [ "$status" -eq 1 ]
-    printf '%s\n' "bindings/python/backend.py: 'behind', write after: What stands behind it." '23 passed, 1 failed' | cmp - "$out"
+    printf '%s\n' "bindings/python/backend.py: 'behind', write after: What stands behind it." '24 passed, 1 failed' | cmp - "$out"
+    seeming_pages Text.
+    sed -i 's/## Words/## Terms/' "$there/CONTRIBUTING.md"
+    status=0
+    "$there/tests/pages" >"$out" || status=$?
+    finds 'CONTRIBUTING.md: no table of words'
 )
 
 # Of a crate that gives on a type and a function, whose calls are named in a table and below it.
@@ -118,7 +128,7 @@ RATTLE
     "$there/tests/pages" >"$out" || status=$?
     [ "$status" -eq 1 ]
     printf 'docs/use/calls.md: no call: %s\n' 'part, of Thing' 'make, of a function' >"$work/wanted"
-    echo '25 passed, 1 failed' >>"$work/wanted"
+    echo '26 passed, 1 failed' >>"$work/wanted"
     cmp "$work/wanted" "$out"
 )
 
