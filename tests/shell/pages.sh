@@ -80,6 +80,13 @@ words_that_have_better_ones_are_found() (
     "$there/tests/pages" >"$out" || status=$?
     [ "$status" -eq 1 ]
     printf '%s\n' "bindings/python/backend.py: 'behind', write after: What stands behind it." '24 passed, 1 failed' | cmp - "$out"
+    printf '%s\n' '/* Stands' ' * behind. */' 'int behind;' >"$there/one.h"
+    printf '%s\n' '/// # Head' '/// Stands' '/// behind.' '// behind' >"$there/two.rs"
+    status=0
+    (cd "$there" && tests/pages one.h two.rs) >"$out" || status=$?
+    [ "$status" -eq 1 ]
+    printf '%s\n' "one.h: 'behind', write after: Stands behind." "two.rs: 'behind', write after: Stands behind." '0 passed, 2 failed' |
+        cmp - "$out"
     seeming_pages Text.
     sed -i 's/## Words/## Terms/' "$there/CONTRIBUTING.md"
     status=0
