@@ -126,14 +126,14 @@ kinds! {
 /// C's sentence is of all that it refuses by this number.
 const TOO_LARGE: &str = "more records than fit one growth";
 
-/// A refusal of a call, which grew and changed nothing, but for what [`grown`](Error::grown) says. It prints the path and a sentence.
+/// A refusal of a call, which grew and changed nothing, but for what [`taken`](Error::taken) says. It prints the path and a sentence.
 /// Where a call of the system failed, `source()` is the system's reason.
 pub struct Error {
     kind: ErrorKind,
     path: Option<Arc<Path>>,
     system: Option<io::Error>,
     fault: Fault,
-    grown: u64,
+    taken: u64,
 }
 
 impl Error {
@@ -163,17 +163,18 @@ impl Error {
         self.fault
     }
 
-    /// So many of the call's records stand in the vector, from the first one on, though it was refused: 0 but of `grow_all`.
-    pub fn grown(&self) -> u64 {
-        self.grown
+    /// So many of the call's records were taken, from the first one on, though it was refused: of `grow_all` they stand in the vector,
+    /// of an appender's `extend` there or among those that are kept. Of other calls it is 0.
+    pub fn taken(&self) -> u64 {
+        self.taken
     }
 
     pub(crate) fn own(kind: ErrorKind, path: Option<&Arc<Path>>) -> Error {
-        Error { kind, path: path.cloned(), system: None, fault: Fault::default(), grown: 0 }
+        Error { kind, path: path.cloned(), system: None, fault: Fault::default(), taken: 0 }
     }
 
-    pub(crate) fn behind(self, grown: u64) -> Error {
-        Error { grown, ..self }
+    pub(crate) fn behind(self, taken: u64) -> Error {
+        Error { taken, ..self }
     }
 
     /// Whether an opener found nothing, or what a stopped creation left.
@@ -211,7 +212,7 @@ impl fmt::Display for Error {
             ErrorKind::NoRecord => write!(f, " at position {}", self.fault.at)?,
             _ => {}
         }
-        if self.grown > 0 { write!(f, ", behind {} records that were grown", self.grown) } else { Ok(()) }
+        if self.taken > 0 { write!(f, ", behind {} records that were taken", self.taken) } else { Ok(()) }
     }
 }
 
@@ -235,7 +236,7 @@ impl std::error::Error for Error {
 
 /// What C answered. To be asked right behind the call.
 pub(crate) fn told(status: u32, path: &Arc<Path>) -> Result<(), Error> {
-    if status == 0 { Ok(()) } else { Err(refusal(status, Some(path), Fault::default())) }
+    told_with(status, Some(path), Fault::default())
 }
 
 /// The same of a call that says where a file is damaged.

@@ -103,13 +103,14 @@ impl<R: Record> File<R> {
 
     /// The same, with a version, and with a wait for who has the file.
     pub fn create_with(path: impl AsRef<Path>, options: &Options) -> Result<File<R>, Error> {
-        let (name, path) = name_of(path.as_ref())?;
-        options.opened(|| {
-            let mut raw = ptr::null_mut();
-            // SAFETY: the name ends with a zero, and lasts for the call; what is refused leaves no file.
-            told(unsafe { cvec_file_create(&mut raw, name.as_ptr(), R::IN_FILE.number, options.number_of_version()) }, &path)?;
-            Ok(File { raw, path: path.clone(), of: PhantomData })
-        })
+        options.opened(|| File::created(path.as_ref(), options))
+    }
+
+    fn created(path: &Path, options: &Options) -> Result<File<R>, Error> {
+        let ((name, path), mut raw) = (name_of(path)?, ptr::null_mut());
+        // SAFETY: the name ends with a zero, and lasts for the call; what is refused leaves no file.
+        told(unsafe { cvec_file_create(&mut raw, name.as_ptr(), R::IN_FILE.number, options.number_of_version()) }, &path)?;
+        Ok(File { raw, path, of: PhantomData })
     }
 
     /// Opens a file, and checks it.
@@ -119,7 +120,7 @@ impl<R: Record> File<R> {
 
     /// The same, with a wait for who has the file.
     pub fn open_with(path: impl AsRef<Path>, options: &Options) -> Result<File<R>, Error> {
-        options.opened(|| File::opened_by(path.as_ref(), cvec_file_open))
+        options.opened(|| File::opened(path.as_ref(), cvec_file_open))
     }
 
     /// Opens a file that is there, and makes one where there is none, or only what a stopped creation left.
@@ -130,23 +131,22 @@ impl<R: Record> File<R> {
     /// The same, with a version for one that is made, and with a wait for who has the file.
     pub fn open_or_create_with(path: impl AsRef<Path>, options: &Options) -> Result<File<R>, Error> {
         let path = path.as_ref();
-        match File::open_with(path, options) {
-            Err(refusal) if refusal.is_of_no_vector() => {}
-            opened => return opened,
-        }
-        match File::create_with(path, options) {
-            Err(refusal) if refusal.kind() == ErrorKind::Exists => File::open_with(path, options), // another has made it
-            made => made,
-        }
+        options.opened(|| match File::opened(path, cvec_file_open) {
+            Err(refusal) if refusal.is_of_no_vector() => match File::created(path, options) {
+                Err(refusal) if refusal.kind() == ErrorKind::Exists => File::opened(path, cvec_file_open), // another has made it
+                made => made,
+            },
+            opened => opened,
+        })
     }
 
     /// Opens a file for reading alone, and checks it: also while another process writes it, without a lock, and with no leave
     /// to write.
     pub fn open_to_read(path: impl AsRef<Path>) -> Result<File<R>, Error> {
-        File::opened_by(path.as_ref(), cvec_file_open_to_read)
+        File::opened(path.as_ref(), cvec_file_open_to_read)
     }
 
-    fn opened_by(path: &Path, open: OpenFile) -> Result<File<R>, Error> {
+    fn opened(path: &Path, open: OpenFile) -> Result<File<R>, Error> {
         let (name, path) = name_of(path)?;
         let (mut raw, mut fault) = (ptr::null_mut(), Fault::default());
         // SAFETY: as above.

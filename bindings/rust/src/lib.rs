@@ -43,5 +43,5 @@ pub mod vector;
 pub use error::{Error, ErrorKind};
 pub use file::{Fault, File, Frame, Stat, check, frame_at};
 pub use options::{MOST_SEATS, Options, Version};
-pub use record::{Bytes, Flagged, Kept, Pair, Plain, Record};
+pub use record::{Bytes, Flagged, Pair, Plain, Record};
 pub use vector::{Appender, Pieces, Receipt, Seat, Vector, View};

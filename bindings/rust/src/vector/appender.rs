@@ -32,7 +32,7 @@ impl<'s, 'v, R: Record> Appender<'s, 'v, R> {
         Ok(receipt)
     }
 
-    /// Keeps each of these in turn. Refused, the first ones are in the vector or kept, and [`Error::grown`] says how many.
+    /// Keeps each of these in turn. Refused, the first ones are in the vector or kept, and [`Error::taken`] says how many.
     pub fn extend(&mut self, records: impl IntoIterator<Item = R>) -> Result<(), Error> {
         for (taken, record) in (0..).zip(records) {
             self.push(record).map_err(|it| it.behind(taken))?;

@@ -9,6 +9,7 @@ use crate::error::{Error, ErrorKind};
 use crate::raw::{RawPiece, cvec_seat_pieces};
 use crate::record::Record;
 use std::fmt;
+use std::iter::Flatten;
 use std::marker::PhantomData;
 use std::ops::Index;
 use std::ptr;
@@ -88,11 +89,9 @@ impl<'v, R: Record> Iterator for Pieces<'_, 'v, R> {
     type Item = Result<&'v [R], Error>;
 
     fn next(&mut self) -> Option<Self::Item> {
-        if self.given == self.count && !self.ended {
-            if let Err(refusal) = self.go_on() {
-                (self.count, self.given, self.ended) = (0, 0, true);
-                return Some(Err(refusal));
-            }
+        if self.given == self.count && !self.ended && let Err(refusal) = self.go_on() {
+            (self.count, self.given, self.ended) = (0, 0, true);
+            return Some(Err(refusal));
         }
         let piece = self.asked[..self.count].get(self.given)?;
         self.given += 1;
@@ -104,7 +103,7 @@ impl<'v, R: Record> Iterator for Pieces<'_, 'v, R> {
 }
 
 /// Records that stand behind one another, and the position of the first.
-struct Piece<'v, R> {
+pub struct Piece<'v, R> {
     start: u64,
     records: &'v [R],
 }
@@ -152,7 +151,7 @@ impl<'v, R: Record> View<'v, R> {
 
     /// All its records, in order; from the back too.
     pub fn iter(&self) -> Iter<'_, 'v, R> {
-        Iter { pieces: self.pieces.iter(), front: Default::default(), back: Default::default(), left: self.end() }
+        self.pieces.iter().flatten()
     }
 
     /// All its records, piece by piece.
@@ -237,55 +236,17 @@ impl<R: Record> Index<u64> for View<'_, R> {
     }
 }
 
-/// The records of a view, in order.
-#[derive(Clone)]
-pub struct Iter<'w, 'v, R> {
-    pieces: slice::Iter<'w, Piece<'v, R>>,
-    /// What is left of the pieces that were begun at either end.
-    front: slice::Iter<'v, R>,
-    back: slice::Iter<'v, R>,
-    left: u64,
-}
-
-impl<'v, R> Iterator for Iter<'_, 'v, R> {
+impl<'v, R> IntoIterator for &Piece<'v, R> {
     type Item = &'v R;
+    type IntoIter = slice::Iter<'v, R>;
 
-    fn next(&mut self) -> Option<&'v R> {
-        self.left = self.left.checked_sub(1)?;
-        loop {
-            if let Some(record) = self.front.next() {
-                return Some(record);
-            }
-            match self.pieces.next() {
-                Some(piece) => self.front = piece.records.iter(),
-                None => return self.back.next(),
-            }
-        }
-    }
-
-    fn size_hint(&self) -> (usize, Option<usize>) {
-        (self.left as usize, Some(self.left as usize))
+    fn into_iter(self) -> slice::Iter<'v, R> {
+        self.records.iter()
     }
 }
 
-impl<'v, R> DoubleEndedIterator for Iter<'_, 'v, R> {
-    fn next_back(&mut self) -> Option<&'v R> {
-        self.left = self.left.checked_sub(1)?;
-        loop {
-            if let Some(record) = self.back.next_back() {
-                return Some(record);
-            }
-            match self.pieces.next_back() {
-                Some(piece) => self.back = piece.records.iter(),
-                None => return self.front.next_back(),
-            }
-        }
-    }
-}
-
-impl<R> ExactSizeIterator for Iter<'_, '_, R> {}
-
-impl<R> std::iter::FusedIterator for Iter<'_, '_, R> {}
+/// The records of a view, in order.
+pub type Iter<'w, 'v, R> = Flatten<slice::Iter<'w, Piece<'v, R>>>;
 
 impl<'w, 'v, R: Record> IntoIterator for &'w View<'v, R> {
     type Item = &'v R;
@@ -299,12 +260,6 @@ impl<'w, 'v, R: Record> IntoIterator for &'w View<'v, R> {
 impl<R: Record> fmt::Debug for Pieces<'_, '_, R> {
     fn fmt(&self, f: &mut fmt::Formatter<'_>) -> fmt::Result {
         f.debug_struct("Pieces").field("seat", self.seat).field("next", &self.next).finish_non_exhaustive()
-    }
-}
-
-impl<R> fmt::Debug for Iter<'_, '_, R> {
-    fn fmt(&self, f: &mut fmt::Formatter<'_>) -> fmt::Result {
-        f.debug_struct("Iter").field("left", &self.left).finish_non_exhaustive()
     }
 }
 

@@ -63,13 +63,13 @@ impl<'v, R: Record> Seat<'v, R> {
 
     /// Grows by any number of records: by as many growths as they take, each as large as one may be, between which those of other
     /// threads may stand. It answers their receipts in order: once the last one is settled all are. Refused, those from before stand,
-    /// and [`Error::grown`] says how many records these have.
+    /// and [`Error::taken`] says how many records these have.
     pub fn grow_all(&self, records: &[R]) -> Result<Vec<Receipt>, Error> {
         let blocks = records.chunks(LARGEST_GROWTH / R::IN_VECTOR.bytes);
         let mut receipts = room_for::<Receipt>(blocks.len(), &self.of.path)?;
         for block in blocks {
-            let grown: u64 = receipts.iter().map(|it| it.length).sum();
-            receipts.push(self.grow(block).map_err(|it| it.behind(grown))?);
+            let taken = receipts.iter().map(|it| it.length).sum();
+            receipts.push(self.grow(block).map_err(|it| it.behind(taken))?);
         }
         Ok(receipts)
     }
