@@ -341,7 +341,7 @@ fn each_refusal(path: &Path) -> Result<(), Error> {
         assert_eq!(vector.seat()?.grow(&[3])?.number, number);
     }
     let other = vector.seat()?;
-    assert_eq!(refused(vector.seat(), "every seat or block is taken, or there is no such handle, answer, block, hold, version or type").kind(), ErrorKind::NoSeat);
+    assert_eq!(refused(vector.seat(), "every seat is taken, or waited for").kind(), ErrorKind::NoSeat);
     drop((seat, other));
     let seat = vector.seat()?;
     assert_eq!((seat.grow(&[3])?.number, seat.settled()?), (4, 1));

@@ -123,9 +123,6 @@ kinds! {
     }
 }
 
-/// C's sentence is of all that it refuses by this number.
-const TOO_LARGE: &str = "more records than fit one growth";
-
 /// A refusal of a call, which grew and changed nothing, but for what [`taken`](Error::taken) says. It prints the path and a sentence.
 /// Where a call of the system failed, `source()` is the system's reason.
 pub struct Error {
@@ -183,9 +180,11 @@ impl Error {
         self.kind == ErrorKind::Unborn || (self.kind == ErrorKind::DiskOpen && is_missing)
     }
 
+    /// C's, but where that is of more than is refused here by its number.
     fn sentence(&self) -> &str {
         match self.kind {
-            ErrorKind::TooLarge => TOO_LARGE,
+            ErrorKind::TooLarge => "more records than fit one growth",
+            ErrorKind::NoSeat => "every seat is taken, or waited for",
             // SAFETY: C gives a text that lasts, whatever the number.
             kind => kind.status().map_or(kind.own_sentence(), |it| text_of(unsafe { CStr::from_ptr(cvec_status_text(it)) })),
         }
@@ -246,7 +245,8 @@ pub(crate) fn told_with(status: u32, path: Option<&Arc<Path>>, fault: Fault) -> 
 
 #[cold]
 fn refusal(status: u32, path: Option<&Arc<Path>>, fault: Fault) -> Error {
+    use ErrorKind::{DiskLength, DiskOpen, DiskRead, DiskSync, DiskWrite};
     let (reason, kind) = (io::Error::last_os_error(), ErrorKind::of(status));
-    let is_of_system = (ErrorKind::DiskOpen.status()..=ErrorKind::DiskSync.status()).contains(&Some(status));
+    let is_of_system = matches!(kind, DiskOpen | DiskLength | DiskRead | DiskWrite | DiskSync);
     Error { fault, system: is_of_system.then_some(reason), ..Error::own(kind, path) }
 }

@@ -85,7 +85,7 @@ pub fn frame_at(image: &[u8], at: u64, version: u8, width: u16) -> Option<Frame>
 
 /// A file that is open for reading and appending, by the process that opened it; by `open_to_read` for reading alone. It says
 /// how wide its records are and not of which type: one of `u64` is opened as `i64` too. A drop closes it: what was appended stands.
-pub struct File<R: Record> {
+pub struct File<R: Record = u64> {
     /// Not `Sync`: a read changes what is known of a file that another process writes.
     raw: *mut RawFile,
     path: Arc<Path>,
