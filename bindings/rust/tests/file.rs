@@ -105,7 +105,8 @@ fn a_file_is_opened_or_made_once_it_is_free() -> Result<(), Error> {
         drop(file);
         waiter.join().unwrap().map(|records| assert_eq!(records, [5]))
     })?;
-    assert_eq!((File::<u64>::open_or_create(path)?.len(), kind_of(File::<u64>::create(path))), (1, Some(ErrorKind::Exists)));
+    assert_eq!(File::<u64>::open_or_create(path)?.len(), 1);
+    assert_eq!(kind_of(File::<u64>::create(path)), Some(ErrorKind::Exists));
     // What a stopped creation leaves is made, and what is another's isn't.
     fs::write(path, [0]).unwrap();
     assert!(File::<u64>::open_or_create(path)?.is_empty());

@@ -87,7 +87,7 @@ fn records_are_numbers_bytes_and_structs() -> Result<(), Error> {
 #[test]
 fn records_are_taken_from_odd_places() -> Result<(), Error> {
     let folder = Folder::of("odd");
-    let bytes: Vec<u8> = (0..=240).collect();
+    let bytes: Vec<u8> = (0..231).collect();
     for from in 1..8 {
         let (rows, _) = bytes[from..].as_chunks::<24>();
         let vector = Vector::<[u8; 24]>::create(folder.at(&format!("{from}.cv")))?;
@@ -152,6 +152,8 @@ fn an_error_names_the_file_and_the_reason() {
     let error = vector.seat().unwrap().grow(&[]).unwrap_err();
     assert_eq!(error.to_string(), format!("{}: a growth has at least one record", path.display()));
     assert!(error.source().is_none() && error.errno().is_none());
+    let boxed: Box<dyn std::error::Error + Send + Sync> = error.into();
+    assert!(boxed.downcast_ref::<Error>().is_some_and(|it| it.kind() == ErrorKind::Empty));
 }
 
 /// What each is of, and no address.
