@@ -32,20 +32,12 @@ macro_rules! kinds {
                 }
             }
 
-            /// The number in `cvec.h` by which C refuses so. `None`: this crate does.
-            pub fn status(self) -> Option<u32> {
+            /// C's number, or the sentence of this crate.
+            fn number_or_sentence(self) -> Result<u32, &'static str> {
                 match self {
-                    $(ErrorKind::$name => Some($status),)*
-                    $(ErrorKind::$own => None,)*
-                    ErrorKind::Unknown(status) => Some(status),
-                }
-            }
-
-            /// Of a kind of this crate's own.
-            fn own_sentence(self) -> &'static str {
-                match self {
-                    $(ErrorKind::$own => $sentence,)*
-                    _ => "an unknown refusal",
+                    $(ErrorKind::$name => Ok($status),)*
+                    $(ErrorKind::$own => Err($sentence),)*
+                    ErrorKind::Unknown(status) => Ok(status),
                 }
             }
         }
@@ -123,6 +115,29 @@ kinds! {
     }
 }
 
+impl ErrorKind {
+    /// The number in `cvec.h` by which C refuses so. `None`: this crate does.
+    pub fn status(self) -> Option<u32> {
+        self.number_or_sentence().ok()
+    }
+
+    /// C's sentence, but where that is of more than is refused here by its number.
+    fn sentence(self) -> &'static str {
+        match (self, self.number_or_sentence()) {
+            (ErrorKind::TooLarge, _) => "more records than fit one growth",
+            (ErrorKind::NoSeat, _) => "every seat is taken, or waited for",
+            // SAFETY: C gives a text that lasts, whatever the number.
+            (_, Ok(status)) => text_of(unsafe { CStr::from_ptr(cvec_status_text(status)) }),
+            (_, Err(sentence)) => sentence,
+        }
+    }
+}
+
+/// C's sentences are plain.
+fn text_of(text: &'static CStr) -> &'static str {
+    text.to_str().unwrap_or("an unknown status")
+}
+
 /// A refusal of a call, which grew and changed nothing, but for what [`taken`](Error::taken) says. It prints the path and a sentence.
 /// Where a call of the system failed, `source()` is the system's reason.
 pub struct Error {
@@ -179,21 +194,6 @@ impl Error {
         let is_missing = self.system.as_ref().is_some_and(|it| it.kind() == io::ErrorKind::NotFound);
         self.kind == ErrorKind::Unborn || (self.kind == ErrorKind::DiskOpen && is_missing)
     }
-
-    /// C's, but where that is of more than is refused here by its number.
-    fn sentence(&self) -> &str {
-        match self.kind {
-            ErrorKind::TooLarge => "more records than fit one growth",
-            ErrorKind::NoSeat => "every seat is taken, or waited for",
-            // SAFETY: C gives a text that lasts, whatever the number.
-            kind => kind.status().map_or(kind.own_sentence(), |it| text_of(unsafe { CStr::from_ptr(cvec_status_text(it)) })),
-        }
-    }
-}
-
-/// C's sentences are plain.
-fn text_of(text: &'static CStr) -> &'static str {
-    text.to_str().unwrap_or("an unknown status")
 }
 
 impl fmt::Display for Error {
@@ -201,7 +201,7 @@ impl fmt::Display for Error {
         if let Some(path) = &self.path {
             write!(f, "{}: ", path.display())?;
         }
-        f.write_str(self.sentence())?;
+        f.write_str(self.kind.sentence())?;
         match self.kind {
             ErrorKind::Damaged if self.fault.cause != 0 => {
                 // SAFETY: as above.

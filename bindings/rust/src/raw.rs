@@ -3,23 +3,13 @@
 use crate::file::{Fault, Frame, Stat};
 use std::ffi::{c_char, c_void};
 
-/// What C has of a file.
+/// What C hides behind its pointers.
 #[repr(C)]
-pub(crate) struct RawFile {
-    hidden: [u8; 0],
-}
-
-/// What C has of a vector.
+pub(crate) struct RawFile([u8; 0]);
 #[repr(C)]
-pub(crate) struct RawVector {
-    hidden: [u8; 0],
-}
-
-/// What C has of a seat.
+pub(crate) struct RawVector([u8; 0]);
 #[repr(C)]
-pub(crate) struct RawSeat {
-    hidden: [u8; 0],
-}
+pub(crate) struct RawSeat([u8; 0]);
 
 #[repr(C)]
 pub(crate) struct RawOptions {
