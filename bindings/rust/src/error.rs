@@ -234,11 +234,13 @@ impl std::error::Error for Error {
 }
 
 /// What C answered. To be asked right behind the call.
+#[inline]
 pub(crate) fn told(status: u32, path: &Arc<Path>) -> Result<(), Error> {
     told_with(status, Some(path), Fault::default())
 }
 
 /// The same of a call that says where a file is damaged.
+#[inline]
 pub(crate) fn told_with(status: u32, path: Option<&Arc<Path>>, fault: Fault) -> Result<(), Error> {
     if status == 0 { Ok(()) } else { Err(refusal(status, path, fault)) }
 }
