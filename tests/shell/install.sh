@@ -283,7 +283,7 @@ cargo_tests_the_crate() (
     cd "$work/bindings/rust"
     CVEC_LIB=$prefix/lib cargo test --quiet --offline --target-dir "$work/target" >"$out" 2>&1 || { cat "$out" && exit 1; }
     # Of files, of vectors, and of documents; the crate itself has none.
-    sed -n 's/^test result: ok. \([0-9]*\) passed; 0 failed; 0 ignored; .*/\1/p' "$out" | sort -n | paste -sd ' ' | grep -qx '0 2 4 10'
+    sed -n 's/^test result: ok. \([0-9]*\) passed; 0 failed; 0 ignored; .*/\1/p' "$out" | sort -n | paste -sd ' ' | grep -qx '0 2 4 11'
     [ "cvec $(sed -n 's/^version = "\(.*\)\.0"$/\1/p' Cargo.toml)" = "$("$program" --version | head -n 1)" ]
     if CVEC_LIB=$work cargo build --quiet --offline --target-dir "$work/target" >"$out" 2>&1; then exit 1; fi
     grep -q "CVEC_LIB names $work, which has no libcvec.a" "$out"

@@ -29,7 +29,7 @@ files_are_as_users_of_rust_want_them() (
 )
 
 vectors_are_as_users_of_rust_want_them() (
-    passes_in_rust vector 10
+    passes_in_rust vector 11
 )
 
 # A test of tests/bindings/file_cases.rs, over a file of its own.

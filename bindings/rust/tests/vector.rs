@@ -278,3 +278,45 @@ fn growths_are_settled_by_no_seat() -> Result<(), Error> {
     assert_eq!(own[0].len()?, 801);
     Ok(())
 }
+
+/// More threads than seats: each growth is whole, also in place, and what is lent by a seat that another thread has now stays.
+#[test]
+fn borrowed_seats_grow_wait_and_lend() -> Result<(), Error> {
+    const THREADS: u32 = 12;
+    const TURNS: u32 = 40;
+    let folder = Folder::of("borrowed");
+    let mut vector = Vector::create_with(folder.at("t.cv"), &seats(3))?;
+    let block = |name, turn| (0..1 + turn % 3).map(|at| Point { x: (name * TURNS + turn) as f32, y: at as f32 }).collect::<Vec<_>>();
+    let work = |vector: &'_ Vector<Point>, name: u32| -> Result<(), Error> {
+        let mut all = Vec::new();
+        for turn in 0..TURNS {
+            let (seat, records) = (vector.seat_within(Duration::from_secs(60))?, block(name, turn));
+            let receipt = match turn % 2 {
+                0 => seat.grow(&records)?,
+                _ => seat.grow_with(records.len(), |lent| lent.copy_from_slice(&records))?,
+            };
+            if turn % 5 == 0 {
+                seat.settle(&receipt)?;
+                assert!(seat.settled()? > receipt.number);
+            }
+            all.push((records, seat.piece(receipt.start)?.unwrap()));
+        }
+        assert!(all.iter().all(|(records, lent)| lent[..records.len()] == records[..]));
+        Ok(())
+    };
+    thread::scope(|scope| {
+        let (vector, work) = (&vector, &work);
+        let pool: Vec<_> = (0..THREADS).map(|name| scope.spawn(move || work(vector, name))).collect();
+        pool.into_iter().try_for_each(|it| it.join().unwrap())
+    })?;
+    vector.compact()?;
+    let seats = [vector.seat()?, vector.seat()?, vector.seat()?];
+    let blocks: Vec<_> = (0..THREADS).flat_map(|name| (0..TURNS).map(move |turn| (name, turn))).map(|it| block(it.0, it.1)).collect();
+    assert_eq!(seats[2].len()?, blocks.iter().map(Vec::len).sum::<usize>() as u64);
+    // Each stands in a row, by itself.
+    for records in blocks {
+        let start = seats[0].find(records[0], 0)?.unwrap();
+        assert_eq!(seats[1].read(start..start + records.len() as u64)?, records);
+    }
+    Ok(())
+}
