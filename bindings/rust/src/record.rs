@@ -99,7 +99,7 @@ const FLAGGED: u32 = 9;
 
 /// C copies records as bytes, of any alignment. What it lends is aligned to its own type of them.
 const fn kept_by_size(size: usize, align: usize) -> Kept {
-    let is_a_size = matches!(size, 1 | 2 | 4) || (size > 0 && size <= 256 && size.is_multiple_of(8));
+    let is_a_size = matches!(size, 1 | 2 | 4) || (size > 0 && size <= 256 && size % 8 == 0);
     assert!(is_a_size, "a record has 1, 2 or 4 bytes, or 8, 16, 24, .. 256");
     assert!(align <= 8, "a record is aligned to 8 bytes at most");
     let (number, count) = match size {
@@ -136,7 +136,7 @@ impl Kept {
 
     /// Whether so many of C are whole ones.
     pub(crate) fn are_whole(&self, all: u64) -> bool {
-        all.is_multiple_of(self.count)
+        all % self.count == 0
     }
 }
 

@@ -89,7 +89,8 @@ impl<'v, R: Record> Iterator for Pieces<'_, 'v, R> {
     type Item = Result<&'v [R], Error>;
 
     fn next(&mut self) -> Option<Self::Item> {
-        if self.given == self.count && !self.ended && let Err(refusal) = self.go_on() {
+        let asked = if self.given == self.count && !self.ended { self.go_on() } else { Ok(()) };
+        if let Err(refusal) = asked {
             (self.count, self.given, self.ended) = (0, 0, true);
             return Some(Err(refusal));
         }
