@@ -241,6 +241,7 @@ has_c() { has cc 'the library for C' && has rt 'the library for C'; }
 files_of_c() {
     case $1 in
     cvec_vector) set -- vector whole seats growing settling system types ;;
+    cvec) set -- file vector whole seats growing settling system types ;;
     *) set -- "$1" system types ;;
     esac
     for file in "$@"; do echo "$c_sources/$file.c"; done
@@ -309,6 +310,25 @@ compile_threads() { compile_over_library "$@" $(files_of_c cvec_vector); }
 make_threads_library() {
     build_older cvec_threads
     kit_library=$(dirname "$(rt doc)")/c/liblibc_c.a
+}
+
+# In this folder: the crate of plain Rust, and all of the C that it calls.
+make_rust_crate() {
+    rust_crate=$1
+    build_older cvec_c
+    make_threads_library
+    if [ -e "$rust_crate/libcvec.rlib" ]; then return; fi
+    mkdir -p "$rust_crate"
+    compile_c cvec "$rust_crate"
+    rustc --edition 2024 -D warnings --crate-type rlib --crate-name cvec -o "$rust_crate/libcvec.rlib" "$top/bindings/rust/src/lib.rs"
+}
+
+# Compiles this program over that crate, with further words to the compiler.
+make_rust_program() {
+    rust_file=$1 rust_program=$2
+    shift 2
+    rustc --edition 2024 -D warnings -o "$rust_program" "$rust_file" --extern "cvec=$rust_crate/libcvec.rlib" "$@" \
+        -C "link-arg=$rust_crate/cvec.o" -C "link-arg=$c_library" -C "link-arg=$threads_library" -C "link-arg=$kit_library"
 }
 
 # Whether programs with this sanitizer are built and run here.

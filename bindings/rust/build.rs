@@ -3,9 +3,9 @@
 use std::env;
 use std::path::{Path, PathBuf};
 
-/// An install has its list of files beside the crates. The folder `lib` beside a checkout is another's.
-fn folder_of_its_own(crates: &Path) -> PathBuf {
-    crates.join(if crates.join("../files").exists() { "../../../lib" } else { "../../out/lib" })
+/// An install has its list of files beside the crate. The folder `lib` beside a checkout is another's.
+fn folder_of_its_own(here: &Path) -> PathBuf {
+    here.join(if here.join("../files").exists() { "../../../lib" } else { "../../out/lib" })
 }
 
 /// The folder that is named has to have it.
@@ -15,8 +15,7 @@ fn folder_of_library() -> PathBuf {
         return named;
     }
     let here = PathBuf::from(env::var_os("CARGO_MANIFEST_DIR").expect("cargo names the crate's folder"));
-    // The crate of the vector stands in that of files.
-    let own = folder_of_its_own(&if here.ends_with("vector") { here.join("..") } else { here });
+    let own = folder_of_its_own(&here);
     assert!(
         own.join("libcvec.a").exists(),
         "there is no libcvec.a: `make libraries` in the repository makes it, and CVEC_LIB names a folder that has it"

@@ -1,6 +1,6 @@
 //! A pool of threads that finds how many steps each number takes to come to 1 (halved where it is even, else tripled and one
 //! more): pool RESULTS COUNT. Begun again, it does what isn't there.
-use cvec_vector::{Error, Vector};
+use cvec::{Error, Vector};
 use std::collections::HashSet;
 use std::path::Path;
 use std::sync::atomic::{AtomicU64, Ordering};
@@ -35,10 +35,7 @@ fn work(vector: &Vector, done: &HashSet<u64>, next: &AtomicU64, count: u64) -> R
 }
 
 fn run(path: &Path, count: u64) -> Result<(), Error> {
-    let vector = match Vector::create(path, 6) {
-        Err(Error::Exists) => Vector::open(path, 6)?,
-        made => made?,
-    };
+    let vector = Vector::open_or_create(path)?;
     let done: HashSet<u64> = vector.seat()?.read(..)?.chunks(2).map(|it| it[0]).collect();
     println!("found {} results", done.len());
     let next = AtomicU64::new(1);
@@ -51,13 +48,10 @@ fn run(path: &Path, count: u64) -> Result<(), Error> {
     vector.close() // commits what nobody has settled
 }
 
-fn main() {
+fn main() -> Result<(), Error> {
     let words: Vec<_> = std::env::args().skip(1).collect();
     let [path, count] = &words[..] else {
         std::process::exit(2);
     };
-    if let Err(error) = run(Path::new(path), count.parse().unwrap_or(0)) {
-        eprintln!("{error}");
-        std::process::exit(1);
-    }
+    run(Path::new(path), count.parse().unwrap_or(0))
 }

@@ -1,12 +1,12 @@
 //! Eight sensors put samples into one file, until the program is killed: samples FILE. Begun again, each sensor goes on behind
 //! the last of its samples that is there.
-use cvec_vector::{Error, Options, Vector};
+use cvec::{Error, Options, Vector};
 use std::path::Path;
 use std::thread;
 
 const SENSORS: usize = 8;
 
-cvec_vector::record! {
+cvec::record! {
     /// What a sensor measured: 24 bytes, which are three records in the file.
     struct Sample {
         sensor: u64,
@@ -32,10 +32,7 @@ fn measure(vector: &Vector<Sample>, sensor: u64, first: u64) -> Result<(), Error
 
 fn run(path: &Path) -> Result<(), Error> {
     let options = Options::default().seats(SENSORS as u16);
-    let vector = &match Vector::create_with(path, &options) {
-        Err(Error::Exists) => Vector::open_with(path, &options)?,
-        made => made?,
-    };
+    let vector = &Vector::open_or_create_with(path, &options)?;
     let (mut found, mut next) = (0, [0; SENSORS]);
     for samples in vector.seat()?.pieces(0) {
         let samples: &[Sample] = samples?; // lent where they stand
@@ -50,13 +47,10 @@ fn run(path: &Path) -> Result<(), Error> {
     })
 }
 
-fn main() {
+fn main() -> Result<(), Error> {
     let words: Vec<_> = std::env::args().skip(1).collect();
     let [path] = &words[..] else {
         std::process::exit(2);
     };
-    if let Err(error) = run(Path::new(path)) {
-        eprintln!("{error}");
-        std::process::exit(1);
-    }
+    run(Path::new(path))
 }

@@ -1,5 +1,5 @@
 //! Grows a vector by threads, settles, opens it again and reads it: use_vector FILE [THREADS [GROWTHS]]
-use cvec_vector::{Error, Vector};
+use cvec::{Error, Options, Vector};
 use std::path::Path;
 use std::thread;
 
@@ -15,7 +15,7 @@ fn grow(vector: &Vector, name: u64, growths: u64) -> Result<(), Error> {
     Ok(())
 }
 
-fn grow_all(vector: &Vector, threads: u16, growths: u64) -> Result<(), Error> {
+fn grow_by_threads(vector: &Vector, threads: u16, growths: u64) -> Result<(), Error> {
     thread::scope(|scope| {
         let running: Vec<_> = (0..threads).map(|name| scope.spawn(move || grow(vector, name.into(), growths))).collect();
         running.into_iter().try_for_each(|it| it.join().expect("a thread panicked"))
@@ -23,13 +23,11 @@ fn grow_all(vector: &Vector, threads: u16, growths: u64) -> Result<(), Error> {
 }
 
 fn run(path: &Path, threads: u16, growths: u64) -> Result<(), Error> {
-    let vector = Vector::create(path, threads.saturating_add(1))?;
-    grow_all(&vector, threads, growths)?;
+    let vector = Vector::create_with(path, &Options::default().seats(threads.saturating_add(1)))?;
+    grow_by_threads(&vector, threads, growths)?;
     let seat = vector.seat()?;
     let mut out = seat.appender(100)?;
-    for number in 0..250 {
-        out.push(number)?;
-    }
+    out.extend(0..250)?;
     if let Some(last) = out.flush()? {
         seat.settle(&last)?;
     }
@@ -38,20 +36,17 @@ fn run(path: &Path, threads: u16, growths: u64) -> Result<(), Error> {
     drop(seat);
     vector.close()?;
 
-    let vector = Vector::open(path, 1)?;
+    let vector = Vector::<u64>::open(path)?;
     let records = vector.seat()?.read(..)?;
     println!("{} records, the last {}, in all {}", records.len(), records[records.len() - 1], records.iter().sum::<u64>());
     vector.close()
 }
 
-fn main() {
+fn main() -> Result<(), Error> {
     let words: Vec<_> = std::env::args().skip(1).collect();
     let Some(path) = words.first() else {
         std::process::exit(2);
     };
     let number = |at: usize, otherwise: u64| words.get(at).and_then(|it| it.parse().ok()).unwrap_or(otherwise);
-    if let Err(error) = run(Path::new(path), number(1, 4) as u16, number(2, 3)) {
-        eprintln!("{error}");
-        std::process::exit(1);
-    }
+    run(Path::new(path), number(1, 4) as u16, number(2, 3))
 }

@@ -1,6 +1,6 @@
 //! Indexes the words of texts by four threads: word_index INDEX WORD TEXT.. Then it prints where WORD stands. The words of a line
 //! are one growth, so a stop leaves whole lines: begun again, it goes on with those that aren't there.
-use cvec_vector::{Error, Vector};
+use cvec::{Error, Vector};
 use std::collections::{BTreeSet, HashSet};
 use std::fs;
 use std::path::Path;
@@ -44,10 +44,7 @@ fn work(vector: &Vector, lines: &[Vec<u64>], next: &AtomicUsize) -> Result<(), E
 }
 
 fn run(path: &Path, word: &str, texts: &[String]) -> Result<(), Error> {
-    let vector = match Vector::create(path, 6) {
-        Err(Error::Exists) => Vector::open(path, 6)?,
-        made => made?,
-    };
+    let vector = Vector::open_or_create(path)?;
     println!("found {} words", vector.seat()?.len()?);
     let mut done = HashSet::new();
     for records in vector.seat()?.pieces(0) {
@@ -71,13 +68,10 @@ fn run(path: &Path, word: &str, texts: &[String]) -> Result<(), Error> {
     vector.close() // commits what nobody has settled
 }
 
-fn main() {
+fn main() -> Result<(), Error> {
     let words: Vec<_> = std::env::args().skip(1).collect();
     let [path, word, texts @ ..] = &words[..] else {
         std::process::exit(2);
     };
-    if let Err(error) = run(Path::new(path), word, texts) {
-        eprintln!("{error}");
-        std::process::exit(1);
-    }
+    run(Path::new(path), word, texts)
 }

@@ -1,6 +1,7 @@
-//! Follows a table of cases by cvec.rs, as driver.c does by cvec.h: driver FILE
-use cvec::{Bytes, Error, File, Flagged, Pair, Record, Stat};
+//! Follows a table of cases by the crate `cvec`, as driver.c does by cvec.h: driver FILE
+use cvec::{Bytes, Error, ErrorKind, File, Flagged, Pair, Record, Stat};
 use std::collections::HashMap;
+use std::error::Error as _;
 use std::ffi::OsString;
 use std::fs;
 use std::io::Write;
@@ -97,7 +98,7 @@ impl<R: Word> Handle for File<R> {
         File::append(self, &words.iter().map(|it| R::of(it)).collect::<Vec<R>>())
     }
     fn read(&self, from: u64) -> Result<Vec<String>, Error> {
-        Ok(File::read(self, from)?.iter().map(R::text).collect())
+        Ok(File::read(self, from..)?.iter().map(R::text).collect())
     }
 }
 
@@ -213,12 +214,19 @@ fn follow(handles: &mut HashMap<String, Box<dyn Handle>>, line: &str) -> Result<
     Ok("done\n".to_string())
 }
 
-/// The system's number, which Rust tells in its text too, stands behind it alone.
+/// As C says it, whose sentence of this number is of more. The path stands in front, and the system's number, which Rust tells in its
+/// text too, stands behind it alone.
 fn refused(error: Error) -> String {
-    let errno = error.errno.unwrap_or(0);
-    let text = error.to_string().replace(&format!(" (os error {errno})"), "");
-    let fault = error.fault;
-    format!("refused {} {text}; at {} cause {} found {} errno {errno}\n", error.status, fault.at, fault.cause, fault.found)
+    let place = error.path().map(|it| format!("{}: ", it.display())).unwrap_or_default();
+    let told = error.to_string().strip_prefix(&place).expect("the path first").to_string();
+    let text = match error.kind() {
+        ErrorKind::TooLarge => told + ", not 1 to 64 seats, or room for more than 536,870,904 growths",
+        _ => told,
+    };
+    let (fault, errno) = (error.fault(), error.errno().unwrap_or(0));
+    let reason = error.source().map(|it| format!(": {it}").replace(&format!(" (os error {errno})"), "")).unwrap_or_default();
+    let number = error.status().map_or("by the crate".to_string(), |it| it.to_string());
+    format!("refused {number} {text}{reason}; at {} cause {} found {} errno {errno}\n", fault.at, fault.cause, fault.found)
 }
 
 fn main() {

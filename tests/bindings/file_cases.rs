@@ -1,5 +1,5 @@
 //! Tests of the crate `cvec` that no table tells: file_cases NAME FILE. NAME is that of a function below.
-use cvec::{Error, File};
+use cvec::{Error, ErrorKind, File, Options, Version};
 use std::alloc::{GlobalAlloc, Layout, System};
 use std::path::Path;
 use std::sync::atomic::{AtomicBool, Ordering};
@@ -35,13 +35,14 @@ fn is_refused(path: &Path) -> Result<(), Error> {
     file.append(&records)?;
     for file in [file, File::open_to_read(path)?] {
         IS_REFUSED.store(true, Ordering::Relaxed);
-        let refused = file.read(0).map(|it| it.len());
-        let few = file.read(99_998);
+        let refused = file.read(..).map(|it| it.len());
+        let few = file.read(99_998..);
         IS_REFUSED.store(false, Ordering::Relaxed);
         let refused = refused.expect_err("no memory was asked for");
-        assert_eq!((refused.status, refused.errno, refused.to_string()), (6, None, "memory was refused".to_string()));
+        let told = format!("{}: memory was refused", path.display());
+        assert_eq!((refused.kind(), refused.errno(), refused.to_string()), (ErrorKind::Memory, None, told));
         assert_eq!(few?, [99_998, 99_999]);
-        assert_eq!(file.read(0)?, records);
+        assert_eq!(file.read(..)?, records);
     }
     Ok(())
 }
@@ -50,21 +51,17 @@ fn is_refused(path: &Path) -> Result<(), Error> {
 fn grows(path: &Path) -> Result<(), Error> {
     File::create(path)?.append(&[0u64])?;
     let file = File::<u64>::open_to_read(path)?;
-    assert_eq!(file.read(0)?, [0, 1, 2]);
-    assert_eq!(file.read(1)?, [1, 2, 3, 4]);
-    assert_eq!(file.read(9)?, []);
+    assert_eq!(file.read(..)?, [0, 1, 2]);
+    assert_eq!(file.read(1..)?, [1, 2, 3, 4]);
+    assert_eq!(file.read(9..)?, []);
     Ok(())
 }
 
-/// A file is made of version 1 or 2, and of no other, of which nothing is made.
+/// A file is made of version 1 or 2.
 fn versions(path: &Path) -> Result<(), Error> {
-    for version in [0, 3, 255] {
-        let refused = File::<u64>::create_as(path, version).map(|_| ()).expect_err("a version that there isn't");
-        assert_eq!((refused.status, path.exists()), (3, false));
-    }
-    for version in [1, 2] {
-        assert_eq!(File::<u64>::create_as(path, version)?.stat().version, version);
-        assert_eq!(File::<i64>::open(path)?.stat().version, version);
+    for (version, number) in [(Version::One, 1), (Version::Two, 2)] {
+        assert_eq!(File::<u64>::create_with(path, &Options::default().version(version))?.stat().version, number);
+        assert_eq!(File::<i64>::open(path)?.stat().version, number);
         std::fs::remove_file(path).unwrap();
     }
     assert_eq!(File::<u64>::create(path)?.stat().version, 1);

@@ -59,14 +59,11 @@ for name in ("cvec.py", "cvec_vector.py"):
     assert own and own.items() <= statuses.items(), (name, own)
 assert {it: (form.width, cvec_records.IN_C[it].width) for it, form in cvec_records.IN_FILE.items()} == {it: row[1:] for it, row in types.items()}
 
-vector, file = text_of("rust", "vector", "src", "lib.rs"), text_of("rust", "src", "lib.rs")
-told = re.findall(r"^ +\((\d+), Error::(\w+)\),$", vector, re.M)
-of_system = re.findall(r"^ +(\d+) => Error::(\w+)\(errno\),$", vector, re.M)
-assert of_system == [(number, name) for name, number in re.findall(r"Error::(\w+)\(_\) => Some\((\d+)\),", vector)]
-assert {upper(name).replace("NO_SEAT", "NOT_SO"): int(number) for number, name in told + of_system} == of_vectors
-own = {name: int(number) for name, number in re.findall(r"^const (\w+): u32 = (\d+);$", file, re.M)}
-assert own and own.items() <= statuses.items(), own
-numbers = re.findall(r"^    ([\w<>]+), (\d+);$", file, re.M)
-assert {re.sub("[<>]", "", name).lower(): int(number) for name, number in numbers} == {name: row[0] for name, row in types.items()}
-kept = {name.lower(): int(number) for name, number in re.findall(r"^const (\w+): u32 = (\d+);$", text_of("rust", "vector", "src", "record.rs"), re.M)}
-assert sorted(kept) == ["flagged", "pair", "u32", "u64"] and all(types[name][0] == number for name, number in kept.items()), kept
+kinds = re.findall(r"^ +(\w+) = (\d+),$", text_of("rust", "src", "error.rs"), re.M)
+never = OF_FILES - {"NO_RECORD", "READ_ONLY"} | of_clients.keys()
+assert {upper(name).replace("NO_SEAT", "NOT_SO"): int(number) for name, number in kinds} == {it: statuses[it] for it in statuses if it not in never}
+record = text_of("rust", "src", "record.rs")
+kept = {name.lower(): int(number) for name, number in re.findall(r"^const (\w+): u32 = (\d+);$", record, re.M)}
+kept.update((f"bytes{width}", int(number)) for width, number in re.findall(r"(\d+): (\d+)", re.search(r"^bytes!\((.*)\);$", record, re.M).group(1)))
+assert sorted(kept) == ["bytes16", "bytes24", "bytes32", "bytes64", "flagged", "pair", "u16", "u32", "u64", "u8"], kept
+assert all(types[name][0] == number for name, number in kept.items()), kept

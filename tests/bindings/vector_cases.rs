@@ -1,6 +1,7 @@
-//! Tests of cvec_vector.rs: vector_cases NAME FILE, where NAME is that of a test below; and writers that vector_killed.py and
+//! Tests of vectors of the crate `cvec`: vector_cases NAME FILE, where NAME is that of a test below; and writers that vector_killed.py and
 //! vector_steps.py kill: vector_cases write FILE ROUND THREADS TURNS, vector_cases steps FILE. What a file holds is read by others.
-use cvec_vector::{Error, Flagged, MOST_SEATS, Options, Pair, Receipt, Record, Seat, Vector, Version, View};
+use cvec::{Bytes, Error, ErrorKind, Flagged, MOST_SEATS, Options, Pair, Receipt, Record, Seat, Vector, Version, View};
+use std::error::Error as _;
 use std::fmt::Debug;
 use std::fs;
 use std::io::{Write, stdout};
@@ -27,20 +28,45 @@ fn block(round: u64, name: u64, turn: u64) -> Vec<u64> {
     std::iter::once(head).chain((1..length).map(|at| head.wrapping_mul(31).wrapping_add(at))).collect()
 }
 
-const TOO_LARGE: &str = "more records than fit one growth, not 1 to 64 seats, or room for more than 536,870,904 growths";
+const TOO_LARGE: &str = "more records than fit one growth";
 const IN_USE: &str = "the file is in use";
 const LATE: &str = "the time has passed: what was waited for may yet come";
 const UNFOLDED: &str = "a change isn't folded: fold first";
 const OUT_OF_RANGE: &str = "there is no such growth or position, or the vector would pass 2^32 records";
 const BUSY: &str = "another thread is inside a call, a seat isn't closed, the vector is held, or answers of growths aren't taken";
 const FULL: &str = "it takes no more growths while records are lent: compact it";
+const FILE_TOO_LARGE: &str = "the file can't be written: File too large (os error 27)";
 const BROKEN: &str = "a write or a sync has failed before: open the file again";
 
+/// It names the file, and says this; behind it stands the system's reason, where it has one.
 fn refused<T: Debug>(answer: Result<T, Error>, text: &str) -> Error {
     let error = answer.expect_err(text);
-    assert_eq!(error.to_string(), text);
-    let _: &dyn std::error::Error = &error;
+    let place = format!("{}: ", error.path().expect("a path").display());
+    let told = error.to_string().strip_prefix(&place).expect("the path first").to_string();
+    let reason = error.source().map(|it| format!(": {it}")).unwrap_or_default();
+    assert_eq!(told + &reason, text);
     error
+}
+
+fn kind_of<T>(answer: Result<T, Error>) -> Option<ErrorKind> {
+    answer.err().map(|it| it.kind())
+}
+
+fn seats(seats: u16) -> Options {
+    Options::default().seats(seats)
+}
+
+/// Of `u64`, with so many seats.
+fn create(path: &Path, count: u16) -> Result<Vector, Error> {
+    Vector::create_with(path, &seats(count))
+}
+
+fn open(path: &Path, count: u16) -> Result<Vector, Error> {
+    open_of(path, count)
+}
+
+fn open_of<R: Record>(path: &Path, count: u16) -> Result<Vector<R>, Error> {
+    Vector::open_with(path, &seats(count))
 }
 
 /// What it panics with, which isn't printed.
@@ -55,7 +81,7 @@ fn panic_of<T: Debug>(run: impl FnOnce() -> T) -> String {
 fn grows_and_reads(path: &Path) -> Result<(), Error> {
     is_shared::<Vector>();
     is_send::<Seat<'static>>();
-    let vector = Vector::create_as(path, 2, Version::Two)?;
+    let vector = Vector::<u64>::create_with(path, &seats(2).version(Version::Two))?;
     let seat = vector.seat()?;
     assert!(seat.is_empty()? && seat.read(..)?.is_empty());
     let first = seat.grow(&[5, 7])?;
@@ -84,7 +110,7 @@ fn grows_and_reads(path: &Path) -> Result<(), Error> {
     Ok(())
 }
 
-cvec_vector::record! {
+cvec::record! {
     /// Of 24 bytes: three words.
     #[derive(Debug, PartialEq)]
     struct Sample {
@@ -97,7 +123,6 @@ cvec_vector::record! {
 
     /// Of 8 bytes, none of its fields.
     #[derive(Debug, PartialEq)]
-    #[repr(align(8))]
     pub struct Point {
         pub x: f32,
         pub(crate) y: f32,
@@ -137,7 +162,7 @@ fn line(number: u64) -> Line {
 /// Of this type: grown, read, opened again, searched and changed.
 fn has_records_of<R: Record + PartialEq + Debug>(path: &Path, width: u8, records: [R; 4]) -> Result<(), Error> {
     let _ = fs::remove_file(path);
-    let vector = Vector::<R>::create_of(path, 2, Version::Two)?;
+    let vector = Vector::<R>::create_with(path, &seats(2).version(Version::Two))?;
     let seat = vector.seat()?;
     assert_eq!(seat.grow(&records[..2])?, Receipt { number: 0, start: 0, length: 2 });
     let mut appender = seat.appender(1)?;
@@ -150,7 +175,7 @@ fn has_records_of<R: Record + PartialEq + Debug>(path: &Path, width: u8, records
     drop(seat);
     vector.close()?;
     assert_eq!(fs::read(path).unwrap()[9..11], [width, 0]);
-    let mut vector = Vector::<R>::open_of(path, 2)?;
+    let mut vector = open_of::<R>(path, 2)?;
     let seat = vector.seat()?;
     assert_eq!((seat.count(records[3])?, seat.find(records[3], 0)?, seat.find(records[0], 1)?), (1, Some(3), None));
     assert_eq!([seat.at(0)?, seat.at(3)?, seat.at(4)?, seat.at(u64::MAX)?], [Some(records[0]), Some(records[3]), None, None]);
@@ -167,42 +192,45 @@ fn has_records_of<R: Record + PartialEq + Debug>(path: &Path, width: u8, records
 fn has_types(path: &Path) -> Result<(), Error> {
     has_records_of(path, 4, [1, u32::MAX, 0, 7])?;
     const WIDTH: &str = "the records have another width";
-    assert_eq!(refused(Vector::open(path, 1), WIDTH), Error::Width);
-    refused(Vector::<Pair>::open_of(path, 1), WIDTH);
+    assert_eq!(refused(open(path, 1), WIDTH).kind(), ErrorKind::Width);
+    refused(open_of::<Pair>(path, 1), WIDTH);
     has_records_of(path, 8, [1, u64::MAX, 0, 7])?;
-    refused(Vector::<u32>::open_of(path, 1), WIDTH);
+    refused(open_of::<u32>(path, 1), WIDTH);
     has_records_of(path, 8, [-1, i64::MIN, i64::MAX, 7])?;
-    assert_eq!(Vector::open(path, 1)?.seat()?.read(..1)?, [u64::MAX]);
+    assert_eq!(open(path, 1)?.seat()?.read(..1)?, [u64::MAX]);
     has_records_of(path, 16, [(1, -1), (u64::MAX, i64::MIN), (1, 1), (0, 7)].map(|(key, value)| Pair { key, value }))?;
-    refused(Vector::<Flagged>::open_of(path, 1), WIDTH);
+    refused(open_of::<Flagged>(path, 1), WIDTH);
     has_records_of(path, 9, [(1, true), (u64::MAX, false), (1, false), (0, true)].map(|(key, flag)| Flagged { key, flag }))?;
-    refused(Vector::<Pair>::open_of(path, 1), WIDTH);
+    refused(open_of::<Pair>(path, 1), WIDTH);
     Ok(())
 }
 
 /// Structs of the caller's are kept as one record of their size, or as several of 8 bytes.
 fn has_own_structs(path: &Path) -> Result<(), Error> {
     has_records_of(path, 4, [1, 2, 0, 7].map(|all| Color { all }))?;
-    assert_eq!(Vector::<u32>::open_of(path, 1)?.seat()?.read(..)?, [1, 1, 2, 7, 7]);
+    assert_eq!(open_of::<u32>(path, 1)?.seat()?.read(..)?, [1, 1, 2, 7, 7]);
     has_records_of(path, 4, [0.5, -1.0, f32::INFINITY, 7.0_f32])?;
     has_records_of(path, 8, [1, 2, 3, 4].map(point))?;
-    assert_eq!(Vector::open(path, 1)?.seat()?.read(..1)?, [0xbf80_0000_3f80_0000]);
+    assert_eq!(open(path, 1)?.seat()?.read(..1)?, [0xbf80_0000_3f80_0000]);
     has_records_of(path, 8, [0.5, -1.0, f64::MAX, 7.0])?;
     has_records_of(path, 16, [1, 2, 3, 4].map(|from| Span { from, to: -from }))?;
-    assert_eq!(Vector::<Pair>::open_of(path, 1)?.seat()?.read(3..4)?, [Pair { key: 4, value: -4 }]);
+    assert_eq!(open_of::<Pair>(path, 1)?.seat()?.read(3..4)?, [Pair { key: 4, value: -4 }]);
     has_records_of(path, 8, [1, 2, 3, 4].map(line))?;
+    has_records_of(path, 16, [1, 2, 0, 7].map(|it| Bytes([it; 16])))?;
+    has_records_of(path, 8, [1, 2, 0, 7].map(|it| Bytes([it; 24])))?;
+    has_records_of(path, 8, [1, 2, 0, 7].map(|it| [it; 24]))?;
     has_records_of(path, 8, [0, 1 << 32, 3, 4].map(sample))?;
     // Five samples are fifteen words, by hand: of sensor 0 and second 1, 2^31 as a double, and the four numbers.
-    let words = Vector::open(path, 1)?.seat()?.read(..)?;
+    let words = open(path, 1)?.seat()?.read(..)?;
     assert_eq!((words.len(), &words[6..9]), (15, &[1 << 32, 0x41e0_0000_0000_0000, 0x0002_0001_0000_0000][..]));
-    refused(Vector::<Line>::open_of(path, 1), "the records have another width");
-    refused(Vector::<Span>::open_of(path, 1), "the records have another width");
+    refused(open_of::<Line>(path, 1), "the records have another width");
+    refused(open_of::<Span>(path, 1), "the records have another width");
     Ok(())
 }
 
 /// As records that C has, but that a growth, a change and a resize are of whole ones.
 fn searches_and_resizes_own_structs(path: &Path) -> Result<(), Error> {
-    let mut vector = Vector::<Sample>::create_with(path, &Options::default().seats(1).growths(2))?;
+    let mut vector = Vector::<Sample>::create_with(path, &seats(1).growths(2))?;
     let (a, b) = (sample(1), Sample { sensor: 0, second: 0, value: 0.0, more: [0; 4] });
     let seat = vector.seat()?;
     // The second and third words of one and the first of the next are no record.
@@ -229,7 +257,7 @@ fn searches_and_resizes_own_structs(path: &Path) -> Result<(), Error> {
     refused(vector.resize(3_004 + 43_691, b), TOO_LARGE);
     refused(vector.resize((1 << 32) / 3 + 1, b), OUT_OF_RANGE);
     refused(vector.resize(u64::MAX, b), OUT_OF_RANGE);
-    assert_eq!(refused(vector.resize(1, b), UNFOLDED), Error::Unfolded);
+    assert_eq!(refused(vector.resize(1, b), UNFOLDED).kind(), ErrorKind::Unfolded);
     vector.fold()?;
     vector.resize(2, b)?;
     assert_eq!(vector.seat()?.len()?, 2);
@@ -237,7 +265,7 @@ fn searches_and_resizes_own_structs(path: &Path) -> Result<(), Error> {
 }
 
 fn appends(path: &Path) -> Result<(), Error> {
-    let vector = Vector::create(path, 2)?;
+    let vector = create(path, 2)?;
     let seat = vector.seat()?;
     let mut out = seat.appender(3)?;
     let told: Vec<_> = (0..8).map(|it| out.push(it)).collect::<Result<_, _>>()?;
@@ -261,57 +289,47 @@ fn appends(path: &Path) -> Result<(), Error> {
     vector.close()
 }
 
-/// Each has the sentence that C has for its number, and C has no other refusals but those of files and of clients. 65 is never answered.
-fn has_the_sentences_of_c() {
-    let disk = [Error::DiskOpen(2), Error::DiskLength(2), Error::DiskRead(2), Error::DiskWrite(2), Error::DiskSync(2)];
-    let plain = [
-        Error::Unborn,
-        Error::NotSegment,
-        Error::Version,
-        Error::Width,
-        Error::Damaged,
-        Error::Memory,
-        Error::Empty,
-        Error::OutOfRange,
-        Error::TooLarge,
-        Error::FileFull,
-        Error::Exists,
-        Error::InUse,
-        Error::Broken,
-        Error::Forked,
-        Error::NotFile,
-        Error::NoSeat,
-        Error::Full,
-        Error::Busy,
-        Error::Late,
-        Error::Unfolded,
-    ];
-    let mut told: Vec<_> = disk.iter().chain(&plain).map(|it| (it.status().unwrap(), it.to_string())).collect();
-    told.sort();
+/// As C has its name: of NoSeat another one.
+fn name_in_c(kind: ErrorKind) -> String {
+    let words = format!("{kind:?}").chars().fold(String::new(), |mut name, it| {
+        if it.is_uppercase() && !name.is_empty() {
+            name.push('_');
+        }
+        name.extend(it.to_uppercase());
+        name
+    });
+    if kind == ErrorKind::NoSeat { "NOT_SO".to_string() } else { words }
+}
+
+/// Each kind has C's number for its name, and C has no other refusals but those of images and of clients. 65 and 70 are never answered.
+fn has_the_numbers_of_c() {
+    use ErrorKind::*;
+    let of_files = [Unborn, NotSegment, Version, Width, Damaged, Memory, Empty, OutOfRange, TooLarge, FileFull, NoRecord, Exists, InUse, Broken];
+    let of_system = [DiskOpen, DiskLength, DiskRead, DiskWrite, DiskSync, Forked, NotFile, ReadOnly];
+    let of_vectors = [NoSeat, Full, Busy, Late, Unfolded];
+    let kinds = of_files.iter().chain(&of_system).chain(&of_vectors);
+    let told: Vec<_> = kinds.map(|it| (it.status().unwrap(), name_in_c(*it))).collect();
     // A number, a name, and a sentence.
-    let lines = include_str!("statuses.txt").lines().map(|it| it.split_once(' ').unwrap());
-    let lines = lines.map(|(number, rest)| (number, rest.split_once(' ').unwrap().1));
-    let of_system = |number: u32| if (35..40).contains(&number) { ": No such file or directory (os error 2)" } else { "" };
-    let wanted = lines.map(|it| (it.0.parse().unwrap(), it.1)).filter(|it| it.0 < 96 && ![0, 11, 12, 13, 42, 65, 70].contains(&it.0));
-    let wanted: Vec<_> = wanted.collect();
-    assert_eq!(told, wanted.iter().map(|it| (it.0, format!("{}{}", it.1, of_system(it.0)))).collect::<Vec<_>>());
-    assert_eq!((Error::Unknown(999).to_string(), Error::Seats.status(), Error::Path.status()), ("an unknown status".into(), None, None));
-    assert_eq!((Error::Filling.status(), Error::OtherVector.status()), (None, None));
+    let lines = include_str!("statuses.txt").lines().map(|it| it.split(' ').collect::<Vec<_>>());
+    let wanted = lines.map(|it| (it[0].parse().unwrap(), it[1].to_string()));
+    assert_eq!(told, wanted.filter(|it| it.0 < 96 && ![0, 11, 12, 65, 70].contains(&it.0)).collect::<Vec<_>>());
+    assert_eq!([Seats, Growths, Path, Filling, OtherVector].map(ErrorKind::status), [None; 5]);
+    assert_eq!(Unknown(999).status(), Some(999));
 }
 
 fn each_refusal(path: &Path) -> Result<(), Error> {
-    has_the_sentences_of_c();
-    assert_eq!(refused(Vector::open(path, 1), "the file can't be opened: No such file or directory (os error 2)"), Error::DiskOpen(2));
-    refused(Vector::open(path.parent().unwrap(), 1), "a folder, a pipe or a device has this name");
-    refused(Vector::create(Path::new("a\0b"), 1), "a path has a zero byte");
+    has_the_numbers_of_c();
+    assert_eq!(refused(open(path, 1), "the file can't be opened: No such file or directory (os error 2)").kind(), ErrorKind::DiskOpen);
+    refused(open(path.parent().unwrap(), 1), "a folder, a pipe or a device has this name");
+    refused(create(Path::new("a\0b"), 1), "a path has a zero byte");
     for seats in [0, MOST_SEATS + 1, u16::MAX] {
-        refused(Vector::create(path, seats), "a vector has 1 to 64 seats");
-        refused(Vector::open(path, seats), "a vector has 1 to 64 seats");
+        refused(create(path, seats), "a vector has 1 to 64 seats");
+        refused(open(path, seats), "a vector has 1 to 64 seats");
     }
     assert!(!path.exists());
-    let vector = Vector::create(path, 2)?;
-    assert_eq!(refused(Vector::open(path, 2), IN_USE), Error::InUse);
-    assert_eq!(refused(Vector::create(path, 2), IN_USE).errno(), None);
+    let vector = create(path, 2)?;
+    assert_eq!(refused(open(path, 2), IN_USE).kind(), ErrorKind::InUse);
+    assert_eq!(refused(create(path, 2), IN_USE).errno(), None);
     let seat = vector.seat()?;
     refused(seat.grow(&[]), "a growth has at least one record");
     refused(seat.grow(&[1; 131_072]), TOO_LARGE);
@@ -323,16 +341,16 @@ fn each_refusal(path: &Path) -> Result<(), Error> {
         assert_eq!(vector.seat()?.grow(&[3])?.number, number);
     }
     let other = vector.seat()?;
-    assert_eq!(refused(vector.seat(), "every seat or block is taken, or there is no such handle, answer, block, hold, version or type"), Error::NoSeat);
+    assert_eq!(refused(vector.seat(), "every seat is taken, or waited for").kind(), ErrorKind::NoSeat);
     drop((seat, other));
     let seat = vector.seat()?;
     assert_eq!((seat.grow(&[3])?.number, seat.settled()?), (4, 1));
     seat.settle(&receipt)?;
     drop(seat);
     vector.close()?;
-    refused(Vector::create(path, 2), "something is there already");
+    refused(create(path, 2), "something is there already");
     // A seat that is forgotten keeps the vector open.
-    let mut vector = Vector::open(path, 2)?;
+    let mut vector = open(path, 2)?;
     let seat = vector.seat()?;
     std::mem::forget(vector.seat()?);
     drop(seat);
@@ -342,18 +360,18 @@ fn each_refusal(path: &Path) -> Result<(), Error> {
     assert_eq!((seat.count(3)?, seat.find(3, 0)?, seat.len()?), (4, Some(131_071), 131_075));
     drop(seat);
     refused(vector.close(), BUSY);
-    refused(Vector::open(path, 1), IN_USE);
+    refused(open(path, 1), IN_USE);
     let other = path.with_extension("other");
-    let others: [(&[u8], Error); 5] = [
-        (b"", Error::Unborn),
-        (b"\x01other bytes than those of a file", Error::NotSegment),
-        (b"\x01CVECSEG\x07\x08\0\0", Error::Version),
-        (b"\x01CVECSEG\x01\x04\0\0", Error::Width),
-        (b"\x01CVECSEG\x01\x08\0\x01\x09", Error::Damaged),
+    let others: [(&[u8], ErrorKind); 5] = [
+        (b"", ErrorKind::Unborn),
+        (b"\x01other bytes than those of a file", ErrorKind::NotSegment),
+        (b"\x01CVECSEG\x07\x08\0\0", ErrorKind::Version),
+        (b"\x01CVECSEG\x01\x04\0\0", ErrorKind::Width),
+        (b"\x01CVECSEG\x01\x08\0\x01\x09", ErrorKind::Damaged),
     ];
     for (there, error) in others {
         fs::write(&other, there).unwrap();
-        assert_eq!(Vector::open(&other, 1).unwrap_err(), error);
+        assert_eq!(open(&other, 1).unwrap_err().kind(), error);
         assert_eq!(fs::read(&other).unwrap(), there);
     }
     Ok(())
@@ -362,7 +380,7 @@ fn each_refusal(path: &Path) -> Result<(), Error> {
 /// While a thread's commit is held (syncs.c), a wait for it ends when its time has passed.
 fn has_a_deadline(path: &Path) -> Result<(), Error> {
     let gate = std::env::var("GATE").unwrap();
-    let vector = Vector::create(path, 3)?;
+    let vector = create(path, 3)?;
     let seat = vector.seat()?;
     let first = seat.grow(&[5])?;
     let begun = AtomicU64::new(0);
@@ -400,7 +418,7 @@ fn has_a_deadline(path: &Path) -> Result<(), Error> {
 
 /// What nobody settles is settled by a flusher, until that is stopped.
 fn flushes(path: &Path) -> Result<(), Error> {
-    let vector = &Vector::create(path, 1)?;
+    let vector = &create(path, 1)?;
     let seat = vector.seat()?;
     thread::scope(|scope| {
         let flusher = scope.spawn(|| vector.run_flusher(Duration::from_nanos(1)));
@@ -422,7 +440,7 @@ fn flushes(path: &Path) -> Result<(), Error> {
 /// Where a phase is full it goes on by the same seats: each record of an appender is a growth, and numbers count on.
 fn is_full(path: &Path) -> Result<(), Error> {
     const MOST: u64 = 1_048_568;
-    let vector = Vector::create_with(path, &Options::default().seats(2).growths(MOST))?;
+    let vector = Vector::create_with(path, &seats(2).growths(MOST))?;
     let (seat, other) = (vector.seat()?, vector.seat()?);
     let first = seat.grow(&[0])?;
     let mut out = seat.appender(1)?;
@@ -453,7 +471,7 @@ fn is_full(path: &Path) -> Result<(), Error> {
 fn is_full_by_threads(path: &Path) -> Result<(), Error> {
     const THREADS: u64 = 16;
     const EACH: u64 = 70_000;
-    let vector = &Vector::<u32>::create_with(path, &Options::default().seats(16).version(Version::Two).growths(1_048_568))?;
+    let vector = &Vector::<u32>::create_with(path, &seats(16).version(Version::Two).growths(1_048_568))?;
     let run = |name: u64| -> Result<(), Error> {
         let seat = vector.seat()?;
         for number in 0..EACH {
@@ -484,11 +502,11 @@ fn is_full_by_threads(path: &Path) -> Result<(), Error> {
 
 /// A seat is waited for, no longer than it is asked for; a pool of 200 threads works by 64.
 fn waits_for_a_seat(path: &Path) -> Result<(), Error> {
-    let vector = &Vector::create(path, MOST_SEATS)?;
+    let vector = &create(path, MOST_SEATS)?;
     let mut seats: Vec<_> = (0..MOST_SEATS).map(|_| vector.seat().unwrap()).collect();
     for longest in [Duration::ZERO, Duration::from_millis(30)] {
         let begun = Instant::now();
-        assert_eq!(refused(vector.seat_within(longest), LATE), Error::Late);
+        assert_eq!(refused(vector.seat_within(longest), LATE).kind(), ErrorKind::Late);
         assert!(begun.elapsed() >= longest && begun.elapsed() < Duration::from_secs(5));
     }
     thread::scope(|scope| {
@@ -519,7 +537,7 @@ fn lends_of<R: Record + PartialEq + Debug>(path: &Path, record: fn(u64) -> R) ->
     const EACH: u64 = 2_500;
     let block_of = |name: u64, turn: u64| (0..1 + turn % 3).map(|it| record(name << 16 | turn << 2 | it)).collect::<Vec<R>>();
     let _ = fs::remove_file(path);
-    let mut vector = Vector::<R>::create_with(path, &Options::default().seats(5).growths(20_000))?;
+    let mut vector = Vector::<R>::create_with(path, &seats(5).growths(20_000))?;
     let first = block_of(4, 2);
     let early = {
         let seat = vector.seat()?;
@@ -575,7 +593,7 @@ fn lends(path: &Path) -> Result<(), Error> {
 
 /// With room for eight growths: the ninth ends the phase, but where records of it are lent.
 fn is_full_where_it_lends(path: &Path) -> Result<(), Error> {
-    let mut vector = Vector::create_with(path, &Options::default().seats(2).growths(8))?;
+    let mut vector = Vector::create_with(path, &seats(2).growths(8))?;
     let seat = vector.seat()?;
     for number in 0..20 {
         assert_eq!(seat.grow(&[number])?.number, number);
@@ -587,8 +605,8 @@ fn is_full_where_it_lends(path: &Path) -> Result<(), Error> {
         seat.grow(&[number])?;
     }
     for _ in 0..3 {
-        assert_eq!(refused(seat.grow(&[24]), FULL), Error::Full);
-        assert_eq!(refused(seat.grow_with(1, |it| it[0] = 24), FULL), Error::Full);
+        assert_eq!(refused(seat.grow(&[24]), FULL).kind(), ErrorKind::Full);
+        assert_eq!(refused(seat.grow_with(1, |it| it[0] = 24), FULL).kind(), ErrorKind::Full);
     }
     assert_eq!((lent, seat.piece(19)?.unwrap().as_ptr(), seat.len()?), (&[19][..], at, 24));
     seat.settle(&Receipt { number: 23, start: 23, length: 1 })?;
@@ -623,8 +641,8 @@ fn is_full_where_it_lends(path: &Path) -> Result<(), Error> {
 /// By layouts of short and long pieces, learned of one after the other: at each position is the record that was grown there.
 fn views(path: &Path) -> Result<(), Error> {
     is_shared::<View<'static>>();
-    let other = Vector::create(&path.with_extension("other"), 1)?;
-    let vector = Vector::create(path, 2)?;
+    let other = create(&path.with_extension("other"), 1)?;
+    let vector = create(path, 2)?;
     let seat = vector.seat()?;
     let (mut view, early) = (seat.view()?, seat.view()?);
     assert_eq!((view.is_empty(), view.len(), view.get(0), view.get(u64::MAX)), (true, 0, None, None));
@@ -641,8 +659,7 @@ fn views(path: &Path) -> Result<(), Error> {
         assert!(view.pieces().flatten().copied().eq(0..len));
     }
     assert_eq!(early.len(), 0);
-    assert_eq!(view.learn(&other.seat()?), Err(Error::OtherVector));
-    assert_eq!(Error::OtherVector.to_string(), "the seat is one of another vector");
+    assert_eq!(refused(view.learn(&other.seat()?), "the seat is one of another vector").kind(), ErrorKind::OtherVector);
     assert_eq!(panic_of(|| view[len]), format!("position {len} of a view of {len} records"));
     // What it gives lasts as long as the vector is borrowed: longer than the seat, and than the view.
     drop(seat);
@@ -656,20 +673,20 @@ fn views(path: &Path) -> Result<(), Error> {
 /// What a caller's own closure answers.
 #[derive(Debug, PartialEq)]
 enum Stopped {
-    Refused(Error),
+    Refused(ErrorKind),
     Own(u8),
 }
 
 impl From<Error> for Stopped {
     fn from(error: Error) -> Stopped {
-        Stopped::Refused(error)
+        Stopped::Refused(error.kind())
     }
 }
 
 /// Of this type: the records are zero at first, and stay where they were written. A growth has at most so many.
 fn fills_of<R: Record + PartialEq + Debug>(path: &Path, most: usize, zero: R, record: fn(u64) -> R) -> Result<(), Error> {
     let _ = fs::remove_file(path);
-    let vector = Vector::<R>::create_of(path, 1, Version::One)?;
+    let vector = Vector::<R>::create_with(path, &seats(1))?;
     let seat = vector.seat()?;
     for turn in 0..3 {
         let (mut at, records) = (std::ptr::null(), [record(turn), record(5), record(7)]);
@@ -696,7 +713,7 @@ fn fills_of<R: Record + PartialEq + Debug>(path: &Path, most: usize, zero: R, re
 
 /// Where the closure fails nothing was grown, and nothing is left of its records: the seat lends others.
 fn fills_nothing(path: &Path) -> Result<(), Error> {
-    let vector = Vector::create(path, 2)?;
+    let vector = create(path, 2)?;
     let seat = vector.seat()?;
     for turn in 0..100 {
         let stopped = seat.try_grow_with(70_000, |lent| {
@@ -707,11 +724,11 @@ fn fills_nothing(path: &Path) -> Result<(), Error> {
         let panicked = panic_of(|| seat.grow_with(70_000, |lent| assert_ne!(lent[0], 0, "stopped")));
         assert!(panicked.contains("stopped"));
     }
-    assert_eq!(seat.try_grow_with(0, |_| Ok(())), Err(Stopped::Refused(Error::Empty)));
+    assert_eq!(seat.try_grow_with(0, |_| Ok(())), Err(Stopped::Refused(ErrorKind::Empty)));
     assert_eq!((seat.len()?, seat.is_empty()?), (0, true));
     // Other calls by the seat are made before it has grown.
     let receipt = seat.try_grow_with(2, |lent| -> Result<(), Stopped> {
-        assert_eq!(refused(seat.grow_with(1, |_| ()), "the seat's records of another growth are being filled"), Error::Filling);
+        assert_eq!(refused(seat.grow_with(1, |_| ()), "the seat's records of another growth are being filled").kind(), ErrorKind::Filling);
         assert_eq!(seat.grow(&[1, 2, 3])?, Receipt { number: 0, start: 0, length: 3 });
         lent.copy_from_slice(&[seat.len()?, seat.at(1)?.unwrap()]);
         Ok(())
@@ -738,7 +755,7 @@ fn fills_in_place(path: &Path) -> Result<(), Error> {
 /// Records are counted and found while threads grow.
 fn searches_beside_growers(path: &Path) -> Result<(), Error> {
     const TURNS: u64 = 3_000;
-    let vector = &Vector::create(path, 5)?;
+    let vector = &create(path, 5)?;
     let early = vector.seat()?;
     thread::scope(|scope| {
         let grow = |name: u64| {
@@ -771,19 +788,19 @@ fn has_options(path: &Path) -> Result<(), Error> {
         refused(Vector::<u64>::create_with(path, &usual.seats(seats)), "a vector has 1 to 64 seats");
         refused(Vector::<u64>::open_with(path, &usual.seats(seats)), "a vector has 1 to 64 seats");
     }
-    assert_eq!(Vector::<u64>::create_with(path, &usual.growths(536_870_905)).unwrap_err(), Error::TooLarge);
+    assert_eq!(Vector::<u64>::create_with(path, &usual.growths(536_870_905)).unwrap_err().kind(), ErrorKind::Growths);
     assert!(!path.exists());
     let vector = Vector::<u64>::create_with(path, &usual)?;
     let seats: Vec<_> = (0..MOST_SEATS).map(|_| vector.seat().unwrap()).collect();
-    assert_eq!(vector.seat().unwrap_err(), Error::NoSeat);
+    assert_eq!(vector.seat().unwrap_err().kind(), ErrorKind::NoSeat);
     seats[0].grow(&[5])?;
     drop(seats);
     vector.close()?;
     assert_eq!(fs::read(path).unwrap()[8], 1);
-    assert_eq!(Vector::<u64>::open_with(path, &usual.growths(u64::MAX)).unwrap_err(), Error::TooLarge);
+    assert_eq!(Vector::<u64>::open_with(path, &usual.growths(u64::MAX)).unwrap_err().kind(), ErrorKind::Growths);
     let vector = Vector::<u64>::open_with(path, &usual.growths(1).seats(1))?;
     let seat = vector.seat()?;
-    assert_eq!((seat.piece(0)?, vector.seat().unwrap_err()), (Some(&[5][..]), Error::NoSeat));
+    assert_eq!((seat.piece(0)?, kind_of(vector.seat())), (Some(&[5][..]), Some(ErrorKind::NoSeat)));
     seat.grow(&[7])?;
     refused(seat.grow(&[9]), FULL);
     drop(seat);
@@ -800,7 +817,7 @@ fn has(vector: &Vector, records: &[u64]) {
 }
 
 fn is_changed(path: &Path) -> Result<(), Error> {
-    let mut vector = Vector::create(path, 2)?;
+    let mut vector = create(path, 2)?;
     let first = vector.seat()?.grow(&[0, 1, 2, 3, 4, 5])?;
     vector.change(2, &[12, 13, 12])?;
     has(&vector, &[0, 1, 12, 13, 12, 5]);
@@ -815,7 +832,7 @@ fn is_changed(path: &Path) -> Result<(), Error> {
     for (start, records) in [(4, &[1, 2, 3][..]), (6, &[1]), (u64::MAX, &[1, 2])] {
         refused(vector.change(start, records), OUT_OF_RANGE);
     }
-    assert_eq!(refused(vector.resize(5, 0), UNFOLDED), Error::Unfolded);
+    assert_eq!(refused(vector.resize(5, 0), UNFOLDED).kind(), ErrorKind::Unfolded);
     refused(vector.clear(), UNFOLDED);
     refused(vector.resize(131_078, 1), TOO_LARGE);
     refused(vector.resize((1 << 32) + 1, 1), OUT_OF_RANGE);
@@ -854,9 +871,9 @@ fn is_changed(path: &Path) -> Result<(), Error> {
 
 /// A resize that C refuses before it has changed anything (refused.c): what was grown is settled, and growths are counted on.
 fn is_refused(path: &Path) -> Result<(), Error> {
-    let mut vector = Vector::create(path, 2)?;
+    let mut vector = create(path, 2)?;
     let first = vector.seat()?.grow(&[5, 7])?;
-    assert_eq!(refused(vector.resize(1, 0), "memory was refused"), Error::Memory);
+    assert_eq!(refused(vector.resize(1, 0), "memory was refused").kind(), ErrorKind::Memory);
     let seat = vector.seat()?;
     assert_eq!((seat.read(..)?, seat.settled()?), (vec![5, 7], 1));
     let second = seat.grow(&[9])?;
@@ -872,11 +889,11 @@ fn is_refused(path: &Path) -> Result<(), Error> {
 
 /// Where the device is full, what was changed isn't, and all is broken.
 fn is_broken(path: &Path) -> Result<(), Error> {
-    let mut vector = Vector::create(path, 1)?;
+    let mut vector = create(path, 1)?;
     let receipt = vector.seat()?.grow(&[5; 300])?;
     assert_eq!(vector.seat()?.count(5)?, 300);
     vector.compact()?;
-    assert_eq!(vector.change(0, &[7; 300]), Err(Error::DiskWrite(27)));
+    refused(vector.change(0, &[7; 300]), FILE_TOO_LARGE);
     refused(vector.seat(), BROKEN);
     refused(vector.clear(), BROKEN);
     refused(vector.fold(), BROKEN);
@@ -885,9 +902,9 @@ fn is_broken(path: &Path) -> Result<(), Error> {
     refused(vector.compact(), BROKEN);
     refused(vector.close(), BROKEN);
     // Where what was grown can't be committed the seats stay, by which it is read.
-    let mut vector = Vector::open(path, 1)?;
+    let mut vector = open(path, 1)?;
     vector.seat()?.grow(&[7; 300])?;
-    assert_eq!(vector.clear(), Err(Error::DiskWrite(27)));
+    refused(vector.clear(), FILE_TOO_LARGE);
     refused(vector.clear(), BROKEN);
     let seat = vector.seat()?;
     assert_eq!((seat.len()?, seat.settled()?, seat.count(7)?, seat.find(7, 0)?), (600, 0, 300, Some(300)));
@@ -904,7 +921,7 @@ fn steps(path: &Path) -> Result<(), Error> {
         let seat = vector.seat()?;
         seat.settle(&seat.grow(records)?)
     };
-    let mut vector = Vector::create(path, 2)?;
+    let mut vector = create(path, 2)?;
     told(0);
     grow(&vector, &[0, 1, 2, 3, 4, 5])?;
     told(1);
@@ -932,10 +949,10 @@ fn is_refused_in_a_fork(vector: &Vector, seat: &Seat) -> bool {
     let child = unsafe { fork() };
     if child == 0 {
         unsafe { alarm(10) };
-        let is_refused = vector.seat().map(drop) == Err(Error::Forked);
+        let is_refused = kind_of(vector.seat()) == Some(ErrorKind::Forked);
         drop(unsafe { std::ptr::read(seat) });
         let closed = unsafe { std::ptr::read(vector) }.close();
-        unsafe { _exit(if is_refused && closed == Err(Error::Forked) { 0 } else { 1 }) };
+        unsafe { _exit(if is_refused && kind_of(closed) == Some(ErrorKind::Forked) { 0 } else { 1 }) };
     }
     let mut status = 1;
     // SAFETY: the place for the status lasts for the call.
@@ -944,7 +961,7 @@ fn is_refused_in_a_fork(vector: &Vector, seat: &Seat) -> bool {
 
 /// What another thread had at the fork, the forked process doesn't wait for.
 fn forks_meanwhile(path: &Path) -> Result<(), Error> {
-    let vector = &Vector::create(path, 2)?;
+    let vector = &create(path, 2)?;
     let (seat, ends) = (vector.seat()?, AtomicU64::new(0));
     let are_refused = thread::scope(|scope| {
         scope.spawn(|| {
@@ -963,7 +980,7 @@ fn forks_meanwhile(path: &Path) -> Result<(), Error> {
 /// The forked process is refused, and its parent goes on.
 fn forks(path: &Path) -> Result<(), Error> {
     forks_meanwhile(&path.with_extension("other"))?;
-    let mut vector = Vector::create(path, 2)?;
+    let mut vector = create(path, 2)?;
     let seat = vector.seat()?;
     let receipt = seat.grow(&[5])?;
     let (lent, mut view) = (seat.piece(0)?.unwrap(), seat.view()?);
@@ -977,7 +994,7 @@ fn forks(path: &Path) -> Result<(), Error> {
         let is_lent = lent == [5] && view[0] == 5 && view.get(1).is_none();
         drop(seat);
         let changes = [vector.change(0, &[1]), vector.resize(0, 0), vector.clear(), vector.fold(), vector.compact(), vector.close()];
-        let refused = looks.iter().chain(&lends).chain(&found).chain(&answers).chain(&changes).all(|it| *it == Err(Error::Forked));
+        let refused = looks.iter().chain(&lends).chain(&found).chain(&answers).chain(&changes).all(|it| it.as_ref().is_err_and(|it| it.kind() == ErrorKind::Forked));
         // SAFETY: it ends the child, with none of the parent's buffers.
         unsafe { _exit(if refused && is_lent { 0 } else { 1 }) };
     }
@@ -991,7 +1008,7 @@ fn forks(path: &Path) -> Result<(), Error> {
 
 /// Grows until the device is full, and tells how many growths are settled.
 fn fills(path: &Path) -> Result<(), Error> {
-    let vector = Vector::create(path, 1)?;
+    let vector = create(path, 1)?;
     let seat = vector.seat()?;
     let mut turn = 0;
     let error = loop {
@@ -1000,8 +1017,8 @@ fn fills(path: &Path) -> Result<(), Error> {
             Err(error) => break error,
         }
     };
-    assert_eq!(error, Error::DiskWrite(27));
-    assert_eq!(error.to_string(), "the file can't be written: File too large (os error 27)");
+    assert_eq!((error.kind(), error.errno()), (ErrorKind::DiskWrite, Some(27)));
+    refused::<()>(Err(error), FILE_TOO_LARGE);
     assert_eq!(seat.settled()?, turn);
     refused(seat.grow(&[1]), BROKEN);
     refused(seat.settle(&Receipt { number: turn, start: 0, length: 1 }), BROKEN);
@@ -1014,10 +1031,7 @@ fn fills(path: &Path) -> Result<(), Error> {
 fn write(words: &[String]) -> Result<(), Error> {
     let (path, numbers) = (Path::new(&words[0]), words[1..].iter().map(|it| it.parse().unwrap()).collect::<Vec<u64>>());
     let (round, threads, turns) = (numbers[0], numbers[1], numbers[2]);
-    let vector = match Vector::create(path, threads as u16) {
-        Err(Error::Exists) => Vector::open(path, threads as u16)?,
-        it => it?,
-    };
+    let vector = Vector::open_or_create_with(path, &seats(threads as u16))?;
     let names = AtomicU64::new(0);
     let run = || -> Result<(), Error> {
         let (seat, name, mut untold) = (vector.seat()?, names.fetch_add(1, Ordering::Relaxed), Vec::new());

@@ -2,11 +2,11 @@
 //! call below it has that call too, while something lent is used behind it, and is refused. With `--cfg used_before` besides the
 //! same is used before that call alone, and it is compiled again: so it is refused for the use, and for nothing else.
 #![allow(unexpected_cfgs, unused_mut, unused_variables)]
-use cvec_vector::{Error, Vector, View};
+use cvec::{Error, Vector, View};
 
 fn main() -> Result<(), Error> {
-    let mut vector = Vector::create("t.cv".as_ref(), 2)?;
-    let mut other = Vector::create("other.cv".as_ref(), 2)?;
+    let mut vector = Vector::<u64>::create("t.cv")?;
+    let mut other = Vector::<u64>::create("other.cv")?;
     let seat = vector.seat()?;
     let piece: &[u64] = seat.piece(0)?.unwrap();
     let pieces: Vec<&[u64]> = seat.pieces(0).collect::<Result<_, _>>()?;
@@ -57,7 +57,7 @@ fn main() -> Result<(), Error> {
 pub fn outlive() -> Result<u64, Error> {
     let piece;
     {
-        let vector = Vector::create("t.cv".as_ref(), 2)?;
+        let vector = Vector::<u64>::create("t.cv")?;
         piece = vector.seat()?.piece(0)?.unwrap();
         #[cfg(used_before)]
         return Ok(piece[0]);

@@ -1,7 +1,7 @@
 //! What threads may have of a vector, and what they may not (tests/shell/vector_rust.sh). By itself it is compiled; with `--cfg NAME`
 //! a thread is sent something more, and it is refused. With `--cfg here` besides that stays with its thread, and it is compiled.
 #![allow(unexpected_cfgs, unused_variables)]
-use cvec_vector::{Error, Vector};
+use cvec::{Error, Vector};
 
 fn is_sent<T: Send>(_: T) {}
 
@@ -25,6 +25,6 @@ pub fn run(vector: &Vector) -> Result<(), Error> {
     Ok(())
 }
 
-fn is_seat_sent(seat: cvec_vector::Seat<'_>) {
+fn is_seat_sent(seat: cvec::Seat<'_>) {
     is_sent(seat);
 }

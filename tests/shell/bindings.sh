@@ -64,9 +64,8 @@ make_arrays() {
 
 make_rust() {
     [ -e "$built/rust" ] && return
-    rustc --edition 2024 -D warnings --crate-type rlib --crate-name cvec -o "$built/libcvec.rlib" "$top/bindings/rust/src/lib.rs"
-    rustc --edition 2024 -D warnings -o "$built/rust" "$bindings/driver.rs" --extern "cvec=$built/libcvec.rlib" \
-        -C "link-arg=$built/file.o" -C "link-arg=$c_library" -C "link-arg=$kit_library"
+    make_rust_crate "$built"
+    make_rust_program "$bindings/driver.rs" "$built/rust"
 }
 
 # Stands between a caller and the system.

@@ -226,7 +226,7 @@ a_rust_program_is_built_by_rustc() (
     [ "$(tr '\n' ' ' <"$out")" = '5 7 11 13 ' ]
 )
 
-# One program takes both crates.
+# One program has both of what the crate has.
 a_rust_program_is_built_by_cargo() (
     can_install && has cargo 'a crate of plain Rust' || exit $is_skipped
     installs_once
@@ -234,16 +234,16 @@ a_rust_program_is_built_by_cargo() (
     cp "$top/examples/rust/use.rs" "$work/src/bin"
     cp "$top/examples/rust/use_vector.rs" "$work/src/bin"
     cat >"$work/src/bin/both.rs" <<'RUST'
-fn main() {
+fn main() -> Result<(), cvec::Error> {
     let path = std::env::args().nth(1).unwrap();
-    cvec::File::<u64>::create(path.as_ref()).unwrap().append(&[5, 7, 11]).unwrap();
-    println!("{:?}", cvec_vector::Vector::open(path.as_ref(), 1).unwrap().seat().unwrap().read(..).unwrap());
+    cvec::File::<u64>::create(&path)?.append(&[5, 7, 11])?;
+    println!("{:?}", cvec::Vector::<u64>::open(&path)?.seat()?.read(..)?);
+    Ok(())
 }
 RUST
     {
         printf '[package]\nname = "use"\nedition = "2024"\n[dependencies]\n'
         printf 'cvec = { path = "%s" }\n' "$prefix/share/cvec/rust"
-        printf 'cvec_vector = { path = "%s" }\n' "$prefix/share/cvec/rust/vector"
     } >"$work/Cargo.toml"
     unset CVEC_LIB
     cargo build --quiet --offline --manifest-path "$work/Cargo.toml" --target-dir "$work/target"
@@ -254,8 +254,23 @@ RUST
     sed -n 1p "$out" | grep -qx '286 records of 15 growths'
 )
 
-# The folders of the repository as cargo takes them: the examples are built, and the programs of documents compile.
-cargo_tests_the_crates() (
+# The first program of the page, by its lines, where the page has PREFIX.
+the_first_program_in_rust_is_built_as_its_page_says() (
+    can_install && has cargo 'a crate of plain Rust' || exit $is_skipped
+    installs_once
+    cd "$work"
+    shown_in use/rust.md rust | awk '/^use cvec/ { at++ } at == 1' >first.rs
+    shown_in use/rust.md sh | sed '/^make/,$d' >lines
+    [ "$(wc -l <lines)" -eq 4 ]
+    unset CVEC_LIB
+    CARGO_NET_OFFLINE=true PREFIX=$prefix timeout 300 sh -e lines >"$out" 2>"$err" || { cat "$err" && exit 1; }
+    grep -qx '16 records, 8 growths durable' "$out"
+    "$prefix/bin/cvec" list u64 first.cv | paste -d ' ' - - | sort >blocks
+    for name in 0 1 2 3 4 5 6 7; do echo "$name $((name + 100))"; done | cmp - blocks
+)
+
+# The folders of the repository as cargo takes them: the examples are built, its tests pass, and the programs of documents compile.
+cargo_tests_the_crate() (
     can_install && has cargo 'a crate of plain Rust' || exit $is_skipped
     installs_once
     mkdir "$work/bindings" "$work/examples"
@@ -267,10 +282,9 @@ cargo_tests_the_crates() (
     [ "$(tr '\n' ' ' <"$out")" = '5 7 11 13 ' ]
     cd "$work/bindings/rust"
     CVEC_LIB=$prefix/lib cargo test --quiet --offline --target-dir "$work/target" >"$out" 2>&1 || { cat "$out" && exit 1; }
-    [ "$(grep -c '^test result: ok. 1 passed' "$out")" -eq 2 ]
-    for crate in . vector; do
-        [ "cvec $(sed -n 's/^version = "\(.*\)\.0"$/\1/p' "$crate/Cargo.toml")" = "$("$program" --version | head -n 1)" ]
-    done
+    # Of files, of vectors, and of documents; the crate itself has none.
+    sed -n 's/^test result: ok. \([0-9]*\) passed; 0 failed; 0 ignored; .*/\1/p' "$out" | sort -n | paste -sd ' ' | grep -qx '0 2 4 11'
+    [ "cvec $(sed -n 's/^version = "\(.*\)\.0"$/\1/p' Cargo.toml)" = "$("$program" --version | head -n 1)" ]
     if CVEC_LIB=$work cargo build --quiet --offline --target-dir "$work/target" >"$out" 2>&1; then exit 1; fi
     grep -q "CVEC_LIB names $work, which has no libcvec.a" "$out"
 )

@@ -1,27 +1,43 @@
-# The library for C from Rust as rustc compiles it, by its example in bindings/rust.
+# Files from plain Rust, as rustc compiles it (bindings/rust), over the library for C; and what its crate links.
 
-# ---- the library for C, and its callers, built as docs/use/c.md says
+# ---- the crate, built as docs/use/install.md says, once beside the folder of a test's files
+
+built=$work-built
+
+has_rust_crate() { has_c && has rustc 'the crate for plain Rust'; }
 
 a_rust_program_appends_and_reads() (
-    has_c && has rustc 'the library for plain Rust' || exit $is_skipped
-    make_c_library
-    rustc --edition 2024 -D warnings --crate-type rlib --crate-name cvec -o "$work/libcvec.rlib" "$top/bindings/rust/src/lib.rs"
-    rustc --edition 2024 -D warnings -o "$work/use" "$top/examples/rust/use.rs" --extern "cvec=$work/libcvec.rlib" \
-        -C "link-arg=$work/file.o" -C "link-arg=$c_library" -C "link-arg=$kit_library"
+    has_rust_crate || exit $is_skipped
+    make_rust_crate "$built"
+    make_rust_program "$top/examples/rust/use.rs" "$work/use"
     "$work/use" "$work/file" >"$out"
     [ "$(tr '\n' ' ' <"$out")" = '5 7 11 13 ' ]
     is_shown_as_written u64 "$work/file"
 )
 
+# The tests that cargo runs of this name in bindings/rust/tests: so many, and none is left out.
+passes_in_rust() {
+    has_rust_crate || exit $is_skipped
+    make_rust_crate "$built"
+    make_rust_program "$top/bindings/rust/tests/$1.rs" "$work/tests" --test
+    timeout 120 "$work/tests" >"$out"
+    grep -q "^test result: ok. $2 passed; 0 failed; 0 ignored; " "$out"
+}
+
+files_are_as_users_of_rust_want_them() (
+    passes_in_rust file 4
+)
+
+vectors_are_as_users_of_rust_want_them() (
+    passes_in_rust vector 11
+)
+
 # A test of tests/bindings/file_cases.rs, over a file of its own.
 is_so_of_a_rust_file() {
-    has_c && has rustc 'the library for plain Rust' || exit $is_skipped
-    make_c_library
+    has_rust_crate || exit $is_skipped
+    make_rust_crate "$built"
     cc -std=c99 -O2 -Wall -Wextra -Werror "-I$c_headers" -c "$top/tests/bindings/grows.c" -o "$work/grows.o"
-    rustc --edition 2024 -D warnings --crate-type rlib --crate-name cvec -o "$work/libcvec.rlib" "$top/bindings/rust/src/lib.rs"
-    rustc --edition 2024 -D warnings -o "$work/cases" "$top/tests/bindings/file_cases.rs" --extern "cvec=$work/libcvec.rlib" \
-        -C "link-arg=$work/grows.o" -C link-arg=-Wl,--wrap=cvec_file_read -C "link-arg=$work/file.o" -C "link-arg=$c_library" \
-        -C "link-arg=$kit_library"
+    make_rust_program "$top/tests/bindings/file_cases.rs" "$work/cases" -C "link-arg=$work/grows.o" -C link-arg=-Wl,--wrap=cvec_file_read
     timeout 60 "$work/cases" "$1" "$work/t.cv"
 }
 
@@ -38,7 +54,7 @@ a_rust_file_is_made_of_either_version() (
     is_so_of_a_rust_file versions
 )
 
-# ---- which archive the crates link, with packages and archives that only seem them
+# ---- which archive the crate links, with packages and archives that only seem them
 
 # Makes libcvec.a in this folder, whose one function answers this number.
 make_answer() {

@@ -1,4 +1,4 @@
-# The vector that threads of Rust, as rustc compiles it, grow (bindings/rust/vector), over the library for threads of C.
+# The vector that threads of Rust, as rustc compiles it, grow (bindings/rust), over the library for threads of C.
 
 # ---- its programs, built as docs/use/threads.md says; what several tests take once, beside the folder of a test's files
 
@@ -6,22 +6,7 @@ built=$work-built
 
 has_rust_vector() { has_c && has rustc 'the vector for plain Rust'; }
 
-make_rust_vector() {
-    make_threads_library
-    mkdir -p "$built"
-    if [ -e "$built/libcvec_vector.rlib" ]; then return; fi
-    compile_c cvec_vector "$built"
-    rustc --edition 2024 -D warnings --crate-type rlib --crate-name cvec_vector -o "$built/libcvec_vector.rlib" \
-        "$top/bindings/rust/vector/src/lib.rs"
-}
-
-# Compiles this program, with further words to the compiler.
-make_rust_program() {
-    rust_file=$1 rust_program=$2
-    shift 2
-    rustc --edition 2024 -D warnings -o "$rust_program" "$rust_file" --extern "cvec_vector=$built/libcvec_vector.rlib" "$@" \
-        -C "link-arg=$built/cvec_vector.o" -C "link-arg=$threads_library" -C "link-arg=$kit_library"
-}
+make_rust_vector() { make_rust_crate "$built"; }
 
 make_rust_cases() {
     has_rust_vector || exit $is_skipped
@@ -90,15 +75,15 @@ results_of_a_pool_are_kept_in_rust() (
 make_program_of_the_page() {
     has_rust_vector || exit $is_skipped
     make_rust_vector
-    shown_in use/rust.md rust | awk -v wanted="$1" '/^use cvec_vector/ { at++ } at == wanted' >"$work/shown.rs"
+    shown_in use/rust.md rust | awk -v wanted="$1" '/^use cvec/ { at++ } at == wanted' >"$work/shown.rs"
     make_rust_program "$work/shown.rs" "$work/shown"
-    timeout 120 "$work/shown" "$work/t.cv" >"$out"
+    (cd "$work" && timeout 120 ./shown t.cv >"$out")
 }
 
 the_rust_program_of_the_page_grows_by_threads() (
     make_program_of_the_page 1
     echo '16 records, 8 growths durable' | cmp - "$out"
-    run list u64 "$work/t.cv"
+    run list u64 "$work/first.cv"
     paste -d ' ' - - <"$out" | sort >"$work/blocks"
     for name in 0 1 2 3 4 5 6 7; do echo "$name $((name + 100))"; done | cmp - "$work/blocks"
 )
@@ -121,17 +106,17 @@ the_build_of_the_page_makes_the_rust_example() (
     cd "$work/there"
     cp -Rp "$top/bindings" "$top/examples" "$top/tools" "$top/Makefile" "$top/crates.txt" .
     ln -s "$top/crates" .
-    sed -n '/^```sh$/,/^```$/p' "$top/docs/use/rust.md" | sed '/^```/d' >"$work/build.sh"
+    shown_in use/rust.md sh | sed -n '/^make/,$p' >"$work/build.sh"
     unset CVEC_LIB
     CARGO_NET_OFFLINE=true sh -e "$work/build.sh" >"$out" 2>"$err" || { cat "$err" && exit 1; }
     printf '286 records of 15 growths\n286 records, the last 249, in all 31185\n' | cmp - "$out"
 )
 
-the_rust_document_compiles() (
+the_rust_documents_compile() (
     has_rust_vector && has rustdoc 'the examples in documents of plain Rust' || exit $is_skipped
     make_rust_vector
-    rustdoc --test --edition 2024 --crate-name cvec_vector -L "$built" "$top/bindings/rust/vector/src/lib.rs" >"$out"
-    grep -q '^test result: ok. 1 passed' "$out"
+    rustdoc --test --edition 2024 --crate-name cvec -L "$built" "$top/bindings/rust/src/lib.rs" >"$out"
+    grep -q '^test result: ok. 2 passed; 0 failed; 0 ignored; ' "$out"
 )
 
 a_rust_vector_grows_and_reads() (
@@ -292,7 +277,7 @@ PY
 
 compile_wrong() {
     rustc --edition 2024 --crate-type lib --emit=metadata -o "$work/wrong" "${1:-$work/wrong.rs}" \
-        --extern "cvec_vector=$built/libcvec_vector.rlib" 2>"$err"
+        --extern "cvec=$built/libcvec.rlib" 2>"$err"
 }
 
 is_refused_by_rustc() {
@@ -305,7 +290,7 @@ the_compiler_refuses_what_a_seat_is_not_for() (
     has_rust_vector || exit $is_skipped
     make_rust_vector
     {
-        echo 'use cvec_vector::{Error, Vector};'
+        echo 'use cvec::{Error, Vector};'
         echo 'pub fn share(vector: &Vector) -> Result<(), Error> {'
         echo '    let seat = vector.seat()?;'
         echo '    std::thread::scope(|scope| { scope.spawn(|| seat.settled()); });'
@@ -334,8 +319,8 @@ the_compiler_refuses_what_a_seat_is_not_for() (
 errors_of() {
     program_of_errors=$top/tests/bindings/$1.rs
     shift
-    if rustc --edition 2024 --crate-type lib --emit=metadata --error-format short -o "$work/wrong" "$program_of_errors" \
-        --extern "cvec_vector=$built/libcvec_vector.rlib" "$@" 2>"$err"; then
+    if rustc --edition 2024 --crate-type lib --emit=obj --error-format short -o "$work/wrong" "$program_of_errors" \
+        --extern "cvec=$built/libcvec.rlib" "$@" 2>"$err"; then
         echo none
         return
     fi
@@ -400,10 +385,9 @@ character|E0277|`char` isn't plain: not any bytes are a value of it
 pointer|E0277|isn't plain: not any bytes are a value of it
 machine|E0277|`usize` isn't plain: not any bytes are a value of it
 unsaid|E0277|`Inner` isn't plain: not any bytes are a value of it
-small|E0080|a record has 4 bytes, or 8, 16, 24, .. 256
-odd|E0080|a record has 4 bytes, or 8, 16, 24, .. 256
-large|E0080|a record has 4 bytes, or 8, 16, 24, .. 256
-unaligned|E0080|a larger one to 8: write #[repr(align(8))] over the struct
+small|E0080|a vector has no records of 1 or 2 bytes: a file has
+odd|E0080|a record has 1, 2 or 4 bytes, or 8, 16, 24, .. 256
+large|E0080|a record has 1, 2 or 4 bytes, or 8, 16, 24, .. 256
 overaligned|E0080|a record is aligned to 8 bytes at most
 NAMES
 )

@@ -1,6 +1,9 @@
 //! Growth in place: the caller writes records where they will stand, and the vector grows by them without a copy.
 
-use crate::{Error, RawReceipt, Receipt, Record, Seat, cvec_seat_block, cvec_seat_drop, cvec_seat_publish, told};
+use super::{Receipt, Seat};
+use crate::error::{Error, ErrorKind};
+use crate::raw::{RawReceipt, cvec_seat_block, cvec_seat_drop, cvec_seat_publish};
+use crate::record::Record;
 use std::mem;
 use std::ptr::{self, NonNull};
 
@@ -34,11 +37,15 @@ struct Block<'s, 'v, R: Record> {
 impl<'s, 'v, R: Record> Block<'s, 'v, R> {
     /// Where the seat has a block, C refuses another one.
     fn of(seat: &'s Seat<'v, R>, count: usize) -> Result<Self, Error> {
-        let (all, mut records) = (count.checked_mul(R::KEPT.count as usize).ok_or(Error::TooLarge)?, ptr::null_mut());
+        let (all, mut records) = (R::IN_VECTOR.all(count), ptr::null_mut());
         // SAFETY: the seat is open as long as `seat` is borrowed, and in one call; the place for the pointer lasts for it.
-        match told(unsafe { cvec_seat_block(seat.raw.as_ptr(), all, &mut records) }) {
-            Err(Error::NoSeat) => Err(Error::Filling),
-            answer => answer.and_then(|()| Ok(Block { seat, records: NonNull::new(records.cast()).ok_or(Error::Memory)?, count })),
+        match seat.told(unsafe { cvec_seat_block(seat.raw, all, &mut records) }) {
+            Err(refusal) if refusal.kind() == ErrorKind::NoSeat => Err(Error::own(ErrorKind::Filling, Some(&seat.of.path))),
+            Err(refusal) => Err(refusal),
+            Ok(()) => {
+                let records = NonNull::new(records.cast()).ok_or_else(|| Error::own(ErrorKind::Memory, Some(&seat.of.path)))?;
+                Ok(Block { seat, records, count })
+            }
         }
     }
 
@@ -52,7 +59,7 @@ impl<'s, 'v, R: Record> Block<'s, 'v, R> {
     fn publish(self) -> Result<Receipt, Error> {
         let mut receipt = RawReceipt::default();
         // SAFETY: as above; no reference to the records is there any more.
-        told(unsafe { cvec_seat_publish(self.seat.raw.as_ptr(), &mut receipt) })?;
+        self.seat.told(unsafe { cvec_seat_publish(self.seat.raw, &mut receipt) })?;
         mem::forget(self);
         Ok(receipt.of::<R>())
     }
@@ -61,6 +68,6 @@ impl<'s, 'v, R: Record> Block<'s, 'v, R> {
 impl<R: Record> Drop for Block<'_, '_, R> {
     fn drop(&mut self) {
         // SAFETY: as above. In a forked process C refuses it.
-        unsafe { cvec_seat_drop(self.seat.raw.as_ptr()) };
+        unsafe { cvec_seat_drop(self.seat.raw) };
     }
 }

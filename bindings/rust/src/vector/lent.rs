@@ -4,20 +4,16 @@
 //! the vector by `&mut`, by value or on its drop. So what is lent for `'v` is borrowed of the vector, and not of a seat: seats come
 //! and go, and threads grow meanwhile.
 
-use crate::{Error, Record, Seat, Vector, cvec_seat_pieces, first_kept, told};
-use std::ffi::c_void;
+use super::{Seat, Vector};
+use crate::error::{Error, ErrorKind};
+use crate::raw::{RawPiece, cvec_seat_pieces};
+use crate::record::Record;
+use std::fmt;
+use std::iter::Flatten;
 use std::marker::PhantomData;
 use std::ops::Index;
 use std::ptr;
-
-/// As C has it, in records of its own.
-#[repr(C)]
-#[derive(Clone, Copy, Debug)]
-pub(crate) struct RawPiece {
-    start: u64,
-    records: *const c_void,
-    len: u64,
-}
+use std::slice;
 
 const NO_PIECE: RawPiece = RawPiece { start: 0, records: ptr::null(), len: 0 };
 
@@ -30,9 +26,9 @@ const PIECES_AT_ONCE: usize = 64;
 /// C has lent it of a vector of such records that is borrowed for `'v`.
 unsafe fn lent<'v, R: Record>(piece: &RawPiece) -> &'v [R] {
     // SAFETY: C lends no piece without records, nor one at NULL, and until the borrow ends nothing moves or writes them. They are
-    // aligned to C's type, which is as much as `Kept` allows; whole, since each growth and the file that was opened are; and of
+    // aligned to C's type, which is as much as a record may be; whole, since each growth and the file that was opened are; and of
     // bytes that are all set, of which any are a value, or, of `Flagged`, with a flag that is 0 or 1.
-    unsafe { std::slice::from_raw_parts(piece.records.cast(), (piece.len / R::KEPT.count) as usize) }
+    unsafe { slice::from_raw_parts(piece.records.cast(), R::IN_VECTOR.whole(piece.len) as usize) }
 }
 
 impl<'v, R: Record> Seat<'v, R> {
@@ -40,7 +36,7 @@ impl<'v, R: Record> Seat<'v, R> {
     fn ask(&self, start: u64, out: &mut [RawPiece]) -> Result<usize, Error> {
         let mut count = 0;
         // SAFETY: the seat is open as long as `self` is there, and in one call; the pointer and the room are those of one slice.
-        told(unsafe { cvec_seat_pieces(self.raw.as_ptr(), first_kept::<R>(start), out.as_mut_ptr(), out.len(), &mut count) })?;
+        self.told(unsafe { cvec_seat_pieces(self.raw, R::IN_VECTOR.first(start), out.as_mut_ptr(), out.len(), &mut count) })?;
         Ok(count)
     }
 
@@ -93,11 +89,10 @@ impl<'v, R: Record> Iterator for Pieces<'_, 'v, R> {
     type Item = Result<&'v [R], Error>;
 
     fn next(&mut self) -> Option<Self::Item> {
-        if self.given == self.count && !self.ended {
-            if let Err(refusal) = self.go_on() {
-                (self.count, self.given, self.ended) = (0, 0, true);
-                return Some(Err(refusal));
-            }
+        let asked = if self.given == self.count && !self.ended { self.go_on() } else { Ok(()) };
+        if let Err(refusal) = asked {
+            (self.count, self.given, self.ended) = (0, 0, true);
+            return Some(Err(refusal));
         }
         let piece = self.asked[..self.count].get(self.given)?;
         self.given += 1;
@@ -109,7 +104,7 @@ impl<'v, R: Record> Iterator for Pieces<'_, 'v, R> {
 }
 
 /// Records that stand behind one another, and the position of the first.
-struct Piece<'v, R> {
+pub struct Piece<'v, R> {
     start: u64,
     records: &'v [R],
 }
@@ -155,6 +150,11 @@ impl<'v, R: Record> View<'v, R> {
         })
     }
 
+    /// All its records, in order; from the back too.
+    pub fn iter(&self) -> Iter<'_, 'v, R> {
+        self.pieces.iter().flatten()
+    }
+
     /// All its records, piece by piece.
     pub fn pieces(&self) -> impl Iterator<Item = &'v [R]> {
         self.pieces.iter().map(|it| it.records)
@@ -164,7 +164,7 @@ impl<'v, R: Record> View<'v, R> {
     /// seat is one of another vector. `Memory`.
     pub fn learn(&mut self, seat: &Seat<'v, R>) -> Result<(), Error> {
         if !ptr::eq(self.of, seat.of) {
-            return Err(Error::OtherVector);
+            return Err(Error::own(ErrorKind::OtherVector, Some(&self.of.path)));
         }
         let added = self.add(seat.pieces(self.end()));
         self.index()?;
@@ -174,7 +174,7 @@ impl<'v, R: Record> View<'v, R> {
     fn add(&mut self, pieces: Pieces<'_, 'v, R>) -> Result<(), Error> {
         for records in pieces {
             let records = records?;
-            self.pieces.try_reserve(1).map_err(|_| Error::Memory)?;
+            self.pieces.try_reserve(1).map_err(|_| self.memory())?;
             self.pieces.push(Piece { start: self.end(), records });
         }
         Ok(())
@@ -192,7 +192,7 @@ impl<'v, R: Record> View<'v, R> {
         let mean = len.checked_div(self.pieces.len() as u64).map_or(0, u64::ilog2);
         let shift = if mean.abs_diff(self.shift) > 1 { mean } else { self.shift };
         let count = len.div_ceil(1 << shift) as usize;
-        self.table.try_reserve(count.saturating_sub(self.table.len())).map_err(|_| Error::Memory)?;
+        self.table.try_reserve(count.saturating_sub(self.table.len())).map_err(|_| self.memory())?;
         if shift != self.shift {
             self.table.clear();
             self.shift = shift;
@@ -200,6 +200,10 @@ impl<'v, R: Record> View<'v, R> {
         self.fill_table(count);
         self.len = len;
         Ok(())
+    }
+
+    fn memory(&self) -> Error {
+        Error::own(ErrorKind::Memory, Some(&self.of.path))
     }
 
     fn fill_table(&mut self, count: usize) {
@@ -230,5 +234,38 @@ impl<R: Record> Index<u64> for View<'_, R> {
             Some(record) => record,
             None => panic!("position {position} of a view of {} records", self.len),
         }
+    }
+}
+
+impl<'v, R> IntoIterator for &Piece<'v, R> {
+    type Item = &'v R;
+    type IntoIter = slice::Iter<'v, R>;
+
+    fn into_iter(self) -> slice::Iter<'v, R> {
+        self.records.iter()
+    }
+}
+
+/// The records of a view, in order.
+pub type Iter<'w, 'v, R> = Flatten<slice::Iter<'w, Piece<'v, R>>>;
+
+impl<'w, 'v, R: Record> IntoIterator for &'w View<'v, R> {
+    type Item = &'v R;
+    type IntoIter = Iter<'w, 'v, R>;
+
+    fn into_iter(self) -> Iter<'w, 'v, R> {
+        self.iter()
+    }
+}
+
+impl<R: Record> fmt::Debug for Pieces<'_, '_, R> {
+    fn fmt(&self, f: &mut fmt::Formatter<'_>) -> fmt::Result {
+        f.debug_struct("Pieces").field("seat", self.seat).field("next", &self.next).finish_non_exhaustive()
+    }
+}
+
+impl<R: Record> fmt::Debug for View<'_, R> {
+    fn fmt(&self, f: &mut fmt::Formatter<'_>) -> fmt::Result {
+        f.debug_struct("View").field("of", self.of).field("len", &self.len).finish_non_exhaustive()
     }
 }
