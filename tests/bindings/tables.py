@@ -64,6 +64,5 @@ never = OF_FILES - {"NO_RECORD", "READ_ONLY"} | of_clients.keys()
 assert {upper(name).replace("NO_SEAT", "NOT_SO"): int(number) for name, number in kinds} == {it: statuses[it] for it in statuses if it not in never}
 record = text_of("rust", "src", "record.rs")
 kept = {name.lower(): int(number) for name, number in re.findall(r"^const (\w+): u32 = (\d+);$", record, re.M)}
-kept.update((f"bytes{width}", int(number)) for width, number in re.findall(r"(\d+): (\d+)", re.search(r"^bytes!\((.*)\);$", record, re.M).group(1)))
-assert sorted(kept) == ["bytes16", "bytes24", "bytes32", "bytes64", "flagged", "pair", "u16", "u32", "u64", "u8"], kept
+assert sorted(kept) == ["bytes24", "bytes32", "bytes64", "flagged", "pair", "u16", "u32", "u64", "u8"], kept
 assert all(types[name][0] == number for name, number in kept.items()), kept

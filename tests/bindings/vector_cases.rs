@@ -111,14 +111,22 @@ fn grows_and_reads(path: &Path) -> Result<(), Error> {
 }
 
 cvec::record! {
-    /// Of 24 bytes: three words.
+    /// Of 40 bytes: five words.
     #[derive(Debug, PartialEq)]
     struct Sample {
         sensor: u32,
         second: u32,
         value: f64,
         /// Of each channel.
-        more: [u16; 4],
+        more: [u16; 12],
+    }
+
+    /// Of 24 bytes: one record.
+    #[derive(Debug, PartialEq)]
+    struct Place {
+        name: u64,
+        at: Point,
+        height: f64,
     }
 
     /// Of 8 bytes, none of its fields.
@@ -148,7 +156,7 @@ cvec::record! {
 }
 
 fn sample(number: u64) -> Sample {
-    Sample { sensor: number as u32, second: (number >> 32) as u32, value: number as f64 / 2.0, more: [number as u16, 0, 1, 2] }
+    Sample { sensor: number as u32, second: (number >> 32) as u32, value: number as f64 / 2.0, more: [number as u16, 0, 1, 2, 0, 0, 0, 0, 0, 0, 0, 0] }
 }
 
 fn point(number: u64) -> Point {
@@ -217,12 +225,16 @@ fn has_own_structs(path: &Path) -> Result<(), Error> {
     assert_eq!(open_of::<Pair>(path, 1)?.seat()?.read(3..4)?, [Pair { key: 4, value: -4 }]);
     has_records_of(path, 8, [1, 2, 3, 4].map(line))?;
     has_records_of(path, 16, [1, 2, 0, 7].map(|it| Bytes([it; 16])))?;
-    has_records_of(path, 8, [1, 2, 0, 7].map(|it| Bytes([it; 24])))?;
-    has_records_of(path, 8, [1, 2, 0, 7].map(|it| [it; 24]))?;
+    has_records_of(path, 1, [1, 255, 0, 7_u8])?;
+    has_records_of(path, 2, [-1, i16::MIN, 0, 7])?;
+    has_records_of(path, 24, [1, 2, 0, 7].map(|it| Bytes([it; 24])))?;
+    has_records_of(path, 24, [1, 2, 3, 4].map(|name| Place { name, at: point(name), height: -0.5 }))?;
+    has_records_of(path, 32, [1_u8, 2, 0, 7].map(|it| [it; 32]))?;
+    has_records_of(path, 64, [1, 2, 0, 7].map(|it| Bytes([it; 64])))?;
     has_records_of(path, 8, [0, 1 << 32, 3, 4].map(sample))?;
-    // Five samples are fifteen words, by hand: of sensor 0 and second 1, 2^31 as a double, and the four numbers.
+    // Five samples are 25 words, by hand: of sensor 0 and second 1, 2^31 as a double, and the four numbers.
     let words = open(path, 1)?.seat()?.read(..)?;
-    assert_eq!((words.len(), &words[6..9]), (15, &[1 << 32, 0x41e0_0000_0000_0000, 0x0002_0001_0000_0000][..]));
+    assert_eq!((words.len(), &words[10..13]), (25, &[1 << 32, 0x41e0_0000_0000_0000, 0x0002_0001_0000_0000][..]));
     refused(open_of::<Line>(path, 1), "the records have another width");
     refused(open_of::<Span>(path, 1), "the records have another width");
     Ok(())
@@ -231,11 +243,11 @@ fn has_own_structs(path: &Path) -> Result<(), Error> {
 /// As records that C has, but that a growth, a change and a resize are of whole ones.
 fn searches_and_resizes_own_structs(path: &Path) -> Result<(), Error> {
     let mut vector = Vector::<Sample>::create_with(path, &seats(1).growths(2))?;
-    let (a, b) = (sample(1), Sample { sensor: 0, second: 0, value: 0.0, more: [0; 4] });
+    let (a, b) = (sample(1), Sample { sensor: 0, second: 0, value: 0.0, more: [0; 12] });
     let seat = vector.seat()?;
-    // The second and third words of one and the first of the next are no record.
-    seat.grow(&[Sample { value: 8.0, more: [0; 4], ..a }, Sample { sensor: 9, ..b }])?;
-    let within = Sample { sensor: 0, second: 0x4020_0000, value: 0.0, more: [9, 0, 0, 0] };
+    // The last four words of one and the first of the next are no record.
+    seat.grow(&[Sample { value: 8.0, more: [0; 12], ..a }, Sample { sensor: 9, ..b }])?;
+    let within = Sample { sensor: 0, second: 0x4020_0000, value: 0.0, more: [0, 0, 0, 0, 0, 0, 0, 0, 9, 0, 0, 0] };
     assert_eq!((seat.count(within)?, seat.find(within, 0)?), (0, None));
     let receipt = seat.grow(&(0..3_000).map(sample).collect::<Vec<_>>())?;
     assert_eq!(receipt, Receipt { number: 1, start: 2, length: 3_000 });
@@ -245,7 +257,7 @@ fn searches_and_resizes_own_structs(path: &Path) -> Result<(), Error> {
     assert_eq!((seat.piece(3_001)?, seat.piece(3_002)?), (Some(&[last][..]), None));
     drop(seat);
     // The phase is full, of which records were lent: that stands in no way of a resize, by rows of whole ones.
-    let c = Sample { sensor: 1, second: 2, value: 3.0, more: [4, 5, 6, 7] };
+    let c = Sample { sensor: 1, second: 2, value: 3.0, more: [4, 5, 6, 7, 4, 5, 6, 7, 4, 5, 6, 7] };
     vector.resize(3_004, c)?;
     assert_eq!(vector.seat()?.read(3_000..)?, [sample(2_998), last, c, c]);
     vector.change(3_001, &[a])?;
@@ -254,8 +266,8 @@ fn searches_and_resizes_own_structs(path: &Path) -> Result<(), Error> {
     let seat = vector.seat()?;
     assert_eq!((seat.read(3_000..)?, seat.count(a)?), (vec![sample(2_998), a, c, c], 2));
     drop(seat);
-    refused(vector.resize(3_004 + 43_691, b), TOO_LARGE);
-    refused(vector.resize((1 << 32) / 3 + 1, b), OUT_OF_RANGE);
+    refused(vector.resize(3_004 + 26_215, b), TOO_LARGE);
+    refused(vector.resize((1 << 32) / 5 + 1, b), OUT_OF_RANGE);
     refused(vector.resize(u64::MAX, b), OUT_OF_RANGE);
     assert_eq!(refused(vector.resize(1, b), UNFOLDED).kind(), ErrorKind::Unfolded);
     vector.fold()?;
@@ -746,7 +758,8 @@ fn fills_in_place(path: &Path) -> Result<(), Error> {
     fills_of(path, 65_535, Pair::default(), |key| Pair { key, value: -1 })?;
     fills_of(path, 116_507, Flagged::default(), |key| Flagged { key, flag: true })?;
     fills_of(path, 131_071, Point { x: 0.0, y: 0.0 }, point)?;
-    fills_of(path, 43_690, Sample { sensor: 0, second: 0, value: 0.0, more: [0; 4] }, sample)?;
+    fills_of(path, 26_214, Sample { sensor: 0, second: 0, value: 0.0, more: [0; 12] }, sample)?;
+    fills_of(path, 43_690, Place { name: 0, at: Point { x: 0.0, y: 0.0 }, height: 0.0 }, |name| Place { name, at: point(1), height: 2.0 })?;
     fills_of(path, 4_095, Line { first: 0, others: [0; 31] }, line)?;
     fs::remove_file(path).unwrap();
     fills_nothing(path)

@@ -14,7 +14,7 @@ struct Inner {
 #[cfg(any(not(unsaid), mended))]
 unsafe impl Plain for Inner {}
 
-#[cfg(not(any(padded, padded_behind, hidden, reference, boolean, character, machine, pointer, small, odd, large, overaligned, unsaid)))]
+#[cfg(not(any(padded, padded_behind, hidden, reference, boolean, character, machine, pointer, odd, large, overaligned, unsaid)))]
 cvec::record! { pub struct Record { pub number: u64, pub inner: Inner } }
 
 #[cfg(all(padded, not(mended)))]
@@ -57,12 +57,6 @@ cvec::record! { pub struct Record { pub letter: u32 } }
 cvec::record! { pub struct Record { pub size: usize } }
 #[cfg(all(machine, mended))]
 cvec::record! { pub struct Record { pub size: u64 } }
-
-// A file has such, and a vector hasn't.
-#[cfg(all(small, not(mended)))]
-cvec::record! { pub struct Record { pub number: u16 } }
-#[cfg(all(small, mended))]
-cvec::record! { pub struct Record { pub number: u32 } }
 
 #[cfg(all(odd, not(mended)))]
 cvec::record! { pub struct Record { pub numbers: [u32; 3] } }

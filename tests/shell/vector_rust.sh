@@ -126,18 +126,18 @@ a_rust_vector_grows_and_reads() (
     [ "$(cut -d ' ' -f -7 "$out")" = 'ok version 2 width 8 size 7' ]
 )
 
-# The last of them are five samples, of three words each.
+# The last of them are five samples, of five words each.
 a_rust_vector_has_own_structs_as_records() (
     is_so_in_rust has_own_structs
     run list u64 "$work/files/t.cv"
-    [ "$(sed -n '7,9p' "$out" | tr '\n' ' ')" = '4294967296 4746794007248502784 562954248388608 ' ]
-    [ "$(wc -l <"$out")" -eq 15 ]
+    [ "$(sed -n '11,13p' "$out" | tr '\n' ' ')" = '4294967296 4746794007248502784 562954248388608 ' ]
+    [ "$(wc -l <"$out")" -eq 25 ]
 )
 
 own_structs_are_searched_and_resized_in_rust() (
     is_so_in_rust searches_and_resizes_own_structs
     run check u64 "$work/files/t.cv"
-    [ "$(cut -d ' ' -f -7 "$out")" = 'ok version 1 width 8 size 6' ]
+    [ "$(cut -d ' ' -f -7 "$out")" = 'ok version 1 width 8 size 10' ]
 )
 
 threads_of_rust_keep_what_they_are_lent() (
@@ -385,7 +385,6 @@ character|E0277|`char` isn't plain: not any bytes are a value of it
 pointer|E0277|isn't plain: not any bytes are a value of it
 machine|E0277|`usize` isn't plain: not any bytes are a value of it
 unsaid|E0277|`Inner` isn't plain: not any bytes are a value of it
-small|E0080|a vector has no records of 1 or 2 bytes: a file has
 odd|E0080|a record has 1, 2 or 4 bytes, or 8, 16, 24, .. 256
 large|E0080|a record has 1, 2 or 4 bytes, or 8, 16, 24, .. 256
 overaligned|E0080|a record is aligned to 8 bytes at most

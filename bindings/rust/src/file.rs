@@ -70,9 +70,9 @@ pub fn check<R: Record>(image: &[u8]) -> Result<Stat, Error> {
     let (mut stat, mut fault, mut none, mut count) = (Stat::default(), Fault::default(), 0, 0);
     // SAFETY: the pointer and the length are those of one slice, which is lent for the call; there is room for no record.
     let status =
-        unsafe { cvec_image_read(R::IN_FILE.number, image.as_ptr(), image.len(), 0, &mut none, 0, &mut count, &mut stat, &mut fault) };
+        unsafe { cvec_image_read(R::KEPT.number, image.as_ptr(), image.len(), 0, &mut none, 0, &mut count, &mut stat, &mut fault) };
     told_with(status, None, fault)?;
-    if R::IN_FILE.are_whole(stat.size) { Ok(stat) } else { Err(Error::own(ErrorKind::Width, None)) }
+    if R::KEPT.are_whole(stat.size) { Ok(stat) } else { Err(Error::own(ErrorKind::Width, None)) }
 }
 
 /// The frame whose gate is at this place of a file of this version and width.
@@ -109,7 +109,7 @@ impl<R: Record> File<R> {
     fn created(path: &Path, options: &Options) -> Result<File<R>, Error> {
         let ((name, path), mut raw) = (name_of(path)?, ptr::null_mut());
         // SAFETY: the name ends with a zero, and lasts for the call; what is refused leaves no file.
-        told(unsafe { cvec_file_create(&mut raw, name.as_ptr(), R::IN_FILE.number, options.number_of_version()) }, &path)?;
+        told(unsafe { cvec_file_create(&mut raw, name.as_ptr(), R::KEPT.number, options.number_of_version()) }, &path)?;
         Ok(File { raw, path, of: PhantomData })
     }
 
@@ -150,9 +150,9 @@ impl<R: Record> File<R> {
         let (name, path) = name_of(path)?;
         let (mut raw, mut fault) = (ptr::null_mut(), Fault::default());
         // SAFETY: as above.
-        told_with(unsafe { open(&mut raw, name.as_ptr(), R::IN_FILE.number, &mut fault) }, Some(&path), fault)?;
+        told_with(unsafe { open(&mut raw, name.as_ptr(), R::KEPT.number, &mut fault) }, Some(&path), fault)?;
         let file = File { raw, path, of: PhantomData };
-        if R::IN_FILE.are_whole(file.stat().size) { Ok(file) } else { Err(Error::own(ErrorKind::Width, Some(&file.path))) }
+        if R::KEPT.are_whole(file.stat().size) { Ok(file) } else { Err(Error::own(ErrorKind::Width, Some(&file.path))) }
     }
 
     /// The path by which it was opened.
@@ -170,7 +170,7 @@ impl<R: Record> File<R> {
 
     /// How many records those are.
     pub fn len(&self) -> u64 {
-        R::IN_FILE.whole(self.stat().size)
+        R::KEPT.whole(self.stat().size)
     }
 
     /// Whether there is none.
@@ -180,9 +180,9 @@ impl<R: Record> File<R> {
 
     /// Appends the records as one growth: durable when it returns, and all of them or none whatever happens.
     pub fn append(&mut self, records: &[R]) -> Result<(), Error> {
-        let count = R::IN_FILE.all(records.len());
+        let count = R::KEPT.all(records.len());
         // SAFETY: the pointer and the length are those of one slice, whose records are kept as those of this type.
-        told(unsafe { cvec_file_append(self.raw, R::IN_FILE.number, pointer_to(records), count) }, &self.path)
+        told(unsafe { cvec_file_append(self.raw, R::KEPT.number, pointer_to(records), count) }, &self.path)
     }
 
     /// A copy of the records of these positions, as far as there are any; of a file that another process writes as they are at one
@@ -212,12 +212,12 @@ impl<R: Record> File<R> {
     /// # Safety
     /// There is room for so many, and nobody else has it.
     unsafe fn copy(&self, from: u64, out: *mut R, room: usize) -> Result<usize, Error> {
-        let (mut count, mut fault, room) = (0, Fault::default(), R::IN_FILE.all(room));
+        let (mut count, mut fault, room) = (0, Fault::default(), R::KEPT.all(room));
         // SAFETY: as above and below; what is written are records of the type.
         let status =
-            unsafe { cvec_file_read(self.raw, R::IN_FILE.number, R::IN_FILE.first(from), out.cast(), room, &mut count, &mut fault) };
+            unsafe { cvec_file_read(self.raw, R::KEPT.number, R::KEPT.first(from), out.cast(), room, &mut count, &mut fault) };
         told_with(status, Some(&self.path), fault)?;
-        Ok(R::IN_FILE.whole(count) as usize)
+        Ok(R::KEPT.whole(count) as usize)
     }
 }
 

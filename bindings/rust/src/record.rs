@@ -6,8 +6,8 @@ use std::ffi::c_void;
 /// sizes, arrays of such, and structs that [`record!`](crate::record) writes.
 ///
 /// A record is a plain type of 1, 2 or 4 bytes, or of 8, 16, 24, .. 256, which is aligned to 8 bytes at most: one of another size or
-/// alignment isn't compiled where a vector or a file has it. Nor is one of 1 or 2 bytes where a vector has it. In the file it is one
-/// record of `u8`, `u16`, `u32`, `u64` or `Pair`, or as many of `u64` as it takes, in the machine's order of bytes.
+/// alignment isn't compiled where a vector or a file has it. In the file one of 1, 2, 4, 8, 16, 24, 32 or 64 bytes is one record, of
+/// `u8`, `u16`, `u32`, `u64`, `Pair` or `Bytes`; a longer one is as many of `u64` as it takes, in the machine's order of bytes.
 ///
 /// # Safety
 /// Any bytes are a value of it: it has no reference, `bool`, `char` or enum within. Each byte of a value is set: it has no padding.
@@ -48,46 +48,41 @@ pub struct Kept {
 
 /// The type of records: [`Plain`] ones, [`Flagged`], and [`Bytes`] of 16, 24, 32 and 64. A file has the width of what they are kept
 /// as, and no name for their type: one of `u64` is opened as `i64` too, and as `f64`. The bits of a float are kept, also those of a
-/// NaN. A type is kept alike by a `File` and by a `Vector`, but for `Bytes`.
+/// NaN. A type is kept alike by a `File` and by a `Vector`.
 #[diagnostic::on_unimplemented(
     message = "`{Self}` can't be a record",
     note = "`cvec::record!` writes a struct of integers and floats that can be one"
 )]
 pub trait Record: Copy + Send + Sync + sealed::Sealed + 'static {
     #[doc(hidden)]
-    const IN_FILE: Kept;
-    #[doc(hidden)]
-    const IN_VECTOR: Kept;
+    const KEPT: Kept;
 }
 
 impl<T: Plain> sealed::Sealed for T {}
 
 impl<T: Plain> Record for T {
-    const IN_FILE: Kept = kept_by_size(size_of::<T>(), align_of::<T>());
-    const IN_VECTOR: Kept = of_threads(Self::IN_FILE);
+    const KEPT: Kept = kept_by_size(size_of::<T>(), align_of::<T>());
 }
 
 impl sealed::Sealed for Flagged {}
 
 impl Record for Flagged {
-    const IN_FILE: Kept = Kept { number: FLAGGED, count: 1, bytes: 9 };
-    const IN_VECTOR: Kept = Self::IN_FILE;
+    const KEPT: Kept = Kept { number: FLAGGED, count: 1, bytes: 9 };
 }
 
 macro_rules! bytes {
-    ($($len:literal: $number:literal),*) => {
+    ($($len:literal),*) => {
         $(
             impl sealed::Sealed for Bytes<$len> {}
 
             impl Record for Bytes<$len> {
-                const IN_FILE: Kept = Kept { number: $number, count: 1, bytes: $len };
-                const IN_VECTOR: Kept = kept_by_size($len, align_of::<Self>());
+                const KEPT: Kept = kept_by_size($len, align_of::<Self>());
             }
         )*
     };
 }
 
-bytes!(16: 10, 24: 11, 32: 12, 64: 13);
+bytes!(16, 24, 32, 64);
 
 /// The numbers of C's types, as `cvec.h` has them.
 const U8: u32 = 0;
@@ -96,6 +91,9 @@ const U32: u32 = 2;
 const U64: u32 = 3;
 const PAIR: u32 = 8;
 const FLAGGED: u32 = 9;
+const BYTES24: u32 = 11;
+const BYTES32: u32 = 12;
+const BYTES64: u32 = 13;
 
 /// C copies records as bytes, of any alignment. What it lends is aligned to its own type of them.
 const fn kept_by_size(size: usize, align: usize) -> Kept {
@@ -107,15 +105,12 @@ const fn kept_by_size(size: usize, align: usize) -> Kept {
         2 => (U16, 1),
         4 => (U32, 1),
         16 => (PAIR, 1),
+        24 => (BYTES24, 1),
+        32 => (BYTES32, 1),
+        64 => (BYTES64, 1),
         _ => (U64, size / 8),
     };
     Kept { number, count: count as u64, bytes: size }
-}
-
-/// Not each type of C's is one of its vectors.
-const fn of_threads(kept: Kept) -> Kept {
-    assert!(kept.bytes >= 4, "a vector has no records of 1 or 2 bytes: a file has");
-    kept
 }
 
 impl Kept {
@@ -147,7 +142,7 @@ pub(crate) fn pointer_to<R: Record>(records: &[R]) -> *const c_void {
 
 /// The bytes of plain records.
 pub(crate) fn bytes_of<R: Record>(records: &[R]) -> &[u8] {
-    assert!(R::IN_VECTOR.count > 1);
+    assert!(R::KEPT.count > 1);
     // SAFETY: such records are plain, or `Bytes`, so each byte is set.
     unsafe { std::slice::from_raw_parts(records.as_ptr().cast(), size_of_val(records)) }
 }
@@ -224,7 +219,7 @@ macro_rules! record {
                 0 $(+ size_of_plain::<$type>())+ == ::core::mem::size_of::<$name>(),
                 "a record has no padding between its fields or behind them"
             );
-            let _ = <$name as $crate::Record>::IN_FILE;
+            let _ = <$name as $crate::Record>::KEPT;
         };
 
         // SAFETY: it has just these fields, which are plain, in this order, and no byte besides.

@@ -96,13 +96,13 @@ impl<R: Record> Vector<R> {
         options.opened(|| {
             let mut raw = ptr::null_mut();
             // SAFETY: the name ends with a zero, and lasts for the call, as do the options and the place for the pointer.
-            told(unsafe { begin(&mut raw, name.as_ptr(), R::IN_VECTOR.number, &raw_options) }, &path)?;
+            told(unsafe { begin(&mut raw, name.as_ptr(), R::KEPT.number, &raw_options) }, &path)?;
             Vector { raw, path: path.clone(), of: PhantomData }.whole()
         })
     }
 
     fn whole(self) -> Result<Vector<R>, Error> {
-        let are_whole = R::IN_VECTOR.count == 1 || R::IN_VECTOR.are_whole(self.seat()?.all_kept()?);
+        let are_whole = R::KEPT.count == 1 || R::KEPT.are_whole(self.seat()?.all_kept()?);
         if are_whole { Ok(self) } else { Err(Error::own(ErrorKind::Width, Some(&self.path))) }
     }
 
@@ -183,7 +183,7 @@ impl<R: Record> Vector<R> {
     /// Writes these records over those from position `start` on: all of them or none, also over a crash. `OutOfRange`: the vector
     /// doesn't reach so far; `TooLarge`.
     pub fn change(&mut self, start: u64, records: &[R]) -> Result<(), Error> {
-        let kept = R::IN_VECTOR;
+        let kept = R::KEPT;
         // SAFETY: the vector is open; the pointer and the length are those of one slice, whose records are kept as those of its type.
         self.told(unsafe { cvec_vector_change(self.raw, kept.number, kept.first(start), pointer_to(records), kept.all(records.len())) })
     }
@@ -191,7 +191,7 @@ impl<R: Record> Vector<R> {
     /// Takes the records behind the first `size` away, or appends copies of this one. `Unfolded`, where it takes some away;
     /// `OutOfRange`, past 2^32 records; `TooLarge`.
     pub fn resize(&mut self, size: u64, record: R) -> Result<(), Error> {
-        let kept = R::IN_VECTOR;
+        let kept = R::KEPT;
         if kept.count > 1 {
             let len = self.seat()?.len()?;
             if size > len {
@@ -204,7 +204,7 @@ impl<R: Record> Vector<R> {
 
     /// Copies of a record that C has no one for, up to this size: as one growth, for which there is room behind a `compact`.
     fn append(&mut self, size: u64, len: u64, record: R) -> Result<(), Error> {
-        if R::IN_VECTOR.first(size) > MOST_KEPT {
+        if R::KEPT.first(size) > MOST_KEPT {
             return Err(Error::own(ErrorKind::OutOfRange, Some(&self.path)));
         }
         let count = (size - len) as usize;

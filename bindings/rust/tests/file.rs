@@ -16,10 +16,10 @@ cvec::record! {
         sensor: u32,
         second: u32,
         value: f64,
-        more: [u16; 4],
+        more: [u16; 12],
     }
 
-    /// Of 2 bytes: a file has such, and a vector hasn't.
+    /// Of 2 bytes.
     #[derive(Debug, PartialEq)]
     struct Level {
         red: u8,
@@ -66,7 +66,7 @@ fn records_are_numbers_bytes_and_structs() -> Result<(), Error> {
     keeps(path, 24, [Bytes([1; 24]), Bytes([2; 24]), Bytes([3; 24])])?;
     keeps(path, 16, [[1_u8; 16], [2; 16], [3; 16]])?;
     keeps(path, 2, [1, 2, 3].map(|red| Level { red, green: 9 }))?;
-    keeps(path, 8, [1, 2, 3].map(|sensor| Sample { sensor, second: 9, value: 0.1, more: [1, 2, 3, 4] }))
+    keeps(path, 8, [1, 2, 3].map(|sensor| Sample { sensor, second: 9, value: 0.1, more: [5; 12] }))
 }
 
 /// A struct is one thing in a vector and in a file.
@@ -74,14 +74,16 @@ fn records_are_numbers_bytes_and_structs() -> Result<(), Error> {
 fn a_file_and_a_vector_have_one_form() -> Result<(), Error> {
     let folder = Folder::of("file-form");
     let path = &folder.at("t.cv");
-    let samples = [1, 2, 3].map(|sensor| Sample { sensor, second: 9, value: 0.1, more: [1, 2, 3, 4] });
+    Vector::create(folder.at("24.cv"))?.seat()?.grow(&[[7_u8; 24]])?;
+    assert_eq!(File::<Bytes<24>>::open(folder.at("24.cv"))?.read(..)?, [Bytes([7; 24])]);
+    let samples = [1, 2, 3].map(|sensor| Sample { sensor, second: 9, value: 0.1, more: [5; 12] });
     Vector::create(path)?.seat()?.grow(&samples)?;
     let mut file = File::<Sample>::open(path)?;
     assert_eq!((file.read(..)?, file.read(2..)?), (samples.to_vec(), samples[2..].to_vec()));
     file.append(&samples[1..])?;
     drop(file);
     assert_eq!(Vector::<Sample>::open(path)?.seat()?.read(2..)?, [samples[2], samples[1], samples[2]]);
-    // Three words are one record, and four are none.
+    // Five words are one record, and six are none.
     File::<u64>::open(path)?.append(&[7])?;
     assert_eq!([kind_of(File::<Sample>::open(path)), kind_of(File::<Sample>::open_to_read(path))], [Some(ErrorKind::Width); 2]);
     assert_eq!(kind_of(cvec::check::<Sample>(&fs::read(path).unwrap())), Some(ErrorKind::Width));

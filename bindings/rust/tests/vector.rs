@@ -73,9 +73,13 @@ fn records_are_numbers_bytes_and_structs() -> Result<(), Error> {
     keeps(path, [0.5_f32, f32::INFINITY, -0.0])?;
     keeps(path, [0.5_f64, f64::MIN, -0.0])?;
     keeps(path, [Meters(0.5), Meters(-1.0), Meters(8848.0)])?;
+    keeps(path, [1_u8, 255, 7])?;
+    keeps(path, [-1_i16, i16::MIN, 7])?;
     keeps(path, [[1_u8; 4], [2; 4], [3; 4]])?;
     keeps(path, [[1_u8; 16], [2; 16], [3; 16]])?;
     keeps(path, [[1_u8; 24], [2; 24], [3; 24]])?;
+    keeps(path, [[1_u8; 32], [2; 32], [3; 32]])?;
+    keeps(path, [[1_u8; 40], [2; 40], [3; 40]])?;
     keeps(path, [Bytes([1_u8; 16]), Bytes([2; 16]), Bytes([3; 16])])?;
     keeps(path, [Bytes([1_u8; 64]), Bytes([2; 64]), Bytes([3; 64])])?;
     let point = |x| Point { x, y: -x };

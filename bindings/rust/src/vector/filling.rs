@@ -37,7 +37,7 @@ struct Block<'s, 'v, R: Record> {
 impl<'s, 'v, R: Record> Block<'s, 'v, R> {
     /// Where the seat has a block, C refuses another one.
     fn of(seat: &'s Seat<'v, R>, count: usize) -> Result<Self, Error> {
-        let (all, mut records) = (R::IN_VECTOR.all(count), ptr::null_mut());
+        let (all, mut records) = (R::KEPT.all(count), ptr::null_mut());
         // SAFETY: the seat is open as long as `seat` is borrowed, and in one call; the place for the pointer lasts for it.
         match seat.told(unsafe { cvec_seat_block(seat.raw, all, &mut records) }) {
             Err(refusal) if refusal.kind() == ErrorKind::NoSeat => Err(Error::own(ErrorKind::Filling, Some(&seat.of.path))),

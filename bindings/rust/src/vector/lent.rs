@@ -28,7 +28,7 @@ unsafe fn lent<'v, R: Record>(piece: &RawPiece) -> &'v [R] {
     // SAFETY: C lends no piece without records, nor one at NULL, and until the borrow ends nothing moves or writes them. They are
     // aligned to C's type, which is as much as a record may be; whole, since each growth and the file that was opened are; and of
     // bytes that are all set, of which any are a value, or, of `Flagged`, with a flag that is 0 or 1.
-    unsafe { slice::from_raw_parts(piece.records.cast(), R::IN_VECTOR.whole(piece.len) as usize) }
+    unsafe { slice::from_raw_parts(piece.records.cast(), R::KEPT.whole(piece.len) as usize) }
 }
 
 impl<'v, R: Record> Seat<'v, R> {
@@ -36,7 +36,7 @@ impl<'v, R: Record> Seat<'v, R> {
     fn ask(&self, start: u64, out: &mut [RawPiece]) -> Result<usize, Error> {
         let mut count = 0;
         // SAFETY: the seat is open as long as `self` is there, and in one call; the pointer and the room are those of one slice.
-        self.told(unsafe { cvec_seat_pieces(self.raw, R::IN_VECTOR.first(start), out.as_mut_ptr(), out.len(), &mut count) })?;
+        self.told(unsafe { cvec_seat_pieces(self.raw, R::KEPT.first(start), out.as_mut_ptr(), out.len(), &mut count) })?;
         Ok(count)
     }
 

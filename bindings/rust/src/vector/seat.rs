@@ -30,7 +30,7 @@ pub struct Receipt {
 
 impl RawReceipt {
     pub(super) fn of<R: Record>(&self) -> Receipt {
-        Receipt { number: self.number, start: R::IN_VECTOR.whole(self.start), length: R::IN_VECTOR.whole(self.len) }
+        Receipt { number: self.number, start: R::KEPT.whole(self.start), length: R::KEPT.whole(self.len) }
     }
 }
 
@@ -54,7 +54,7 @@ impl<'v, R: Record> Seat<'v, R> {
     /// or none. Others read them when it returns; they are durable once they are settled. Where the room of the phase is used up
     /// (`Options::growths`) it settles all that was grown, while other calls wait; or, where records were lent, it is `Full`.
     pub fn grow(&self, records: &[R]) -> Result<Receipt, Error> {
-        let (kept, mut receipt) = (R::IN_VECTOR, RawReceipt::default());
+        let (kept, mut receipt) = (R::KEPT, RawReceipt::default());
         // SAFETY: the seat is open as long as `self` is there, and in one call; the pointer and the length are those of one slice,
         // whose records are kept as those of the vector's type.
         self.told(unsafe { cvec_seat_grow(self.raw, kept.number, pointer_to(records), kept.all(records.len()), &mut receipt) })?;
@@ -65,7 +65,7 @@ impl<'v, R: Record> Seat<'v, R> {
     /// threads may stand. It answers their receipts in order: once the last one is settled all are. Refused, those from before stand,
     /// and [`Error::taken`] says how many records these have.
     pub fn grow_all(&self, records: &[R]) -> Result<Vec<Receipt>, Error> {
-        let blocks = records.chunks(LARGEST_GROWTH / R::IN_VECTOR.bytes);
+        let blocks = records.chunks(LARGEST_GROWTH / R::KEPT.bytes);
         let mut receipts = room_for::<Receipt>(blocks.len(), &self.of.path)?;
         for block in blocks {
             let taken = receipts.iter().map(|it| it.length).sum();
@@ -97,7 +97,7 @@ impl<'v, R: Record> Seat<'v, R> {
 
     /// How many records there are, durable or not.
     pub fn len(&self) -> Result<u64, Error> {
-        Ok(R::IN_VECTOR.whole(self.all_kept()?))
+        Ok(R::KEPT.whole(self.all_kept()?))
     }
 
     /// How many these are of C's.
@@ -137,7 +137,7 @@ impl<'v, R: Record> Seat<'v, R> {
     /// # Safety
     /// There is room for so many, and nobody else has it.
     unsafe fn copy(&self, from: u64, out: *mut R, room: usize) -> Result<usize, Error> {
-        let (kept, mut count) = (R::IN_VECTOR, 0);
+        let (kept, mut count) = (R::KEPT, 0);
         // SAFETY: as above and below; a flag is written as 0 or 1.
         self.told(unsafe { cvec_seat_read(self.raw, kept.number, kept.first(from), out.cast(), kept.all(room), &mut count) })?;
         Ok(kept.whole(count) as usize)
@@ -146,12 +146,12 @@ impl<'v, R: Record> Seat<'v, R> {
     /// A copy of the record at this position, durable or not. `None` past the end.
     pub fn at(&self, position: u64) -> Result<Option<R>, Error> {
         let mut record = MaybeUninit::<R>::uninit();
-        if R::IN_VECTOR.count > 1 {
+        if R::KEPT.count > 1 {
             // SAFETY: it has room for one. Written, it is one.
             return unsafe { Ok((self.copy(position, record.as_mut_ptr(), 1)? == 1).then(|| record.assume_init())) };
         }
         // SAFETY: as above; C has one record for it, and writes it unless it refuses the call.
-        match self.told(unsafe { cvec_seat_at(self.raw, R::IN_VECTOR.number, position, record.as_mut_ptr().cast()) }) {
+        match self.told(unsafe { cvec_seat_at(self.raw, R::KEPT.number, position, record.as_mut_ptr().cast()) }) {
             Err(refusal) if refusal.kind() == ErrorKind::OutOfRange => Ok(None),
             // SAFETY: it was written.
             answer => answer.map(|()| Some(unsafe { record.assume_init() })),
@@ -161,7 +161,7 @@ impl<'v, R: Record> Seat<'v, R> {
     /// How many of the records that there are when it is called equal this one, byte by byte.
     pub fn count(&self, record: R) -> Result<u64, Error> {
         let (sought, mut count) = (slice::from_ref(&record), 0);
-        if R::IN_VECTOR.count > 1 {
+        if R::KEPT.count > 1 {
             self.search(0, sought, |_| {
                 count += 1;
                 false
@@ -169,21 +169,21 @@ impl<'v, R: Record> Seat<'v, R> {
             return Ok(count);
         }
         // SAFETY: as above; the record and the place for the count last for the call.
-        self.told(unsafe { cvec_seat_count(self.raw, R::IN_VECTOR.number, pointer_to(sought), &mut count) })?;
+        self.told(unsafe { cvec_seat_count(self.raw, R::KEPT.number, pointer_to(sought), &mut count) })?;
         Ok(count)
     }
 
     /// The first position from `from` on that has this record, byte by byte, of those that there are when it is called.
     pub fn find(&self, record: R, from: u64) -> Result<Option<u64>, Error> {
         let (sought, len, mut found) = (slice::from_ref(&record), self.len()?, u64::MAX);
-        if R::IN_VECTOR.count > 1 {
+        if R::KEPT.count > 1 {
             self.search(from, sought, |position| {
                 found = position;
                 true
             })?;
         } else {
             // SAFETY: as above. Where there is none it answers how many there are, which then aren't fewer.
-            self.told(unsafe { cvec_seat_find(self.raw, R::IN_VECTOR.number, pointer_to(sought), from, &mut found) })?;
+            self.told(unsafe { cvec_seat_find(self.raw, R::KEPT.number, pointer_to(sought), from, &mut found) })?;
         }
         Ok((found < len).then_some(found))
     }
