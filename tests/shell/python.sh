@@ -13,7 +13,7 @@ done
 
 # Runs this program in Python with further words.
 python_runs() {
-    CVEC_LIBRARY=$work/libcvec.so PYTHONPATH=$top/bindings/python PYTHONDONTWRITEBYTECODE=1 "$python" "$@" >"$out" 2>"$err"
+    CVEC_LIB=$work PYTHONPATH=$top/bindings/python PYTHONDONTWRITEBYTECODE=1 "$python" "$@" >"$out" 2>"$err"
 }
 
 a_python_program_appends_and_reads() (
@@ -29,7 +29,7 @@ the_python_program_that_is_shown_reads() (
     make_python_library
     python_runs "$top/examples/python/use.py" "$work/numbers.cvec"
     shown_in use/c.md python >"$work/shown.py"
-    (cd "$work" && flock numbers.cvec env "CVEC_LIBRARY=$work/libcvec.so" "PYTHONPATH=$top/bindings/python" PYTHONDONTWRITEBYTECODE=1 \
+    (cd "$work" && flock numbers.cvec env "CVEC_LIB=$work" "PYTHONPATH=$top/bindings/python" PYTHONDONTWRITEBYTECODE=1 \
         "$python" shown.py >"$out")
     [ "$(tr '\n' ' ' <"$out")" = '4 records 5 7 11 13 ' ]
 )
@@ -113,7 +113,7 @@ numbers_are_listed_in_decimal() (
     printf '0.5\n' | cmp - "$out"
 )
 
-# pip makes a wheel by this module, here with libraries that only seem such: the one of the folder that CVEC_LIB names, or the
+# pip makes a wheel by the backend, here with libraries that only seem such: the one of the folder that CVEC_LIB names, or the
 # repository's own.
 a_wheel_has_the_library_that_is_named_or_its_own() (
     has python3 'the modules of Python' || exit $is_skipped
@@ -125,7 +125,7 @@ a_wheel_has_the_library_that_is_named_or_its_own() (
         (
             cd "$work/top/bindings/python"
             wheel=$(PYTHONDONTWRITEBYTECODE=1 python3 -c 'import backend, sys; print(backend.build_wheel(sys.argv[1]))' "$work/wheels")
-            python3 -c 'import sys, zipfile; print(zipfile.ZipFile(sys.argv[1]).read("libcvec.so").decode(), end="")' "$work/wheels/$wheel"
+            python3 -c 'import sys, zipfile; print(zipfile.ZipFile(sys.argv[1]).read("cvec/libcvec.so").decode(), end="")' "$work/wheels/$wheel"
         ) >"$out" 2>"$err"
         [ "$(cat "$out")" = "$1" ]
     }
