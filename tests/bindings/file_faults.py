@@ -2,6 +2,7 @@
 is let go, and what is no file isn't mapped: file_faults.py FOLDER [plain]. With 'plain' it does so without numpy."""
 import array
 import copy
+import errno
 import fractions
 import gc
 import multiprocessing
@@ -517,6 +518,48 @@ def check_maps_that_are_closed():
     os.remove(PATH)
 
 
+def check_what_is_shown():
+    with made("i32") as file:
+        file.append([-5, 7])
+        assert (file.path, file.closed, file.shape, repr(file)) == (PATH, False, (2,), f"<File {PATH!r} of i32>")
+        assert file.dtype is None if numpy is None else file.dtype == file.read().dtype == numpy.int32
+        if numpy is not None:
+            assert numpy.asarray(file).tolist() == numpy.asarray(file, dtype="i8").tolist() == [-5, 7] and numpy.asarray(file, dtype="f4").dtype == numpy.float32
+        with cvec.Map(PATH, "i32") as seen:
+            assert (seen.path, seen.closed, seen.shape, repr(seen)) == (PATH, False, (2,), f"<Map {PATH!r} of i32>")
+        assert seen.closed and repr(seen) == f"<Map {PATH!r} of i32, closed>"
+    assert file.closed and repr(file) == f"<File {PATH!r} of i32, closed>" and refusal_of(lambda: file.shape) == "closed"
+    with cvec.File.open(os.fsencode(PATH), "i32") as file, cvec.Map(pathlib.Path(PATH), "i32") as seen:
+        assert file.path == os.fsencode(PATH) and seen.path == PATH
+    os.remove(PATH)
+    # What the system refused is an OSError of its kind, with the file's name.
+    for call in (cvec.File.open, cvec.File.open_to_read, cvec.Map):
+        try:
+            call(PATH)
+        except FileNotFoundError as fault:
+            assert isinstance(fault, cvec.Error) and (fault.status, fault.errno, fault.filename) == (cvec.Status.DISK_OPEN, errno.ENOENT, PATH)
+            assert str(fault) == f"the file can't be opened: No such file or directory: {PATH!r}"
+        else:
+            raise AssertionError("not refused")
+    for words in (("u64", 2), (8,), (None,)):
+        try:
+            cvec.File.create(PATH, *words)
+        except TypeError:
+            assert not os.path.exists(PATH)
+        else:
+            raise AssertionError("not refused")
+    for turn in range(3):
+        with cvec.File.open_or_create(PATH, "u16", version=2) as file:
+            assert list(file.read()) == list(range(turn)) and file.stat.version == 2
+            file.append([turn])
+    for there in (b"", bytes(5)):
+        with open(PATH, "wb") as file:
+            file.write(there)
+        cvec.File.open_or_create(PATH).close()
+    assert listed("u64") == [] and refusal_of(cvec.File.open_or_create, PATH, "u32") == "the records have another width"
+    os.remove(PATH)
+
+
 def check_versions():
     """A file is made of version 1 or 2, and of no other, of which nothing is made."""
     for version in (0, 3, -1, 257, 1.5, None):
@@ -589,6 +632,7 @@ check_maps_that_grow()
 check_maps_beside_a_writer()
 check_maps_that_are_closed()
 check_versions()
+check_what_is_shown()
 check_pickling()
 check_interrupts()
 print("with numpy" if numpy else "without numpy")

@@ -431,8 +431,11 @@ def rows_are_read_also_over_frames():
     raises(ValueError, lambda: list(cvec.cut.pieces(cut)))
     pen.grow(numbers([1]))
     raises(Fault, lambda: cvec.cut.refreshed(cut))
-    for kind in "u7", [("one", "<u4")], "V7":
-        raises((ValueError, TypeError), lambda: cvec.cut.take(pen.path, kind))
+    for kind in "u7", "V300", "O", [("one", "O")]:
+        raises(ValueError, lambda: cvec.cut.take(pen.path, kind))
+    # Whose words are others.
+    for kind in [("one", "<u4")], "V12", "V7":
+        raises(Fault, lambda: cvec.cut.take(pen.path, kind))
     raises(ValueError, lambda: cvec.cut.read(cut, 5, 1001))
 
 
@@ -454,6 +457,9 @@ def a_record_is_compared_by_its_bits():
         raises(ValueError, lambda: cvec.cut.packed(kind, none))
     row = numpy.array([(1, 2.0, 3, 4), (1, -0.0, 3, 4), (1, 0.0, 3, 4)], ROW)
     assert cvec.cut.places_of(row, cvec.cut.packed(ROW, row[2])).tolist() == [2]
+    for width in (3, 5, 6, 7, 9, 12):
+        rows = numpy.frombuffer(bytes(range(1, 1 + 4 * width)), f"V{width}")[[0, 1, 2, 1, 3]]
+        assert cvec.cut.places_of(rows, cvec.cut.packed(f"V{width}", rows[1])).tolist() == [1, 3]
 
 
 # ---- what a file can't be

@@ -97,19 +97,22 @@ the_python_program_of_the_page_writes_rows_in_place() (
     [ "$(sed -n '1p;5p;9p' "$out" | tr '\n' ' ')" = '7 1 4607182418800017408 ' ]
 )
 
-# The commands of the page, in a copy of the repository over the crates as they are built.
-the_build_of_the_page_makes_the_python_example() (
+# The commands of the page, in a copy of the repository over the crates as they are built: the page's program runs by what pip puts into
+# an empty prefix.
+the_first_program_of_the_python_page_runs_by_its_lines() (
     has_python_vector && has make 'the libraries' || exit $is_skipped
+    python3 -c 'import ensurepip, venv' 2>/dev/null || lacks 'there is no venv with pip for the package of Python' || exit $is_skipped
     make_c_library
     make_threads_library
     mkdir "$work/there"
     cd "$work/there"
-    cp -Rp "$top/bindings" "$top/examples" "$top/tools" "$top/Makefile" "$top/crates.txt" .
+    cp -Rp "$top/bindings" "$top/tools" "$top/Makefile" "$top/crates.txt" .
     ln -s "$top/crates" .
+    shown_in use/python.md python | awk '/^import sys/ { at++ } at == 1' >first.py
     sed -n '/^```sh$/,/^```$/p' "$top/docs/use/python.md" | sed '/^```/d' >"$work/build.sh"
-    unset CVEC_LIB
-    PYTHONDONTWRITEBYTECODE=1 sh -e "$work/build.sh" >"$out" 2>"$err" || { cat "$err" && exit 1; }
-    printf '286 records of 15 growths\n286 records, the last 249, in all 31185\n' | cmp - "$out"
+    unset CVEC_LIB PYTHONPATH
+    sh -e "$work/build.sh" >"$out" 2>"$err" || { cat "$out" "$err" && exit 1; }
+    [ "$(tail -n 1 "$out")" = '16 records, 8 growths durable' ]
 )
 
 samples_of_sensors_go_on_in_python() (

@@ -56,7 +56,7 @@ def kind_of(kind: Any) -> Records | Rows:
 
 
 def dtype_of(kind: Any) -> numpy.dtype:
-    return kind_of(kind).dtype
+    return kind_of(kind).dtype_in_file
 
 
 def width_of(kind: Any) -> int:
@@ -622,6 +622,8 @@ def places_of(block: Any, data: bytes) -> Any:
     if width in (1, 2, 4, 8):
         return numpy.flatnonzero(block.view(f"<u{width}") == numpy.frombuffer(data, f"<u{width}")[0])
     rows = block.view("u1").reshape(-1, width)
+    if width < 8:
+        return numpy.flatnonzero((rows == numpy.frombuffer(data, "u1")).all(axis=1))
     first = numpy.ndarray(len(block), "<u8", rows, 0, (width,))
     found = numpy.flatnonzero(first == numpy.frombuffer(data[:8], "<u8")[0])
     return found[(rows[found] == numpy.frombuffer(data, "u1")).all(axis=1)]

@@ -43,7 +43,8 @@ class Records:
             raise ValueError(f"there is no type {name} of records: they are {', '.join(IN_FILE)}")
         self.name = self.word = name
         self._code, self.form, self._in_file = _CODES.get(name), IN_C[name], IN_FILE[name]
-        self.dtype = self.form.dtype
+        # That of arrays in memory, and of what stands in a file.
+        self.dtype, self.dtype_in_file = self.form.dtype, self._in_file.dtype
         # Of a word in memory, which is a record; and in a file.
         self.width, self.width_in_file = self.form.width, self._in_file.width
 
@@ -63,7 +64,7 @@ class Records:
     def view(self, seen: Any, at: int, count: int) -> Any:
         """So many records of a file's bytes, from there on, to be read alone: an array, or a memoryview of numbers or of bytes."""
         if numpy is not None:
-            return _frozen(seen, self._in_file.dtype, at, count)
+            return _frozen(seen, self.dtype_in_file, at, count)
         rows = memoryview(seen).toreadonly()[at:at + count * self.width_in_file]
         return rows.cast(self._code) if self._code else rows
 
@@ -160,7 +161,7 @@ class Rows:
         if numpy is None:
             raise ValueError("a dtype needs numpy")
         try:
-            self.dtype = numpy.dtype(dtype)
+            self.dtype = self.dtype_in_file = numpy.dtype(dtype)
         except TypeError as fault:
             is_type = isinstance(dtype, str) and dtype in IN_FILE
             raise ValueError(f"{dtype!r} is no dtype" + (f": pass it as type={dtype!r}" if is_type else "")) from fault

@@ -131,7 +131,7 @@ class Map:
     @property
     def dtype(self) -> Any:
         """That of its arrays; None without numpy."""
-        return self._form.dtype
+        return self._form.dtype_in_file
 
     @property
     def shape(self) -> tuple[int]:

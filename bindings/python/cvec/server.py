@@ -211,7 +211,7 @@ class Seat:
             pieces.append(self.piece(start))
             start += len(pieces[-1])
         if numpy:
-            return numpy.concatenate(pieces) if pieces else numpy.empty(0, dtype=self.form.dtype)
+            return numpy.concatenate(pieces) if pieces else numpy.empty(0, dtype=self.form.dtype_in_file)
         return [record for piece in pieces for record in piece]
 
     def close(self) -> None:
