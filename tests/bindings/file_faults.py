@@ -530,7 +530,7 @@ def check_what_is_shown():
         assert seen.closed and repr(seen) == f"<Map {PATH!r} of i32, closed>"
     assert file.closed and repr(file) == f"<File {PATH!r} of i32, closed>" and refusal_of(lambda: file.shape) == "closed"
     with cvec.File.open(os.fsencode(PATH), "i32") as file, cvec.Map(pathlib.Path(PATH), "i32") as seen:
-        assert file.path == os.fsencode(PATH) and seen.path == PATH
+        assert file.path == os.fsencode(PATH) and seen.path == os.fspath(pathlib.Path(PATH))
     os.remove(PATH)
     # What the system refused is an OSError of its kind, with the file's name.
     for call in (cvec.File.open, cvec.File.open_to_read, cvec.Map):

@@ -1288,11 +1288,12 @@ def records_stay_under_a_pass():
     """A call of the whole vector waits until it has ended; and what an exception within it has is lent as long as that lives."""
     signal.alarm(60)
     with Vector.create(PATH, seats=2, version=2, type="u32") as vector:
-        for at in range(0, 200000, 50000):
-            vector.grow(range(at, at + 50000))
+        for at in range(0, 200000, 10000):
+            vector.grow(range(at, at + 10000))
         form, told = vector._form, []
         fill = form.fill
-        reads = [lambda: vector[::-2], lambda: vector[::2], lambda: vector[::-3]] + ([lambda: numpy.asarray(vector, dtype="f8")] if numpy else [])
+        # The first one asks C often for pieces, which are many then.
+        reads = [lambda: vector[::30000], lambda: vector[::2], lambda: vector[::-3]] + ([lambda: numpy.asarray(vector, dtype="f8")] if numpy else [])
         for turn, read in enumerate(reads):
             changes = threading.Thread(target=lambda: (vector.change(0, [turn] * 200000), told.append(turn)))
 
@@ -1304,7 +1305,7 @@ def records_stay_under_a_pass():
                 fill(*words)
 
             form.fill = fill_late
-            assert set(read()) == (set(range(1, 200000, 2)) if turn == 0 else {turn - 1})
+            assert set(read()) == (set(range(0, 200000, 30000)) if turn == 0 else {turn - 1})
             changes.join()
             assert set(vector) == {turn}
 
@@ -2058,7 +2059,7 @@ def a_vector_shows_what_it_is():
     assert vector.closed and vector.path == PATH and repr(vector) == f"<Vector {PATH!r} of u32, closed>"
     assert refusal(lambda: vector.shape) == (Status.NOT_SO, "closed")
     with Vector.open(pathlib.Path(PATH), type="u32") as vector, Vector.create(os.fsencode(PATH + "2")) as other:
-        assert vector.path == PATH and other.path == os.fsencode(PATH + "2")
+        assert vector.path == os.fspath(pathlib.Path(PATH)) and other.path == os.fsencode(PATH + "2")
     if numpy is not None:
         with Vector.create(PATH + "3", dtype=POINT) as vector:
             assert vector.dtype == POINT == vector[:].dtype and repr(vector) == f"<Vector {PATH + '3'!r} of {numpy.dtype(POINT)}>"

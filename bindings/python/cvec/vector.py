@@ -168,22 +168,18 @@ class Block(_Single):
             raise
 
     def _publish(self) -> int:
-        """From before it is grown on it is lent; or not, where it isn't."""
-        vector = self._vector
-        lent = vector._note(self._loan)
-        try:
-            return vector._run(self._publish_by)
-        finally:
-            if self._receipt.len == 0:
-                vector._loans.discard(lent)
+        return self._vector._pass(self._publish_by)
 
     def _publish_by(self, seat: c_void_p) -> int:
-        block, receipt = byref(self._loan.block), byref(self._receipt)
+        """From before it is grown on it is lent; or not, where it isn't."""
+        block, receipt, lent = byref(self._loan.block), byref(self._receipt), self._vector._note(self._loan)
         try:
             return LIB.cvec_seat_attach(seat, block) or LIB.cvec_seat_publish(seat, receipt)
         finally:
             # A seat that is given back would give the block up. One that is grown is none any more.
             LIB.cvec_seat_detach(seat, block)
+            if self._receipt.len == 0:
+                self._vector._loans.discard(lent)
 
 
 class Appender(_Single):
@@ -265,8 +261,8 @@ class Vector(_Single):
         self._kept, self._form, self._path, self._process = Kept(), form, os.fspath(path), LIB.cvec_process()
         self._number = NUMBERS[_IN_VECTOR[form.word]]
         self._closed = False
-        # Of each call that is under way the thread that makes it; and of those among them that whole calls wait for. Who lends, begins
-        # such a pass, or has the whole vector, has the turn.
+        # Of each call that is under way the thread that makes it; and of those among them that whole calls wait for. Who begins such a
+        # pass, or has the whole vector, has the turn.
         self._calls: dict[object, int] = {}
         self._passes: dict[object, int] = {}
         self._turn = threading.RLock()
@@ -449,11 +445,9 @@ class Vector(_Single):
         self._check(status)
 
     def _note(self, loan: Loan) -> weakref.ref[Loan]:
-        """What it is of is lent from now on."""
-        self._check_process()
+        """Within a pass: what it is of is lent from now on."""
         lent = weakref.ref(loan, self._loans.discard)
-        with self._turn:
-            self._loans.add(lent)
+        self._loans.add(lent)
         return lent
 
     # ---- growths
@@ -729,19 +723,15 @@ class Vector(_Single):
         phase has no more room is FULL."""
         if start < 0:
             raise ValueError("a position is below 0")
-        views: list[Any] = []
-        self._ask(self._lend_by, start, stop, self._lend(), views)
-        return views
+        return self._pass(self._lend_by, start, stop)
 
-    def _lend_by(self, seat: c_void_p, start: int, stop: int | None, loan: Loan, views: list[Any]) -> int:
-        pieces, count, size = (_Piece * _PIECES)(), c_size_t(), self._size_by(seat)
+    def _lend_by(self, seat: c_void_p, start: int, stop: int | None) -> list[Any]:
+        pieces, count, size, loan, views = (_Piece * _PIECES)(), c_size_t(), self._size_by(seat), self._lend(), []
         at, end = start * self._form.words, min(size, size if stop is None else stop) * self._form.words
         while at < end:
-            status = LIB.cvec_seat_pieces(seat, at, pieces, _PIECES, byref(count))
-            if status != 0 or count.value == 0:
-                return status
+            self._check(LIB.cvec_seat_pieces(seat, at, pieces, _PIECES, byref(count)))
             at = self._see(pieces[:count.value], end, loan, views)
-        return 0
+        return views
 
     def _see(self, pieces: list[_Piece], stop: int, loan: Loan, views: list[Any]) -> int:
         """Adds what is before `stop` of these, and answers where that ends."""
