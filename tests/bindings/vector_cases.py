@@ -665,16 +665,15 @@ def calls_are_interrupted_at_any_moment():
     with Vector.create(PATH, seats=1) as vector:
         receipt = vector.grow([5])
         seat = vector.seat()
-        for call in (lambda: vector.grow([5]), lambda: len(vector), lambda: vector[0], lambda: vector[::-1], lambda: list(vector), vector.lent, lambda: vector.count(5),
+        for call in (lambda: vector.grow([5]), lambda: len(vector), lambda: vector[0], lambda: vector[::-1], lambda: list(vector), lambda: vector.lent(0, 1), lambda: vector.count(5),
                      lambda: vector.find(5), lambda: vector.settle(receipt), vector.settle, vector.settled, vector.fold, lambda: vector.change(0, [5]),
                      lambda: grow_in_place(vector), lambda: append(vector), lambda: (seat.grow([5]), seat.settle())):
             moments = 0
             while is_interrupted(call, moments):
-                size = len(vector)
-                assert vector.grow([5]).start == size
-                vector.fold()
+                assert vector.grow([5]).start == len(vector) - 1 and not vector._calls and not vector._passes and not vector._loans
                 moments += 1
             assert moments > 2
+            vector.fold()
         vector.settle()
         assert vector.settled() == vector.grow([5]).number
     assert set(records()) == {5}

@@ -68,7 +68,8 @@ class BlockLoan(Loan):
         self.block = CBlock()
 
     def __del__(self, drop: Any = LIB.cvec_block_drop, byref: Any = byref) -> None:
-        drop(byref(self.block))
+        if hasattr(self, "block"):
+            drop(byref(self.block))
 
 
 class _Memory:
