@@ -919,6 +919,7 @@ def the_whole_vector_beside_threads():
 
 def a_call_within_a_call_is_refused():
     """As one from a signal's handler, which would wait for itself."""
+    signal.alarm(60)
     size, told, within = LIB.cvec_seat_size, [], []
 
     def look(*words):

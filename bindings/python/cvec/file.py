@@ -22,6 +22,7 @@ from ctypes import POINTER, byref, c_size_t, c_uint8, c_uint16, c_uint32, c_uint
 from typing import Any
 
 from .errors import Error, Status
+from .handles import Described, Single
 from .kinds import kind_of
 from .library import LIB, NUMBERS, Fault, declare, error_of, name_of
 
@@ -46,7 +47,7 @@ declare({
 LIB.cvec_file_close.argtypes, LIB.cvec_file_close.restype = [POINTER(c_void_p)], None
 
 
-class File:
+class File(Single, Described):
     """A file that is open for reading and appending, by the process that opened it: `create`, `open` and `open_or_create` make one.
     One of `open_to_read` is read alone, each time anew.
 
@@ -116,10 +117,6 @@ class File:
         if status != 0:
             raise error_of(status, self._path, fault)
 
-    def __reduce__(self) -> Any:
-        """Neither `copy` nor `pickle` makes another: its end would close this one."""
-        raise TypeError("a File can't be copied")
-
     def __enter__(self) -> File:
         return self
 
@@ -130,25 +127,8 @@ class File:
         return self.stat.size // self._form.words
 
     @property
-    def path(self) -> str | bytes:
-        """The file's, as it was passed."""
-        return self._path
-
-    @property
     def closed(self) -> bool:
         return not self._handle
-
-    @property
-    def dtype(self) -> Any:
-        """That of its arrays; None without numpy."""
-        return self._form.dtype
-
-    @property
-    def shape(self) -> tuple[int]:
-        return (len(self),)
-
-    def __repr__(self) -> str:
-        return f"<File {self.path!r} of {self._form.name}{', closed' if self.closed else ''}>"
 
     def _is_forked(self) -> bool:
         """Whether this process isn't the one that opened it. A thread that held the lock then never lets go of it here."""

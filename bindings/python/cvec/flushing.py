@@ -8,6 +8,8 @@ import time
 import weakref
 from typing import Any
 
+from .handles import Single
+
 # How often a loop looks whether the program ends, in seconds.
 _LOOK = 0.2
 # The threads that are inside such loops.
@@ -74,16 +76,13 @@ class Loop:
             faults.append(fault)
 
 
-class Flusher:
+class Flusher(Single):
     """A thread that commits, as `Vector.run_flusher`, from the begin of a `with` block to its end, where it commits once more. Error: a
     commit was refused."""
 
     def __init__(self, vector: Any, every: float) -> None:
         self._vector, self._loop, self._faults = vector, Loop(self, every), []
         self._thread: threading.Thread | None = None
-
-    def __reduce__(self) -> Any:
-        raise TypeError("a Flusher can't be copied")
 
     def __enter__(self) -> Flusher:
         if self._thread is not None:

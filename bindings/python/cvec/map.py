@@ -14,6 +14,7 @@ from typing import Any, Iterator
 
 from .errors import Status
 from .file import Stat
+from .handles import Described
 from .kinds import kind_of
 from .library import LIB, NUMBERS, Fault, declare, error_of, name_of
 
@@ -51,7 +52,7 @@ def _open_to_map(path: Any) -> Any:
         raise error_of(Status.DISK_OPEN, path, errno=fault.errno) from None
 
 
-class Map:
+class Map(Described):
     """A file that is mapped, and checked when it was: its records are seen where they stand in it. Another process may append to
     it, change records and take some away, both while it is mapped and later: what is seen is the vector of one moment of the
     mapping, whose last growth needn't be on the device yet. The file must not be folded or cut meanwhile. A device that fails
@@ -120,25 +121,12 @@ class Map:
         return self.stat.size // self._form.words
 
     @property
-    def path(self) -> str | bytes:
-        """The file's, as it was passed."""
-        return self._path
-
-    @property
     def closed(self) -> bool:
         return self._map is None
 
     @property
     def dtype(self) -> Any:
-        """That of its arrays; None without numpy."""
         return self._form.dtype_in_file
-
-    @property
-    def shape(self) -> tuple[int]:
-        return (len(self),)
-
-    def __repr__(self) -> str:
-        return f"<Map {self.path!r} of {self._form.name}{', closed' if self.closed else ''}>"
 
     def _open_map(self) -> Any:
         if self._map is None:

@@ -23,6 +23,7 @@ from typing import Any, Callable, Iterator, NamedTuple
 
 from .errors import Error, Status
 from .flushing import Flusher, Loop, milliseconds
+from .handles import Described, Single
 from .kinds import Records, Rows, address_of, kind_of
 from .lending import BlockLoan, CBlock, Kept, Loan, end_writing, memory_at
 from .library import LIB, NUMBERS, declare, error_of, name_of
@@ -101,15 +102,7 @@ class Receipt(NamedTuple):
     """How many records it has."""
 
 
-class _Single:
-    """What there is once, as C has it."""
-
-    def __reduce__(self) -> Any:
-        """Neither `copy` nor `pickle` makes another."""
-        raise TypeError(f"a {type(self).__name__} can't be copied")
-
-
-class Block(_Single):
+class Block(Single):
     """A growth in place, which `grow_into` gives. A `with` block has an array of its records, all zeros at first. When it ends the
     vector grows by them as one growth, as `grow` does and with its refusals, but without a copy; where an exception ends it nothing
     is grown. ValueError: a flag is neither 0 nor 1. Then the array can't be written any more; without numpy it is a memoryview,
@@ -182,7 +175,7 @@ class Block(_Single):
                 self._vector._loans.discard(lent)
 
 
-class Appender(_Single):
+class Appender(Single):
     """Single records, kept until there are as many as one block has: then the vector grows by them. Nobody reads what is kept.
     A `with` block grows by the rest at its end. For one thread at a time."""
 
@@ -226,7 +219,7 @@ class Appender(_Single):
                 self._kept = 0
 
 
-class Seat(_Single):
+class Seat(Single):
     """Grows for one thread at a time, to settle its own growths alone. `Vector.seat` gives one; there may be any number."""
 
     def __init__(self, vector: Vector) -> None:
@@ -247,7 +240,7 @@ class Seat(_Single):
             self._vector.settle(self._vector._told(self._last), timeout)
 
 
-class Vector(_Single):
+class Vector(Single, Described):
     """A durable vector of a file, which is locked until it is closed; `create`, `open` and `open_or_create` make one. Any number of
     threads may share it. A process that is forked may only close it (FORKED).
 
@@ -355,25 +348,8 @@ class Vector(_Single):
                 raise
 
     @property
-    def path(self) -> str | bytes:
-        """The file's, as it was passed."""
-        return self._path
-
-    @property
     def closed(self) -> bool:
         return self._closed
-
-    @property
-    def dtype(self) -> Any:
-        """That of its arrays; None without numpy."""
-        return self._form.dtype
-
-    @property
-    def shape(self) -> tuple[int]:
-        return (len(self),)
-
-    def __repr__(self) -> str:
-        return f"<Vector {self.path!r} of {self._form.name}{', closed' if self.closed else ''}>"
 
     # ---- calls of C
 
