@@ -637,11 +637,21 @@ def a_close_is_interrupted_at_any_moment():
     signal.alarm(100)
 
     def interrupt_c(close):
-        interrupted(LIB, "cvec_" + name)
+        interrupted(LIB, "cvec_vector_end")
         has_no(KeyboardInterrupt, close)
 
-    name = "vector_end"
+    def interrupt_before(close):
+        call = LIB.cvec_vector_end
+
+        def interrupted_before(*_):
+            LIB.cvec_vector_end = call
+            raise KeyboardInterrupt
+
+        LIB.cvec_vector_end = interrupted_before
+        has_no(KeyboardInterrupt, close)
+
     is_closed_behind(interrupt_c)
+    is_closed_behind(interrupt_before)
     moments = 0
     while is_closed_behind(lambda close: is_interrupted(close, moments)):
         moments += 1
@@ -1552,6 +1562,24 @@ def cycles_of_what_is_lent_are_collected():
                 vector.close()
             Vector.open(PATH, **SMALL).close()
             assert records() == list(range(5000))
+
+
+class LastGrower:
+    """Is part of a cycle with a vector, and grows it at its end."""
+
+    def __init__(self, vector):
+        self.vector, vector.grower = vector, self
+
+    def __del__(self):
+        self.vector.settle(self.vector.grow([7]))
+
+
+def a_vector_of_a_cycle_is_closed_behind_all_of_it():
+    for turn in range(3):
+        LastGrower(Vector.open_or_create(PATH, **SMALL))
+        gc.collect()
+        Vector.open(PATH, **SMALL).close()
+        assert records() == [7] * (turn + 1)
 
 
 def a_program_ends_with_what_is_lent():

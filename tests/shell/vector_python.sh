@@ -298,6 +298,8 @@ what_is_lent_outlives_a_python_vector() (
     rm -rf "$work/files"
     is_so_with_and_without_numpy cycles_of_what_is_lent_are_collected
     rm -rf "$work/files"
+    is_so_without_numpy a_vector_of_a_cycle_is_closed_behind_all_of_it
+    rm -rf "$work/files"
     is_so_with_and_without_numpy a_program_ends_with_what_is_lent
 )
 
