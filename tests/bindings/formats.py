@@ -10,6 +10,7 @@ import sys
 
 import numpy
 from cvec import Error, File, Gone, Map, Server, Status, Vector, cut
+from cvec.kinds import kind_of
 
 PATH = os.path.join(sys.argv[1], "formats.cv")
 
@@ -120,13 +121,19 @@ def check_no_whole_rows():
         assert server.seats[0].read()["key"].tolist() == server.seats[0].piece(0)["key"].tolist() == [1, 3]
     with File.open(PATH, dtype=pair) as file:
         assert file.read()["key"].tolist() == [1, 3]
+    with Server(PATH) as server:
+        seat = server.seats[0]
+        for row in ([5], [6, 7], [8], [9]):
+            seat.grow(row)
+        seat.form = kind_of("u64", pair)
+        assert seat.read()["key"].tolist() == [1, 3, 5, 7] and seat.piece(3, 1)["key"].tolist() == [7] and len(seat.piece(4)) == 0
     os.remove(PATH)
 
 
 def grow(seat, number):
     """In another process."""
-    told = seat.grow([number, number + 1])
-    return told, seat.settle(), len(seat.read())
+    opened, told = len(os.listdir("/dev/fd")), seat.grow([number, number + 1])
+    return told, seat.settle(), len(seat.read()), opened
 
 
 def check_pools():
@@ -134,13 +141,15 @@ def check_pools():
     File.create(PATH, "u32").close()
     grown = []
     for way in ("spawn", "fork", "forkserver"):
-        context = multiprocessing.get_context(way)
+        context, descriptors = multiprocessing.get_context(way), []
         with Server(PATH, "u32", seats=2) as server, concurrent.futures.ProcessPoolExecutor(1, mp_context=context) as pool:
             for turn in range(3):
                 number = 10 * len(grown)
-                told, settled, size = pool.submit(grow, server.seats[turn % 2], number).result(60)
+                told, settled, size, opened = pool.submit(grow, server.seats[turn % 2], number).result(60)
                 assert (told, settled, size) == ((turn, 2 * len(grown)), turn + 1, 2 * len(grown) + 2)
                 grown.append(number)
+                descriptors.append(opened)
+            assert len(set(descriptors)) == 1, descriptors
             # The seat is still one here, and the server ends with it.
             assert server.seats[0].grow([number, 0]) == (3, 2 * len(grown))
             grown.append(number)
