@@ -49,7 +49,7 @@ class Writer(threading.Thread):
 
     def check_rest(self):
         """Where nobody writes a reader and an opener answer the same."""
-        with cvec.open(FILE, "u64") as opened, cvec.open_to_read(FILE, "u64") as seen:
+        with cvec.File.open(FILE, "u64") as opened, cvec.File.open_to_read(FILE, "u64") as seen:
             assert bytes(opened.stat) == bytes(seen.stat), "they tell other things of the file"
             assert list(opened.read()) == list(seen.read()) == self.moments[-1], "they read other records"
 
@@ -117,12 +117,12 @@ def by_c(**meddled):
 
 
 def by_python():
-    file = cvec.open_to_read(FILE, "u64")
+    file = cvec.File.open_to_read(FILE, "u64")
 
     def look(number):
         if number % 2:
             return list(map(int, file.read()))
-        with cvec.open_to_read(FILE, "u64") as other:
+        with cvec.File.open_to_read(FILE, "u64") as other:
             return list(map(int, other.read()))
     return look
 

@@ -1,5 +1,5 @@
 #!/usr/bin/env python3
-"""examples/python/beside.py, or the module cvec_cut, reads a file while the program writes it by random commands. Each look is
+"""examples/python/beside.py, or the module cvec.cut, reads a file while the program writes it by random commands. Each look is
 compared with what the writer had said: it is the vector at a moment from the last answer before the look to the last command begun
 before its end. Most commands write piece by piece, so that looks meet each part of a frame.
 
@@ -81,8 +81,8 @@ class Cuts:
     answers is of the last of these looks."""
 
     def __init__(self):
-        import cvec_cut
-        self.module, self.cut, self.form = cvec_cut, cvec_cut.take(FILE, "u64"), beside.struct.Struct("<Q")
+        import cvec
+        self.module, self.cut, self.form = cvec.cut, cvec.cut.take(FILE, "u64"), beside.struct.Struct("<Q")
 
     def look(self):
         while True:

@@ -16,7 +16,7 @@ import sys
 import time
 
 sys.path.insert(0, os.path.join(os.path.dirname(os.path.abspath(__file__)), "..", "bindings", "python"))
-import cvec_client
+import cvec
 
 PROGRAM, FOLDER = sys.argv[1], sys.argv[2]
 RECORDS = int(sys.argv[3]) if len(sys.argv) > 3 else 1_000_000
@@ -45,7 +45,7 @@ def append(seat, client, number, end, told):
                 os.write(told, f"{n} {start}\n".encode())
             number = group[-1] + 1
         seat.end()
-    except cvec_client.Gone:
+    except cvec.Gone:
         pass
 
 
@@ -104,7 +104,7 @@ class Told:
 
 def one_server(settled, kill_after):
     """Serves all clients until each has appended its blocks, or kills the server a moment after so many blocks were told."""
-    server = cvec_client.Server(PROGRAM, "u64", PATH, seats=CLIENTS)
+    server = cvec.Server(PATH, "u64", seats=CLIENTS, program=PROGRAM)
     numbers = [len(starts) for starts in settled]
     ends = [number + EACH if kill_after is None else NEVER for number in numbers]
     clients = [start_client(server, client, numbers[client], ends[client]) for client in range(CLIENTS)]
@@ -124,7 +124,7 @@ def one_server(settled, kill_after):
 
 def check(settled):
     """The file has each settled block at its place, and only whole blocks."""
-    with cvec_client.Server(PROGRAM, "u64", PATH, seats=1) as server:
+    with cvec.Server(PATH, "u64", program=PROGRAM) as server:
         records = list(server.seats[0].read())
     assert len(records) % BLOCK == 0, "a block isn't whole"
     for at in range(0, len(records), BLOCK):
@@ -161,7 +161,7 @@ def leave(server, request):
 def is_gone(request):
     try:
         request()
-    except cvec_client.Gone:
+    except cvec.Gone:
         return True
     return False
 
@@ -170,7 +170,7 @@ def check_left_requests():
     """What a seat asks behind a request that was left isn't answered by that one's answer, and its end waits for nothing."""
     signal.signal(signal.SIGALRM, raise_late)
     create(LATE_PATH)
-    with cvec_client.Server(PROGRAM, "u64", LATE_PATH, seats=3) as server:
+    with cvec.Server(LATE_PATH, "u64", seats=3, program=PROGRAM) as server:
         settling, growing, other = server.seats
         settling.grow([5])
         growing.look()
@@ -181,7 +181,7 @@ def check_left_requests():
         other.grow([6])
         other.settle()
     signal.alarm(0)
-    with cvec_client.Server(PROGRAM, "u64", LATE_PATH) as server:
+    with cvec.Server(LATE_PATH, "u64", program=PROGRAM) as server:
         assert list(server.seats[0].read()) == [5, 6], "a request that was left has grown the vector"
     os.remove(LATE_PATH)
 

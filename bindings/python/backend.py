@@ -1,4 +1,4 @@
-"""Makes a wheel for pip (PEP 517) of the modules here, with libcvec.so beside them: that of the folder that CVEC_LIB names, and else
+"""Makes a wheel for pip (PEP 517) of the package here, with libcvec.so in it: that of the folder that CVEC_LIB names, and else
 of the repository, where `make libraries` makes it."""
 import base64
 import hashlib
@@ -7,8 +7,8 @@ import sysconfig
 import zipfile
 
 NAME, VERSION = "cvec", "1.0"
-MODULES = tuple(f"{it}.py" for it in ("cvec", "cvec_client", "cvec_cut", "cvec_dask", "cvec_frames", "cvec_records", "cvec_vector"))
 HERE = os.path.dirname(os.path.abspath(__file__))
+PACKAGE = os.path.join(HERE, NAME)
 FIRST_DATE = (1980, 1, 1, 0, 0, 0)
 
 
@@ -25,11 +25,12 @@ def _library():
 def _contents(tag):
     """The files of the wheel by their names, but for the list of them."""
     about = f"{NAME}-{VERSION}.dist-info"
-    paths = [*(os.path.join(HERE, it) for it in MODULES), _library()]
+    modules = sorted(it for it in os.listdir(PACKAGE) if it.endswith(".py") or it == "py.typed")
+    paths = [*(os.path.join(PACKAGE, it) for it in modules), _library()]
     files = {}
     for path in paths:
         with open(path, "rb") as file:
-            files[os.path.basename(path)] = file.read()
+            files[f"{NAME}/{os.path.basename(path)}"] = file.read()
     files[f"{about}/METADATA"] = (f"Metadata-Version: 2.1\nName: {NAME}\nVersion: {VERSION}\nRequires-Python: >=3.8\n"
                                   "Summary: A durable vector in a file, over the proved library for C\n").encode()
     files[f"{about}/WHEEL"] = f"Wheel-Version: 1.0\nGenerator: {NAME}\nRoot-Is-Purelib: false\nTag: {tag}\n".encode()

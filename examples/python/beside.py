@@ -1,14 +1,14 @@
 """Reads a vector beside the program that writes its file: beside.py TYPE FILE
 
 The file is mapped, and read while it changes. Each look gives the vector as it was at one moment of that look, by the rules at the
-head of bindings/python/cvec_frames.py, which walks the frames."""
+head of bindings/python/cvec/frames.py, which walks the frames."""
 import mmap
 import os
 import struct
 import sys
 
 sys.path.insert(0, os.path.join(os.path.dirname(os.path.abspath(__file__)), "..", "..", "bindings", "python"))
-from cvec_frames import CHANGE, GROUP, HEADER_BYTES, SHRINK, Fault, Tally, frames, version_of
+from cvec.frames import CHANGE, GROUP, HEADER_BYTES, SHRINK, Fault, Tally, frames, version_of
 
 TYPES = {"u8": "<B", "u16": "<H", "u32": "<I", "u64": "<Q", "i32": "<i", "i64": "<q", "f32": "<f", "f64": "<d",
          "pair": "<Qq", "flagged": "<QB", "bytes16": "16s", "bytes24": "24s", "bytes32": "32s", "bytes64": "64s"}

@@ -8,23 +8,22 @@ def records_of(path, kind):
     with cvec.Map(path, kind) as seen:
         if seen.is_plain():
             return list(seen.records()), "map"
-    with cvec.open(path, kind) as file:
-        return file.read(), "copy"
+    with cvec.File.open(path, kind) as file:
+        records = file.read()
+    return records.tolist() if hasattr(records, "tolist") else records, "copy"
 
 
-def text_of(form, record):
+def text_of(record):
     """As the program lists it, but floats as Python does."""
-    if form.is_bytes:
-        return bytes(record).hex()
-    if form.is_number:
-        return str(record if isinstance(record, (int, float)) else record.item())
-    return ":".join(str(int(it)) for it in record)
+    if isinstance(record, bytes):
+        return record.hex()
+    return ":".join(str(int(it)) for it in record) if isinstance(record, tuple) else str(record)
 
 
 def main(kind, path):
     records, way = records_of(path, kind)
     for record in records:
-        print(text_of(cvec.IN_FILE[kind], record))
+        print(text_of(record))
     print(f"by {way}", file=sys.stderr)
 
 

@@ -4,7 +4,7 @@ does the numbers that aren't there."""
 import sys
 from concurrent.futures import ThreadPoolExecutor
 
-from cvec_vector import Vector
+from cvec import Vector
 
 JOB = 20
 

@@ -7,7 +7,7 @@ import sys
 from array import array
 from concurrent.futures import ThreadPoolExecutor
 
-from cvec_vector import Vector
+from cvec import Vector
 
 SENSORS = 8
 # A sensor, a number and a value: three records of u64.

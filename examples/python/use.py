@@ -5,9 +5,9 @@ import cvec
 
 
 def main(path):
-    with cvec.create(path, "u64") as file:
+    with cvec.File.create(path, "u64") as file:
         file.append([5, 7, 11])
-    with cvec.open(path, "u64") as file:
+    with cvec.File.open(path, "u64") as file:
         file.append([13])
         copied = [int(it) for it in file.read()]
     with cvec.Map(path, "u64") as seen:

@@ -2,7 +2,7 @@
 import sys
 import threading
 
-from cvec_vector import Vector
+from cvec import Vector
 
 
 def run(vector, name, growths):
@@ -17,7 +17,7 @@ def run(vector, name, growths):
 
 def main(path, threads=4, growths=3):
     threads, growths = int(threads), int(growths)
-    with Vector.create(path, seats=threads + 1) as vector:
+    with Vector.create(path) as vector:
         running = [threading.Thread(target=run, args=(vector, name, growths)) for name in range(threads)]
         for thread in running:
             thread.start()
@@ -28,7 +28,7 @@ def main(path, threads=4, growths=3):
                 out.push(number)
         vector.settle()
         print(f"{len(vector)} records of {vector.settled()} growths")
-    with Vector.open(path, seats=1) as vector:
+    with Vector.open(path) as vector:
         print(f"{len(vector)} records, the last {vector[-1]}, in all {sum(vector)}")
 
 

@@ -5,7 +5,7 @@ import sys
 import zlib
 from concurrent.futures import ThreadPoolExecutor
 
-from cvec_vector import Vector
+from cvec import Vector
 
 
 def record_of(word, text, line):

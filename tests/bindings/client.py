@@ -1,4 +1,4 @@
-"""Follows a table of cases by cvec_client.py, as client.c does by cvec.h: client.py FILE"""
+"""Follows a table of cases by cvec.Server, as client.c does by cvec.h: client.py FILE"""
 import os
 import pathlib
 import signal
@@ -6,7 +6,7 @@ import struct
 import sys
 import threading
 
-import cvec_client
+from cvec import Gone, Refused, Server, server as servers
 from words import listed, record_of
 
 LONGEST_WAIT = 120
@@ -20,7 +20,7 @@ def seat(name):
 
 def start(program, type, path, seats):
     global server, kind
-    server, kind = cvec_client.Server(program, type, path, seats=int(seats)), type
+    server, kind = Server(path, type, seats=int(seats), program=program), type
     return "done"
 
 
@@ -44,13 +44,13 @@ def within(how):
                 raise KeyError
     except KeyError:
         return "the block's own"
-    except cvec_client.Gone as it:
+    except Gone as it:
         return f"gone: {it}"
     return "done"
 
 
 def texts():
-    return ", ".join(str(cvec_client.Refused(code)) for code in range(1, 15))
+    return "; ".join(str(servers._refusal(number)) for number in range(1, 15))
 
 
 def kill():
@@ -63,7 +63,7 @@ def leave(name):
     """Closes the pipes of a seat, behind a request whose answer nobody reads."""
     it = seat(name)
     os.close(it.answers)
-    head = struct.pack("<IIQ", cvec_client.LOOK, 0, 0)
+    head = struct.pack("<IIQ", servers.LOOK, 0, 0)
     while head:
         head = head[os.write(it.requests, head):]
     os.close(it.requests)
@@ -147,7 +147,7 @@ COMMANDS = {
     "look": lambda name: "size %d settled %d" % seat(name).look(), "leave": leave, "end": end, "kill": kill, "wait": wait,
     "sh": shell, "all": read_all, "within": within, "texts": texts, "ignoring": ignoring, "forked": forked,
     "block": block,
-    "threads": in_threads, "why": lambda: f"{last}; status {last.status}", "leave_in": leave_in, "close": close,
+    "threads": in_threads, "why": lambda: f"{last}; status {last.exit_status}", "leave_in": leave_in, "close": close,
     "serve_bytes": lambda program, type, path, seats: start(program, type, os.fsencode(path), seats),
     "serve_path": lambda program, type, path, seats: start(program, type, pathlib.Path(path), seats),
 }
@@ -157,9 +157,9 @@ def answer(word, *words):
     global last
     try:
         return COMMANDS[word](*words)
-    except cvec_client.Refused as it:
-        return f"refused {it.code}"
-    except cvec_client.Gone as it:
+    except Refused as it:
+        return f"refused {it.status - 96}"
+    except Gone as it:
         last = it
         return "gone"
     except OSError as it:

@@ -4,7 +4,7 @@ import itertools
 import os
 import sys
 
-import cvec_client
+import cvec
 from moments import is_interrupted
 
 PROGRAM, FILE = sys.argv[1:]
@@ -18,7 +18,7 @@ def opened():
 
 def is_left(leave, moment):
     """Whether Ctrl-C came as this left a server, of which each seat has grown."""
-    server = cvec_client.Server(PROGRAM, "u64", FILE, seats=SEATS)
+    server = cvec.Server(FILE, "u64", seats=SEATS, program=PROGRAM)
     servers.append(server)
     for number, seat in enumerate(server.seats):
         seat.grow([number])

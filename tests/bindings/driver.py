@@ -1,4 +1,4 @@
-"""Follows a table of cases by cvec.py, as driver.c does by cvec.h: driver.py FILE"""
+"""Follows a table of cases by cvec.File and cvec.Map, as driver.c does by cvec.h: driver.py FILE"""
 import os
 import sys
 
@@ -11,7 +11,7 @@ handles = {}
 def open_file(call, name, kind, path):
     """In the path \\xHH stands for a byte: a file is made by a text of that name, and opened by its bytes."""
     path = path.encode().decode("unicode_escape").encode("latin-1")
-    handles[name] = call(os.fsdecode(path) if call is cvec.create else path, kind), kind
+    handles[name] = call(os.fsdecode(path) if call == cvec.File.create else path, kind), kind
 
 
 def append(name, *words):
@@ -68,8 +68,8 @@ def shell(*words):
 
 
 COMMANDS = {
-    "create": lambda *words: open_file(cvec.create, *words), "open": lambda *words: open_file(cvec.open, *words),
-    "open-to-read": lambda *words: open_file(cvec.open_to_read, *words),
+    "create": lambda *words: open_file(cvec.File.create, *words), "open": lambda *words: open_file(cvec.File.open, *words),
+    "open-to-read": lambda *words: open_file(cvec.File.open_to_read, *words),
     "append": append, "read": read, "stat": lambda name: stat_text(handles[name][0].stat), "close": close,
     "frames": frames, "map": read_map, "put": put, "bytes": bytes_of, "sh": shell,
 }
@@ -80,7 +80,7 @@ def answer(word, *words):
     try:
         told = COMMANDS[word](*words)
     except cvec.Error as it:
-        return f"refused {it.status} {it}; at {it.at} cause {it.cause} found {it.found} errno {it.errno}\n"
+        return f"refused {it.status:d} {it.args[0]}; at {it.at} cause {it.cause} found {it.found} errno {it.errno}\n"
     if told is None:
         return "" if word in SILENT else "done\n"
     return told + "\n" if told or word != "sh" else ""

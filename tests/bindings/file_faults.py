@@ -1,7 +1,8 @@
-"""A test of cvec.py: what isn't a record is refused, a read ends, threads lose nothing, a forked process appends nothing, what is closed
+"""A test of cvec.File and cvec.Map: what isn't a record is refused, a read ends, threads lose nothing, a forked process appends nothing, what is closed
 is let go, and what is no file isn't mapped: file_faults.py FOLDER [plain]. With 'plain' it does so without numpy."""
 import array
 import copy
+import errno
 import fractions
 import gc
 import multiprocessing
@@ -16,8 +17,9 @@ import threading
 if sys.argv[2:] == ["plain"]:
     sys.modules["numpy"] = None
 import cvec
+from cvec.library import LIB, Fault, error_of
+from cvec.records import IN_C, IN_FILE, numpy
 
-numpy = cvec.numpy
 PATH = os.path.join(sys.argv[1], "faults.cv")
 THREADS, GROWTHS = 4, 25
 
@@ -77,11 +79,11 @@ BAD = {
 def made(kind):
     if os.path.exists(PATH):
         os.remove(PATH)
-    return cvec.create(PATH, kind)
+    return cvec.File.create(PATH, kind)
 
 
 def listed(kind):
-    with cvec.open(PATH, kind) as file:
+    with cvec.File.open(PATH, kind) as file:
         return file.read().tolist() if numpy else file.read()
 
 
@@ -104,7 +106,7 @@ def check_rows():
         assert listed(kind) == row, kind
         with cvec.Map(PATH, kind) as seen:
             assert list(seen.records()) == row, kind
-        with cvec.open(PATH, kind) as file:
+        with cvec.File.open(PATH, kind) as file:
             assert len(file.read(1)) == len(row) - 1 and len(file.read(5)) == len(file.read(0, 0)) == 0
             assert refusal_of(file.read, -1) == "a position is below 0"
     with made("flagged") as file:
@@ -145,7 +147,7 @@ def check_arrays():
     assert listed("u32") == [7, 9, 11]
     for kind, row in GOOD.items():
         with made(kind) as file:
-            file.append(array(row, dtype=cvec.IN_FILE[kind].dtype))
+            file.append(array(row, dtype=IN_FILE[kind].dtype))
             # Of tuples numpy makes an array with two dimensions.
             if not isinstance(row[0], tuple):
                 file.append(array(row, dtype=object))
@@ -164,7 +166,7 @@ def check_arrays():
                              array([(1, 2 ** 63)], dtype=[("key", "<u8"), ("value", "<u8")]), array([[1, 2], [3, 4]])])
         file.append(array([(1, 2), (3, 4)], dtype=[("key", "u1"), ("value", "i2")]))
     assert listed("pair") == [(1, 2), (3, 4)]
-    assert cvec.IN_C["flagged"].pack(flags([255, 0, 2]))[8::16] == b"\1\0\1"
+    assert IN_C["flagged"].pack(flags([255, 0, 2]))[8::16] == b"\1\0\1"
     with made("flagged") as file:
         file.append(flags([255, 0, 2]))
         with cvec.Map(PATH, "flagged") as seen:
@@ -240,7 +242,7 @@ def check_arrays_of_bytes():
 def check_reads():
     """A writer appends in each pass of a read, and it ends all the same: with the records of one moment."""
     for each in (1, 5000):
-        with made("u64") as writer, cvec.open_to_read(PATH, "u64") as reader:
+        with made("u64") as writer, cvec.File.open_to_read(PATH, "u64") as reader:
             read, passes = reader._read, []
 
             def read_behind_an_append(*words):
@@ -348,14 +350,14 @@ def refusal_of(call, *words):
     try:
         call(*words)
     except (cvec.Error, ValueError) as refusal:
-        return str(refusal)
+        return refusal.args[0]
     raise AssertionError("not refused")
 
 
 def check_closing():
     made("u64").append([5])  # nobody holds the file
     gc.collect()
-    with cvec.open(PATH, "u64") as file:
+    with cvec.File.open(PATH, "u64") as file:
         before = file.stat
         with open(PATH, "ab") as longer:
             longer.write(bytes(100))
@@ -370,13 +372,13 @@ def check_closing():
         held.clear()
         del seen
     for call in (lambda: file.append([1]), file.read, lambda: file.stat, lambda: len(file)):
-        assert refusal_of(call) == "every seat or block is taken, or there is no such handle, answer, block, hold, version or type"
+        assert refusal_of(call) == "closed"
     if os.path.exists("/proc/self/maps"):
         with open("/proc/self/maps") as maps:
             assert PATH not in maps.read(), "a map is left"
     os.remove(PATH)
-    assert refusal_of(cvec.open, PATH, "u64") == "the file can't be opened: No such file or directory"
-    assert "zero byte" in refusal_of(cvec.create, PATH + "\0x", "u64")
+    assert refusal_of(cvec.File.open, PATH, "u64") == "the file can't be opened: No such file or directory"
+    assert "zero byte" in refusal_of(cvec.File.create, PATH + "\0x", "u64")
     assert not os.path.exists(PATH)
 
 
@@ -389,22 +391,22 @@ def check_maps():
         assert refusal_of(cvec.Map, path, "u64") == "a folder, a pipe or a device has this name", path
     for path in (PATH, os.fsencode(PATH), pathlib.Path(PATH)):
         assert refusal_of(cvec.Map, path, "u64") == "the file can't be opened: No such file or directory"
-        with cvec.create(path, "u64") as file:
+        with cvec.File.create(path, "u64") as file:
             file.append([5])
-        with cvec.open(path, "u64") as file, cvec.Map(path, "u64") as seen:
+        with cvec.File.open(path, "u64") as file, cvec.Map(path, "u64") as seen:
             assert list(seen.records()) == list(file.read()) == [5], path
         os.remove(PATH)
     assert "zero byte" in refusal_of(cvec.Map, PATH + "\0x", "u64")
     with open(PATH, "wb") as file:
         file.write(CHANGED)
-    with cvec.Map(PATH, "u64") as seen, cvec.open(PATH, "u64") as file:
+    with cvec.Map(PATH, "u64") as seen, cvec.File.open(PATH, "u64") as file:
         assert not seen.is_plain() and list(file.read()) == [7]
         assert refusal_of(lambda: list(seen.pieces())) == refusal_of(lambda: list(seen.records())) == "a change is live: read a copy"
     os.remove(PATH)
-    for call in (cvec.create, cvec.open, cvec.Map):
+    for call in (cvec.File.create, cvec.File.open, cvec.Map):
         try:
             call(PATH, "i16")
-        except KeyError:
+        except ValueError:
             continue
         raise AssertionError("a type that there isn't")
     assert not os.path.exists(PATH)
@@ -436,7 +438,7 @@ def mapped_as_it_grows(there, whole, moment):
 
     with open(PATH, "wb") as file:
         file.write(there)
-    for owner, name in ((os, "fstat"), (cvec._LIB, "cvec_image_frame"), (cvec._LIB, "cvec_image_homes")):
+    for owner, name in ((os, "fstat"), (LIB, "cvec_image_frame"), (LIB, "cvec_image_homes")):
         patch(owner, name)
     try:
         with cvec.Map(PATH, "u64") as seen:
@@ -481,7 +483,7 @@ def check_maps_beside_a_writer():
             size = len(writer)
             writer.append(range(size, size + (3 if size % 2 else 3000)))
 
-    with cvec.open(PATH, "u64") as writer:
+    with cvec.File.open(PATH, "u64") as writer:
         thread = threading.Thread(target=write)
         thread.start()
         try:
@@ -499,7 +501,7 @@ def check_maps_beside_a_writer():
 
 def check_maps_that_are_closed():
     """As another thread may, in the midst of a call."""
-    library, call = cvec._LIB, cvec._LIB.cvec_image_frame
+    library, call = LIB, LIB.cvec_image_frame
     with open(PATH, "wb") as file:
         file.write(b"".join(GROWTHS_OF_TWO))
     seen, told = cvec.Map(PATH, "u64"), []
@@ -516,26 +518,70 @@ def check_maps_that_are_closed():
     os.remove(PATH)
 
 
+def check_what_is_shown():
+    with made("i32") as file:
+        file.append([-5, 7])
+        assert (file.path, file.closed, file.shape, repr(file)) == (PATH, False, (2,), f"<File {PATH!r} of i32>")
+        assert file.dtype is None if numpy is None else file.dtype == file.read().dtype == numpy.int32
+        if numpy is not None:
+            assert numpy.asarray(file).tolist() == numpy.asarray(file, dtype="i8").tolist() == [-5, 7] and numpy.asarray(file, dtype="f4").dtype == numpy.float32
+        with cvec.Map(PATH, "i32") as seen:
+            assert (seen.path, seen.closed, seen.shape, repr(seen)) == (PATH, False, (2,), f"<Map {PATH!r} of i32>")
+        assert seen.closed and repr(seen) == f"<Map {PATH!r} of i32, closed>"
+    assert file.closed and repr(file) == f"<File {PATH!r} of i32, closed>" and refusal_of(lambda: file.shape) == "closed"
+    with cvec.File.open(os.fsencode(PATH), "i32") as file, cvec.Map(pathlib.Path(PATH), "i32") as seen:
+        assert file.path == os.fsencode(PATH) and seen.path == os.fspath(pathlib.Path(PATH))
+    os.remove(PATH)
+    # What the system refused is an OSError of its kind, with the file's name.
+    for call in (cvec.File.open, cvec.File.open_to_read, cvec.Map):
+        try:
+            call(PATH)
+        except FileNotFoundError as fault:
+            assert isinstance(fault, cvec.Error) and (fault.status, fault.errno, fault.filename) == (cvec.Status.DISK_OPEN, errno.ENOENT, PATH)
+            assert str(fault) == f"the file can't be opened: No such file or directory: {PATH!r}"
+        else:
+            raise AssertionError("not refused")
+    for words in (("u64", 2), (8,), (None,)):
+        try:
+            cvec.File.create(PATH, *words)
+        except TypeError:
+            assert not os.path.exists(PATH)
+        else:
+            raise AssertionError("not refused")
+    for turn in range(3):
+        with cvec.File.open_or_create(PATH, "u16", version=2) as file:
+            assert list(file.read()) == list(range(turn)) and file.stat.version == 2
+            file.append([turn])
+    for there in (b"", bytes(5)):
+        with open(PATH, "wb") as file:
+            file.write(there)
+        cvec.File.open_or_create(PATH).close()
+    assert listed("u64") == [] and refusal_of(cvec.File.open_or_create, PATH, "u32") == "the records have another width"
+    os.remove(PATH)
+
+
 def check_versions():
     """A file is made of version 1 or 2, and of no other, of which nothing is made."""
     for version in (0, 3, -1, 257, 1.5, None):
-        assert refusal_of(cvec.create, PATH, "u64", version) == "the version isn't known", version
+        assert refusal_of(lambda: cvec.File.create(PATH, version=version)) == "the version isn't known", version
         assert not os.path.exists(PATH)
-    for words, version in (((), 1), ((1,), 1), ((2,), 2)):
-        with cvec.create(PATH, "u64", *words) as file:
+    for words, version in (({}, 1), ({"version": 1}, 1), ({"version": 2}, 2)):
+        with cvec.File.create(PATH, "u64", **words) as file:
             assert file.stat.version == version
-        with cvec.open(PATH, "u64") as file:
+        with cvec.File.open(PATH, "u64") as file:
             assert file.stat.version == version
         os.remove(PATH)
 
 
 def check_pickling():
     """A refusal is the same in another process; a pool, which would wait for ever, has that of its own."""
-    for it in (cvec.Error(5, cvec.Fault(7, 1, 2)), cvec.Error(13, cvec.Fault(at=3)), cvec.Error(35, errno=2), cvec.Error(34)):
+    its = error_of(5, fault=Fault(7, 1, 2)), error_of(13, fault=Fault(at=3)), error_of(35, "of", errno=2), error_of(34)
+    assert [(it.at, it.cause, it.found) for it in its[:2]] == [(7, 1, 2), (3, 0, 0)] and isinstance(its[2], FileNotFoundError)
+    for it in its:
         there = pickle.loads(pickle.dumps(it))
-        assert str(there) == str(it) and vars(there) == vars(it) and type(there) is cvec.Error
+        assert str(there) == str(it) and vars(there) == vars(it) and type(there) is type(it)
     with multiprocessing.Pool(1) as pool:
-        assert refusal_of(pool.apply_async(cvec.open, (PATH, "u64")).get, 20) == "the file can't be opened: No such file or directory"
+        assert refusal_of(pool.apply_async(cvec.File.open, (PATH, "u64")).get, 20) == "the file can't be opened: No such file or directory"
     with made("u64") as file:
         for make in (copy.copy, copy.deepcopy, pickle.dumps):
             try:
@@ -550,8 +596,8 @@ def check_pickling():
 
 def check_interrupts():
     """Ctrl-C comes as soon as C has the file: it is let go of, also while a traceback has what was begun."""
-    for name, make in (("cvec_file_create", cvec.create), ("cvec_file_open", cvec.open), ("cvec_file_open_to_read", cvec.open_to_read)):
-        library, call = cvec._LIB, getattr(cvec._LIB, name)
+    for name, make in (("cvec_file_create", cvec.File.create), ("cvec_file_open", cvec.File.open), ("cvec_file_open_to_read", cvec.File.open_to_read)):
+        library, call = LIB, getattr(LIB, name)
         before = len(os.listdir("/dev/fd"))
 
         def interrupted(*words):
@@ -564,7 +610,7 @@ def check_interrupts():
         except KeyboardInterrupt:
             setattr(library, name, call)
             assert len(os.listdir("/dev/fd")) == before, "a file is left"
-            cvec.open(PATH, "u64").close()
+            cvec.File.open(PATH, "u64").close()
         else:
             raise AssertionError("not interrupted")
     os.remove(PATH)
@@ -586,6 +632,7 @@ check_maps_that_grow()
 check_maps_beside_a_writer()
 check_maps_that_are_closed()
 check_versions()
+check_what_is_shown()
 check_pickling()
 check_interrupts()
 print("with numpy" if numpy else "without numpy")

@@ -1,6 +1,5 @@
 """The numbers that the bindings for Python and plain Rust have in their sources are those of types.txt and statuses.txt, and the widths
 of Python's types are those of the former. No two statuses and no two causes have one sentence: tables.py"""
-import ast
 import os
 import re
 import sys
@@ -8,8 +7,7 @@ import sys
 HERE = os.path.dirname(os.path.abspath(__file__))
 BINDINGS = os.path.join(HERE, "..", "..", "bindings")
 sys.path.insert(0, os.path.join(BINDINGS, "python"))
-import cvec_client
-import cvec_records
+from cvec import errors, records, server
 
 # What a vector never answers.
 OF_FILES = {"DONE", "NO_ROOM", "NO_FRAME", "NO_RECORD", "READ_ONLY", "AGAIN", "UNSETTLED"}
@@ -25,19 +23,6 @@ def text_of(*path):
         return file.read()
 
 
-def assigned(text, inside=None):
-    """The numbers that names get in a module, or in this class of it."""
-    body = ast.parse(text).body
-    if inside is not None:
-        body, = [it.body for it in body if isinstance(it, ast.ClassDef) and it.name == inside]
-    for it in body:
-        if not isinstance(it, ast.Assign):
-            continue
-        names, values = [part.elts if isinstance(part, ast.Tuple) else [part] for part in (it.targets[0], it.value)]
-        if all(isinstance(value, ast.Constant) for value in values):
-            yield from ((name.id, value.value) for name, value in zip(names, values))
-
-
 def upper(name):
     """NotSegment as NOT_SEGMENT."""
     return re.sub(r"(?<=[a-z])(?=[A-Z])", "_", name).upper()
@@ -51,13 +36,11 @@ for name in ("statuses.txt", "causes.txt"):
 of_clients = {name: number for name, number in statuses.items() if number >= statuses["GONE"]}
 of_vectors = {name: number for name, number in statuses.items() if name not in OF_FILES | of_clients.keys()}
 
-assert dict(assigned(text_of("python", "cvec_vector.py"), "Status")) == of_vectors
-# To a server they are numbers from 1 on.
-assert sorted(it + statuses["GONE"] for it in cvec_client.REFUSALS) == sorted(of_clients.values())[1:]
-for name in ("cvec.py", "cvec_vector.py"):
-    own = {it[1:]: number for it, number in assigned(text_of("python", name)) if it[1:] in statuses}
-    assert own and own.items() <= statuses.items(), (name, own)
-assert {it: (form.width, cvec_records.IN_C[it].width) for it, form in cvec_records.IN_FILE.items()} == {it: row[1:] for it, row in types.items()}
+assert {it.name: it.value for it in errors.Status} == {name: number for name, number in statuses.items() if name != "DONE"}
+# What a server answers are numbers from 1 on.
+sentences = {int(number): text for number, name, text in (line.split(" ", 2) for line in text_of(HERE, "statuses.txt").splitlines())}
+assert list(server._SENTENCES) == [sentences[number] for number in sorted(of_clients.values())[1:]]
+assert {it: (form.width, records.IN_C[it].width) for it, form in records.IN_FILE.items()} == {it: row[1:] for it, row in types.items()}
 
 kinds = re.findall(r"^ +(\w+) = (\d+),$", text_of("rust", "src", "error.rs"), re.M)
 never = OF_FILES - {"NO_RECORD", "READ_ONLY"} | of_clients.keys()

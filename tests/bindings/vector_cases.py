@@ -1,4 +1,4 @@
-"""Tests of cvec_vector.py: vector_cases.py FOLDER NAME [plain]. NAME is that of a test below. With 'plain' it runs without
+"""Tests of cvec.Vector: vector_cases.py FOLDER NAME [plain]. NAME is that of a test below. With 'plain' it runs without
 numpy. What a file holds is read by the reader in tests/fuzz, which shares nothing with the library."""
 import array
 import collections
@@ -28,8 +28,11 @@ import tracemalloc
 
 if sys.argv[3:] == ["plain"]:
     sys.modules["numpy"] = None
-import cvec_vector
-from cvec_vector import Error, Status, Vector, _milliseconds, numpy
+from cvec import Error, Gone, Refused, Status, Vector, errors
+from cvec.flushing import milliseconds
+from cvec.library import LIB, error_of
+from cvec.records import numpy
+from cvec.vector import Receipt
 from moments import is_interrupted
 from vector_blocks import block, places_of, records_of
 
@@ -111,7 +114,6 @@ def grows_and_reads():
     assert records() == [5, 7, 11, GREATEST, 0, 13]
     with Vector.open(PATH, seats=1) as vector:
         assert vector.grow([17]) == (0, 6, 1)
-        # The first and only seat is still the thread's that runs.
         assert list(vector) == [5, 7, 11, GREATEST, 0, 13, 17]
     assert records()[-1] == 17
     os.remove(PATH)
@@ -141,9 +143,8 @@ def indices_and_slices():
         assert list(vector) == row
         assert [list(it) for it in vector.pieces(33)] == [row[:33], row[33:66], row[66:99], row[99:]]
         has_no(ValueError, vector.pieces, 0)
-        has_no(ValueError, vector.seat().read, -1, 5)
         assert isinstance(vector[2:4], array.array if numpy is None else numpy.ndarray)
-        assert list(vector.seat().read(98, 500)) == row[98:] and len(vector.seat().read(500, 600)) == 0
+        assert list(vector[98:500]) == row[98:] and len(vector[500:600]) == 0
         # What begins to be read has an end, also where the vector grows meanwhile.
         pieces, seen = vector.pieces(33), iter(vector)
         next(pieces), next(seen)
@@ -153,7 +154,7 @@ def indices_and_slices():
 
 def a_slice_beside_a_shrink():
     """Or a position: that of the vector of one moment. The vector is to become shorter once its size was asked for."""
-    library, row = cvec_vector._LIB, list(range(100))
+    library, row = LIB, list(range(100))
     size = library.cvec_seat_size
     for at in (slice(-1, -60, -3), slice(None, None, -3), slice(80, 10, -7), slice(-1, -60, -1), slice(-60, None, 3), slice(None), -1, -30, 99):
         with Vector.create(PATH, seats=2) as vector:
@@ -222,7 +223,7 @@ def arrays():
             vector.grow(row)
         assert vector[:].dtype == numpy.uint64
         # A row is lent as it stands, but where C can't read it there.
-        lent = [it for it in good if vector.seat()._form.lend(it)[0] is it]
+        lent = [it for it in good if vector._form.lend(it)[0] is it]
         assert [id(it) for it in lent] == [id(good[0]), id(frozen)]
         with vector.appender() as out:
             out.push(numpy.uint64(GREATEST))
@@ -275,7 +276,7 @@ def rows_of_a_dtype():
         vector.grow([1])
     has_no(ValueError, Vector.open, PATH, dtype=point)
     Vector.open(PATH).close()
-    for bad in ("u4", "V12", "V264", "O", [("a", "O")], ("u8", 2), [("a", "u4"), ("b", "u8")]):
+    for bad in ("u2", "V6", "V260", "O", [("a", "O")], ("u8", 2), [("a", "u1"), ("b", "u8")]):
         has_no(ValueError, Vector.open, PATH, dtype=bad)
     # What is read is a record: numpy has a number in the machine's order of bytes, and a text without the zeros at its end.
     for good, row, bad in (("i8", [-1, 2 ** 63 - 1], numpy.uint64(1)), ("f8", [0.5, float("-inf")], numpy.float32(1)),
@@ -369,7 +370,7 @@ def width_of_file():
         return int.from_bytes(file.read(11)[9:], "little")
 
 
-def has_records_of(name, width, first, more, bad):
+def has_records_of(name, width, first, more, bad, blank=None):
     """Of this type: grown, read, opened again, searched and changed."""
     if os.path.exists(PATH):
         os.remove(PATH)
@@ -399,7 +400,17 @@ def has_records_of(name, width, first, more, bad):
         vector.fold()
         vector.resize(1)
         vector.resize(2)
-        assert list(vector) == first[:1] + [(0, False if name == "flagged" else 0) if numpy and isinstance(first[0], tuple) else 0]
+        assert list(vector) == first[:1] + [(0, False if name == "flagged" else 0) if isinstance(first[0], tuple) else 0 if blank is None else blank]
+
+
+def numbers_with_a_fraction_are_equal_by_their_values():
+    os.remove(PATH)
+    with Vector.create(PATH, "f64") as vector:
+        vector.grow([-0.0, 2.5, math.nan])
+        for record, is_there in ((0.0, True), (0, True), (2.5, True), (fractions.Fraction(5, 2), True), (3, False), ("2.5", False), (None, False), (math.nan, False)):
+            assert (record in vector) == is_there, record
+        # By their bytes they aren't.
+        assert vector.find(0.0) is None and vector.find(-0.0) == 0 and vector.count(math.nan) == 1
 
 
 def records_of_each_type():
@@ -408,21 +419,26 @@ def records_of_each_type():
     has_records_of("i64", 8, [-2 ** 63, 2 ** 63 - 1], [-1, 7, 8], [2 ** 63, -2 ** 63 - 1])
     with Vector.open(PATH, type="u64") as vector:
         assert vector[0] == 2 ** 63
-    for name in ("bytes16", "bytes24", "bytes32", "bytes64", "u8", "u16", "i32", "f32", "f64", "", None):
+    has_records_of("i32", 4, [-2 ** 31, 2 ** 31 - 1], [-1, 7, 8], [2 ** 31, -2 ** 31 - 1, 0.5])
+    has_records_of("f32", 4, [1.5, -math.inf], [0.25, 7, 8], [0.1, 2 ** 25 + 1, "a"])
+    has_records_of("f64", 8, [0.1, math.inf], [-2.5, 7, 8], [2 ** 53 + 1, None])
+    for name in ("bytes24", "bytes32", "bytes64", "u8", "u16", ""):
         has_no(ValueError, Vector.open, PATH, type=name)
     has_no(ValueError, Vector.open, PATH, dtype="i8", type="i64")
+    numbers_with_a_fraction_are_equal_by_their_values()
     if numpy is None:
-        for name in ("pair", "flagged"):
+        for name in ("pair", "flagged", "bytes16"):
             has_no(ValueError, Vector.open, PATH, type=name)
         return
+    has_records_of("bytes16", 16, [bytes(range(16)), b"b" * 16], [bytes(16), b"c" * 16, b"d" * 16], [b"c" * 15, b"c" * 17, 5, "c" * 16], bytes(16))
     has_records_of("pair", 16, [(1, -1), (2 ** 64 - 1, -2 ** 63)], [(0, 0), (7, 7), (8, 8)], [(-1, 0), (1, 2 ** 63), 5, (1, 2, 3), b"12", bytearray(2)])
     has_records_of("flagged", 9, [(1, True), (2 ** 64 - 1, False)], [(0, False), (7, True), (8, True)], [(-1, True), 5, b"12", memoryview(b"12")])
 
 
 def arrays_of_each_type():
-    for name, dtype in (("u32", "u4"), ("i64", "i8"), ("pair", [("key", "u8"), ("value", "i8")]), ("flagged", [("key", "u8"), ("flag", "?")])):
+    for name, dtype in (("u32", "u4"), ("i64", "i8"), ("i32", "i4"), ("f32", "f4"), ("f64", "f8"), ("pair", [("key", "u8"), ("value", "i8")]), ("flagged", [("key", "u8"), ("flag", "?")])):
         values = numpy.zeros(5, dtype=dtype)
-        if name in ("u32", "i64"):
+        if name not in ("pair", "flagged"):
             values[:] = [3, 1, 4, 1, 5]
         else:
             values["key"], values[values.dtype.names[1]] = [3, 1, 4, 1, 5], [1, 0, 1, 1, 0]
@@ -431,7 +447,7 @@ def arrays_of_each_type():
         with Vector.create(PATH, type=name) as vector:
             vector.grow(values)
             assert (vector[:] == values).all() and vector[:].dtype.names == values.dtype.names
-            assert (vector.seat()._form.lend(values)[0] is values) == (name in ("u32", "i64"))
+            assert (vector._form.lend(values)[0] is values) == (name not in ("pair", "flagged"))
             has_no(ValueError, vector.grow, values.reshape(5, 1))
     # Flags that are neither 0 nor 1 are true.
     form = numpy.dtype([("key", "<u8"), ("flag", "?")], align=True)
@@ -467,7 +483,7 @@ def appenders():
 
 def growths_are_interrupted():
     """Ctrl-C comes before C has grown, and as soon as it has: an appender grows by nothing twice, and growths are counted on."""
-    library, moments = cvec_vector._LIB, []
+    library, moments = LIB, []
     grow = library.cvec_seat_grow
 
     def grow_interrupted(*words):
@@ -546,8 +562,9 @@ def interrupted(library, name):
 
 def an_interrupt_comes_as_soon_as_c_has_begun():
     """The file is let go of at once, also while a traceback has what was begun. A seat of C isn't lost."""
-    library = cvec_vector._LIB
-    for name, call in (("vector_create", Vector.create), ("vector_open", Vector.open), ("seat_take", Vector.open), ("seat_size", Vector.open)):
+    library = LIB
+    for name, call in (("vector_create", Vector.create), ("vector_open", Vector.open), ("vector_open_or_create", Vector.open_or_create), ("seat_borrow", Vector.open),
+                       ("seat_size", Vector.open), ("seat_return", Vector.open)):
         interrupted(library, "cvec_" + name)
         try:
             call(PATH, seats=1)
@@ -556,15 +573,14 @@ def an_interrupt_comes_as_soon_as_c_has_begun():
         else:
             raise AssertionError(f"{name} isn't interrupted")
     with Vector.open(PATH, seats=1) as vector:
-        for number in range(3):
-            vector.fold()
-            interrupted(library, "cvec_seat_take")
-            has_no(KeyboardInterrupt, vector.grow, [number])
-            # How many growths C counts is asked for then, also by a call of the whole vector.
-            if number == 2:
-                vector.fold()
-            assert vector.grow([number]) == (number, number, 1) and vector.settled() == number
-    assert records() == [0, 1, 2]
+        interrupted(library, "cvec_seat_borrow")
+        has_no(KeyboardInterrupt, vector.grow, [0])
+        assert vector.grow([1]) == (0, 0, 1)
+        interrupted(library, "cvec_seat_return")
+        has_no(KeyboardInterrupt, vector.grow, [2])
+        assert vector.grow([3]) == (2, 2, 1)
+        vector.fold()
+    assert records() == [1, 2, 3]
 
 
 class InterruptedLock:
@@ -588,25 +604,19 @@ class InterruptedLock:
         self._interrupt()
 
 
-def seats_and_flushers_are_interrupted():
-    """As a seat is taken or closed, and as a flusher begins: no seat is lost, and the close waits for no flusher."""
+def the_turn_is_interrupted():
+    """As a call takes it, or has given it back: nobody waits for that call then, nor does the close."""
     signal.alarm(60)
     vector = Vector.create(PATH, seats=1)
-    InterruptedLock(vector, "_lock", False)
-    has_no(KeyboardInterrupt, vector.seat)
-    assert vector.grow([5]) == (0, 0, 1)
-    seat = vector.seat()
-    InterruptedLock(seat, "_gate", True)
-    has_no(KeyboardInterrupt, seat.close)
-    assert not seat.closed and seat.grow([7]) == (1, 1, 1) and vector.seat() is seat
-    InterruptedLock(seat, "_gate", False)
-    has_no(KeyboardInterrupt, seat.close)
-    assert seat.closed and refusal(seat.size) == (Status.NOT_SO, "closed") and vector.grow([11]) == (2, 2, 1)
-    for is_begin in (True, False):
-        InterruptedLock(vector, "_lock", is_begin)
-        has_no(KeyboardInterrupt, vector.run_flusher, math.inf)
+    vector.grow([5])
+    for call in (vector.fold, lambda: vector[:], vector.lent, lambda: list(vector), lambda: vector.find(5), vector.close):
+        for is_begin in (True, False):
+            InterruptedLock(vector, "_turn", is_begin)
+            has_no(KeyboardInterrupt, call)
+            if not vector.closed:
+                vector.change(0, [5])
     vector.close()
-    assert records() == [5, 7, 11]
+    assert vector.closed and records() == [5]
 
 
 def is_closed_behind(interrupt):
@@ -627,43 +637,56 @@ def a_close_is_interrupted_at_any_moment():
     signal.alarm(100)
 
     def interrupt_c(close):
-        interrupted(cvec_vector._LIB, "cvec_" + name)
+        interrupted(LIB, "cvec_vector_end")
         has_no(KeyboardInterrupt, close)
 
-    for name in ("seat_close", "vector_stop_flusher", "vector_close"):
-        is_closed_behind(interrupt_c)
+    def interrupt_before(close):
+        call = LIB.cvec_vector_end
+
+        def interrupted_before(*_):
+            LIB.cvec_vector_end = call
+            raise KeyboardInterrupt
+
+        LIB.cvec_vector_end = interrupted_before
+        has_no(KeyboardInterrupt, close)
+
+    is_closed_behind(interrupt_c)
+    is_closed_behind(interrupt_before)
     moments = 0
     while is_closed_behind(lambda close: is_interrupted(close, moments)):
         moments += 1
-    assert moments > 10
+    assert moments > 4
 
 
-def a_seat_is_left_behind(interrupt):
-    """What this answers of the close of a seat. It goes on then, or has left its place to another thread, which waits for it."""
-    with Vector.create(PATH, seats=1) as vector:
-        assert vector.grow([5]) == (0, 0, 1)
-        seat, told = vector.seat(), []
-        thread = threading.Thread(target=lambda: told.append(vector.seat(timeout=50).grow([7])))
-        thread.start()
-        while not vector._places._waiting:
-            time.sleep(0.001)
-        came = interrupt(seat.close)
-        if not seat.closed:
-            assert seat.size() == 1
-            seat.close()
-        thread.join(20)
-        assert told == [(1, 1, 1)] and vector.grow([11]) == (2, 2, 1)
-    assert records() == [5, 7, 11]
-    os.remove(PATH)
-    return came
+def grow_in_place(vector):
+    with vector.grow_into(1) as rows:
+        rows[0] = 5
 
 
-def a_close_of_a_seat_is_interrupted_at_any_moment():
+def append(vector):
+    with vector.appender(1) as out:
+        out.push(5)
+        out.push(5)
+
+
+def calls_are_interrupted_at_any_moment():
+    """Where there is one seat, the next call has it; and a call of the whole vector finds nobody inside."""
     signal.alarm(100)
-    moments = 0
-    while a_seat_is_left_behind(lambda close: is_interrupted(close, moments)):
-        moments += 1
-    assert moments > 10
+    with Vector.create(PATH, seats=1) as vector:
+        receipt = vector.grow([5])
+        seat = vector.seat()
+        for call in (lambda: vector.grow([5]), lambda: len(vector), lambda: vector[0], lambda: vector[::-1], lambda: list(vector), lambda: vector.lent(0, 1), lambda: vector.count(5),
+                     lambda: vector.find(5), lambda: vector.settle(receipt), vector.settle, vector.settled, vector.fold, lambda: vector.change(0, [5]),
+                     lambda: grow_in_place(vector), lambda: append(vector), lambda: (seat.grow([5]), seat.settle())):
+            moments = 0
+            while is_interrupted(call, moments):
+                assert vector.grow([5]).start == len(vector) - 1 and not vector._calls and not vector._passes and not vector._loans
+                moments += 1
+            assert moments > 2
+            vector.fold()
+        vector.settle()
+        assert vector.settled() == vector.grow([5]).number
+    assert set(records()) == {5}
 
 
 # ---- the whole vector
@@ -674,9 +697,9 @@ def the_whole_vector():
             return it.read()
 
     with Vector.create(PATH, seats=1) as vector:
-        seat, first = vector.seat(), vector.grow(range(6))
+        first = vector.grow(range(6))
         assert vector.change(2, [12, 13, 12]) is None
-        assert records() == [0, 1, 12, 13, 12, 5] and list(vector) == list(seat.read(0, 9)) == records()
+        assert records() == [0, 1, 12, 13, 12, 5] and list(vector) == records()
         assert [vector.count(it) for it in (12, 5, 2, GREATEST)] == [2, 1, 0, 0]
         assert [vector.find(12, it) for it in (0, 2, 3, 4, 5, 6, 2 ** 64, 2 ** 70)] == [2, 2, 4, 4] + [None] * 4
         assert (vector.find(0), vector.find(5), vector.find(2), vector.find(0, 1)) == (0, 5, None, None)
@@ -694,10 +717,10 @@ def the_whole_vector():
         vector.change(6, [])
         vector.resize(6, 7)
         assert file() == before and list(vector) == [0, 1, 12, 13, 12, 5]
-        # Growths are counted on, and those from before are settled. The seat is still the thread's.
+        # Growths are counted on, and those from before are settled.
         vector.settle(first, timeout=0)
-        assert vector.settled() == seat.settled() == 1 and vector.seat() is seat
-        second = seat.grow([6, 7])
+        assert vector.settled() == 1
+        second = vector.grow([6, 7])
         assert second == (1, 6, 2) and vector.settled() == 1
         for number in (2, GREATEST, 2 ** 64, 2 ** 64 + 1, -1, -2 ** 64):
             assert refusal(vector.settle, second._replace(number=number))[0] == Status.OUT_OF_RANGE
@@ -727,7 +750,7 @@ def the_whole_vector():
         assert vector.find(131070) == 131071 and vector.count(0) == 1
     assert records() == [8, *range(131071)]
     for call in (lambda: vector.change(0, [1]), lambda: vector.resize(1), vector.clear, vector.fold, vector.compact, lambda: vector.count(1),
-                 lambda: vector.find(1), vector.lent, lambda: vector.grow_into(1)):
+                 lambda: vector.find(1), vector.lent, vector.grow_into(1).__enter__):
         assert refusal(call) == (Status.NOT_SO, "closed")
 
 
@@ -776,15 +799,15 @@ def rows_of_the_whole_vector():
 
 def refused_memory_loses_nothing():
     """A call of the whole vector that C refuses before it has done anything: growths are counted on."""
-    library, refused = cvec_vector._LIB, [Status.MEMORY]
+    library, refused = LIB, [Status.MEMORY]
     resize = library.cvec_vector_resize
     library.cvec_vector_resize = lambda *words: refused.pop() if refused else resize(*words)
     with Vector.create(PATH, seats=2) as vector:
         first = vector.grow([5, 7])
         assert refusal(vector.resize, 1) == (Status.MEMORY, "memory was refused")
-        assert list(vector) == [5, 7] and vector.settled() == 1
+        assert list(vector) == [5, 7] and vector.settled() == 0
         second = vector.grow([9])
-        assert second == (1, 2, 1) and vector.settled() == 1
+        assert second == (1, 2, 1) and vector.settled() == 0
         vector.settle(second)
         vector.settle(first)
         assert vector.settled() == 2
@@ -793,19 +816,19 @@ def refused_memory_loses_nothing():
     assert records() == [5, 11]
 
 
-def a_call_is_interrupted_while_seats_are_closed():
+def a_call_of_the_whole_vector_is_interrupted():
     """Growths are counted on, though C counts anew."""
-    library = cvec_vector._LIB
+    library = LIB
     with Vector.create(PATH, seats=1) as vector:
         assert vector.grow([5]) == (0, 0, 1)
-        interrupted(library, "cvec_seat_close")
+        interrupted(library, "cvec_vector_fold")
         has_no(KeyboardInterrupt, vector.fold)
         assert vector.grow([7]) == (1, 1, 1) and vector.settled() == 1
         vector.settle()
         assert vector.settled() == 2
     assert records() == [5, 7]
-    # A seat of another thread isn't closed, and grows before one is taken again. Of two C has none left then.
-    for seats in (3, 2):
+    # Another thread grows before and behind it.
+    for seats in (3, 1):
         os.remove(PATH)
         goes_on, has_grown = threading.Event(), threading.Event()
         told = []
@@ -824,10 +847,9 @@ def a_call_is_interrupted_while_seats_are_closed():
             thread.start()
             has_grown.wait()
             has_grown.clear()
-            interrupted(library, "cvec_seat_close")
+            interrupted(library, "cvec_vector_fold")
             has_no(KeyboardInterrupt, vector.fold)
-            if seats == 2:
-                assert len(vector) == 2
+            assert len(vector) == 2
             goes_on.set()
             thread.join()
             told.append(vector.grow([3]))
@@ -844,7 +866,10 @@ def a_change_that_fails_breaks_it():
     _, hard = resource.getrlimit(resource.RLIMIT_FSIZE)
     resource.setrlimit(resource.RLIMIT_FSIZE, (4096, hard))
     assert refusal(vector.change, 0, [7] * 300) == (Status.DISK_WRITE, f"the file can't be written: File too large: {PATH!r}")
-    for call in (lambda: vector.grow([1]), vector.settled, lambda: vector.settle(receipt), lambda: vector[0], vector.clear, vector.fold,
+    # What was durable is.
+    vector.settle(receipt)
+    assert vector.settled() == 1
+    for call in (lambda: vector.grow([1]), vector.settle, lambda: vector[0], vector.clear, vector.fold,
                  lambda: vector.change(0, [1]), lambda: vector.resize(1), lambda: vector.count(1), lambda: vector.find(1), vector.close):
         assert refusal(call)[0] == Status.BROKEN
     resource.setrlimit(resource.RLIMIT_FSIZE, (hard, hard))
@@ -904,17 +929,21 @@ def the_whole_vector_beside_threads():
 
 def a_call_within_a_call_is_refused():
     """As one from a signal's handler, which would wait for itself."""
-    library = cvec_vector._LIB
-    size, told = library.cvec_seat_size, []
+    signal.alarm(60)
+    size, told, within = LIB.cvec_seat_size, [], []
 
     def look(*words):
-        told.extend(refusal(call)[0] for call in (vector.clear, vector.seat().close, vector.close, vector.seat().settled))
+        calls = within.pop() if within else ()
+        told.extend(refusal(call)[0] for call in calls)
         return size(*words)
 
-    library.cvec_seat_size = look
-    with Vector.create(PATH) as vector:
-        assert len(vector) == 0 and told == [Status.BUSY] * 4
-        library.cvec_seat_size = size
+    LIB.cvec_seat_size = look
+    with Vector.create(PATH, seats=2) as vector:
+        within.append((vector.close,))
+        assert len(vector) == 0 and told == [Status.BUSY]
+        within.append((vector.close, vector.clear, vector.compact, lambda: vector.resize(5)))
+        assert len(vector[:]) == 0 and told == [Status.BUSY] * 5
+        LIB.cvec_seat_size = size
         vector.grow([5])
         vector.change(0, [6])
     assert records() == [6]
@@ -1065,27 +1094,23 @@ def an_exception_goes_on_where_records_are_lent():
 def count_and_find_need_nobody_out():
     """Neither a call that another thread is in, nor what it lends, keeps them; what is grown meanwhile isn't found in place of none."""
     signal.alarm(60)
-    library = cvec_vector._LIB
-    find = library.cvec_seat_find
-    with Vector.create(PATH, seats=2) as vector:
+    find = LIB.cvec_seat_find
+    with Vector.create(PATH, seats=3) as vector:
         vector.grow([5, 7, 5])
-        seats = []
-        goes_on = threading.Event()
-        holder = threading.Thread(target=lambda: (seats.append(vector.seat()), goes_on.wait()))
+        is_inside, goes_on = threading.Event(), threading.Event()
+        holder = threading.Thread(target=lambda: vector._pass(lambda seat: (is_inside.set(), goes_on.wait())))
         holder.start()
-        while not seats:
-            time.sleep(0.001)
-        with seats[0]._gate:
-            assert (vector.count(5), vector.find(5, 1), vector.find(6), 7 in vector, 8 in vector) == (2, 2, None, True, False)
+        is_inside.wait()
+        assert (vector.count(5), vector.find(5, 1), vector.find(6), 7 in vector, 8 in vector) == (2, 2, None, True, False)
 
         def find_late(*words):
             status = find(*words)
-            seats[0].grow([9])
+            vector.grow([9])
             return status
 
-        library.cvec_seat_find = find_late
+        LIB.cvec_seat_find = find_late
         assert vector.find(8) is None and vector.find(7) == 1 and len(vector) == 5
-        library.cvec_seat_find = find
+        LIB.cvec_seat_find = find
         goes_on.set()
         holder.join()
         # As `==` has it, also of what is no record.
@@ -1101,7 +1126,7 @@ def count_and_find_need_nobody_out():
 
 def calls_of_c(names):
     """Counts the calls of these functions of C from now on."""
-    library, counts = cvec_vector._LIB, collections.Counter()
+    library, counts = LIB, collections.Counter()
 
     def counted(name, call):
         def run(*words):
@@ -1203,8 +1228,8 @@ def short_growths_are_copied_by_c():
     with Vector.create(PATH) as vector:
         for at in range(5000):
             vector.grow([at])
-        seen, see = [], vector.seat()._see
-        vector.seat()._see = lambda pieces, *words: (seen.extend(pieces), see(pieces, *words))[1]
+        seen, see = [], vector._see
+        vector._see = lambda pieces, *words: (seen.extend(pieces), see(pieces, *words))[1]
         for read, wanted in ((lambda: vector[::2], range(0, 5000, 2)), (lambda: vector[::-3], range(4999, -1, -3)), (lambda: vector, range(5000)), (lambda: reversed(vector), range(4999, -1, -1))):
             counts.clear()
             assert list(read()) == list(wanted) and sum(counts.values()) <= 5, counts
@@ -1273,11 +1298,12 @@ def records_stay_under_a_pass():
     """A call of the whole vector waits until it has ended; and what an exception within it has is lent as long as that lives."""
     signal.alarm(60)
     with Vector.create(PATH, seats=2, version=2, type="u32") as vector:
-        for at in range(0, 200000, 50000):
-            vector.grow(range(at, at + 50000))
+        for at in range(0, 200000, 10000):
+            vector.grow(range(at, at + 10000))
         form, told = vector._form, []
         fill = form.fill
-        reads = [lambda: vector[::-2], lambda: vector[::2], lambda: vector[::-3]] + ([lambda: numpy.asarray(vector, dtype="f8")] if numpy else [])
+        # The first one asks C often for pieces, which are many then.
+        reads = [lambda: vector[::30000], lambda: vector[::2], lambda: vector[::-3]] + ([lambda: numpy.asarray(vector, dtype="f8")] if numpy else [])
         for turn, read in enumerate(reads):
             changes = threading.Thread(target=lambda: (vector.change(0, [turn] * 200000), told.append(turn)))
 
@@ -1289,7 +1315,7 @@ def records_stay_under_a_pass():
                 fill(*words)
 
             form.fill = fill_late
-            assert set(read()) == (set(range(1, 200000, 2)) if turn == 0 else {turn - 1})
+            assert set(read()) == (set(range(0, 200000, 30000)) if turn == 0 else {turn - 1})
             changes.join()
             assert set(vector) == {turn}
 
@@ -1538,13 +1564,31 @@ def cycles_of_what_is_lent_are_collected():
             assert records() == list(range(5000))
 
 
+class LastGrower:
+    """Is part of a cycle with a vector, and grows it at its end."""
+
+    def __init__(self, vector):
+        self.vector, vector.grower = vector, self
+
+    def __del__(self):
+        self.vector.settle(self.vector.grow([7]))
+
+
+def a_vector_of_a_cycle_is_closed_behind_all_of_it():
+    for turn in range(3):
+        LastGrower(Vector.open_or_create(PATH, **SMALL))
+        gc.collect()
+        Vector.open(PATH, **SMALL).close()
+        assert records() == [7] * (turn + 1)
+
+
 def a_program_ends_with_what_is_lent():
     """Whatever of it lives at its end, and whoever has it: it ends well, and says nothing."""
     begin = """
 import sys, threading
 if sys.argv[2] == "plain":
     sys.modules["numpy"] = None
-from cvec_vector import Vector
+from cvec import Vector
 vector = Vector.create(sys.argv[1], seats=4, growths=1000000)
 vector.grow(range(1000))
 """
@@ -1552,7 +1596,7 @@ vector.grow(range(1000))
             "with vector.grow_into(5) as rows: rows[0] = 5", "block = vector.grow_into(5)\nrows = block.__enter__()",
             "kept = vector.lent()\ndef end(it=vector.lent()):\n    while True: vector.grow([int(it[0][5])])\nthreading.Thread(target=end, daemon=True).start()",
             "class Reader:\n    def __init__(self): self.kept, self.vector, self.me = vector.lent(), vector, self\n    def __del__(self): assert sum(self.kept[0]) == 499500\nreader = Reader()",
-            "import atexit\natexit.register(lambda kept=vector.lent(): sum(kept[0]))", "import cvec_vector\ncvec_vector.kept = vector.lent()", "def look(kept=vector.lent()): pass"]
+            "import atexit\natexit.register(lambda kept=vector.lent(): sum(kept[0]))", "import cvec.vector\ncvec.vector.kept = vector.lent()", "def look(kept=vector.lent()): pass"]
     for end in ends:
         words = [sys.executable, "-c", begin + end + "\n", PATH, "plain" if numpy is None else "with"]
         ended = subprocess.run(words, timeout=60, stderr=subprocess.PIPE, env={**os.environ, "MALLOC_PERTURB_": "165"})
@@ -1613,11 +1657,12 @@ def a_block_that_is_left_by_an_exception_is_dropped():
                 assert block.receipt is None and list(vector) == [5, *range(turn)]
             has_no((ValueError, TypeError), rows.__setitem__, 0, 8)
             if numpy is not None:
-                # It can be read as long as it lives, and is lent.
+                # It can be read as long as it lives, and is of no vector.
                 assert rows[0] == 7 and rows.sum() == 7
-                has_no(BufferError, vector.fold)
                 with vector.grow_into(1) as more:
                     more[0] = turn
+                more = None
+                vector.fold()
                 assert rows[0] == 7 and vector[-1] == turn
             else:
                 vector.grow([turn])
@@ -1660,8 +1705,9 @@ def what_is_kept_of_a_block_writes_no_record():
             except (ValueError, TypeError):
                 assert numpy is not None and isinstance(it, (numpy.flatiter, numpy.ndarray)), turn
             assert list(vector[4 * turn:]) == [5, 0, 0, 7] and joined(vector.lent(4 * turn)) == [5, 0, 0, 7]
-            # What lives of the block is lent.
-            has_no(BufferError, vector.fold)
+            # What lives of the block is memory of its own.
+            vector.fold()
+            assert list(vector[4 * turn:]) == [5, 0, 0, 7]
             # Also one under no name, where a view of it is kept.
             if numpy is not None:
                 with vector.grow_into(4) as other:
@@ -1692,46 +1738,58 @@ def a_block_is_refused_as_a_growth_is():
         with vector.grow_into(131071) as rows:
             rows[131070] = 5
         assert len(vector) == 131071 and vector[-1] == 5
+        if numpy is not None:
+            has_no(BufferError, vector.fold)
         rows = None
-        # The vector can't be had alone or closed under it, and its seat goes on.
+        # Others grow, and have the vector alone, while it is written. There is one seat, which no block keeps.
         with vector.grow_into(1) as rows:
-            for call in alone(vector):
-                has_no(BufferError, call)
             vector.grow([11])
             with vector.grow_into(1) as more:
                 more[0] = 13
+            more = None
+            vector.compact()
+            vector.change(len(vector) - 2, [12])
             rows[0] = 17
-        more = rows = None
-        assert list(vector[131071:]) == [11, 13, 17]
-        for number in range(4):
+        rows = None
+        assert list(vector[131071:]) == [12, 13, 17]
+        # Once it is grown it is lent, and what has been lent keeps a phase from its end.
+        for number in range(8):
             vector.grow([number])
-        # There is no more room. Without numpy the block is grown in the next one; an array is lent, so that it isn't.
+        with vector.grow_into(1) as rows:
+            rows[0] = 19
+        assert vector[-1] == 19
+        rows = None
+        kept = vector.lent(131071)
+        for _ in range(9):
+            try:
+                vector.grow([5])
+            except Error as refused:
+                assert refused.status == Status.FULL
+                break
+        else:
+            raise AssertionError("not refused")
         block = vector.grow_into(1)
 
         def fill():
             with block as rows:
-                rows[0] = 19
-                kept.append(rows)
+                rows[0] = 23
 
-        kept = []
-        if numpy is None:
-            fill()
-            assert vector[-1] == 19 and block.receipt == (8, len(vector) - 1, 1)
-        else:
-            assert refusal(fill)[0] == Status.FULL and kept[0][0] == 19 and block.receipt is None
-            data = kept.pop().tolist()
-            assert vector.grow(data) == (8, len(vector) - 1, 1) and vector[-1] == 19
-        # A seat that is closed grows by nothing.
-        kept.clear()
-        block = vector.grow_into(1)
-        rows = block.__enter__()
-        vector.seat().close()
-        before = len(vector)
-        assert refusal(block.__exit__, None, None, None) == (Status.NOT_SO, "closed") and len(vector) == before
+        assert refusal(fill)[0] == Status.FULL and block.receipt is None
+        kept = None
         with vector.grow_into(1) as rows:
-            rows[0] = 23
-        assert vector[-1] == 23
-        del rows
+            rows[0] = 29
+        assert vector[-1] == 29
+        rows = None
+    # One that is written where the vector is closed is no growth, and its memory is there as long as the array is.
+    vector = Vector.open(PATH)
+    block, before = vector.grow_into(1), len(vector)
+    rows = block.__enter__()
+    rows[0] = 31
+    vector.close()
+    assert refusal(block.__exit__, None, None, None) == (Status.NOT_SO, "closed")
+    assert numpy is None or rows[0] == 31
+    assert len(records()) == before
+    del rows
     if numpy is not None:
         with Vector.create(PATH + "2", type="flagged") as vector:
             for flag, is_record in ((1, True), (2, False), (0, True)):
@@ -1767,9 +1825,9 @@ def is_a_growth_or_none(vector, interrupt):
 def blocks_are_interrupted():
     """Ctrl-C comes at any moment of a growth in place, or as soon as C has made a call for it."""
     signal.alarm(100)
-    library, moments = cvec_vector._LIB, 0
+    library, moments = LIB, 0
     with Vector.create(PATH, seats=1) as vector:
-        for name in ("block", "publish"):
+        for name in ("block", "detach", "attach", "publish"):
             def interrupt_c(fill):
                 interrupted(library, "cvec_seat_" + name)
                 has_no(KeyboardInterrupt, fill)
@@ -1779,14 +1837,6 @@ def blocks_are_interrupted():
         while is_a_growth_or_none(vector, lambda fill: is_interrupted(fill, moments)):
             moments += 1
         assert moments > 10
-        # So does one that is behind a block which was dropped.
-        with contextlib.suppress(KeyError):
-            with vector.grow_into(1) as rows:
-                raise KeyError
-        rows = None
-        interrupted(library, "cvec_seat_drop")
-        has_no(KeyboardInterrupt, vector.grow_into(1).__enter__)
-        assert is_a_growth_or_none(vector, lambda fill: fill()) is None
         vector.fold()
 
 
@@ -1821,26 +1871,25 @@ def threads_grow_in_place():
 MOST_GROWTHS = 1048568
 
 
-def grow_often(seat, first, count):
-    """So many growths by the seat, of one record each, made by a loop in C (tests/bindings/often.c)."""
+def grow_often(vector, first, count):
+    """So many growths of one record each, made by a loop in C (tests/bindings/often.c)."""
     often = ctypes.CDLL(os.environ["OFTEN"])
-    status = often.grow_often(cvec_vector._LIB.cvec_seat_grow, seat._handle, ctypes.c_uint64(first), ctypes.c_uint64(count))
+    status = vector._run(lambda seat: often.grow_often(LIB.cvec_seat_grow, seat, ctypes.c_uint64(first), ctypes.c_uint64(count)))
     assert status == 0
 
 
 def a_full_phase_goes_on():
     with Vector.create(PATH, seats=1, growths=MOST_GROWTHS) as vector:
-        first, seat = vector.grow([0]), vector.seat()
-        grow_often(seat, 1, MOST_GROWTHS - 2)
+        first = vector.grow([0])
+        grow_often(vector, 1, MOST_GROWTHS - 2)
         last = vector.grow([MOST_GROWTHS - 1])
         assert last == (MOST_GROWTHS - 1, MOST_GROWTHS - 1, 1) and vector.settled() == 0
         behind = vector.grow([MOST_GROWTHS])
         assert behind == (MOST_GROWTHS, MOST_GROWTHS, 1)
         # All from before is settled, and what is behind it isn't yet.
-        assert vector.settled() == MOST_GROWTHS and vector.seat() is seat
+        assert vector.settled() == MOST_GROWTHS
         for receipt in (first, last):
             vector.settle(receipt, timeout=0)
-            seat.settle(receipt)
         assert vector.settled() == MOST_GROWTHS
         assert refusal(vector.settle, behind._replace(number=MOST_GROWTHS + 1))[0] == Status.OUT_OF_RANGE
         vector.settle()
@@ -1853,8 +1902,7 @@ def threads_fill_phases():
         refused, each = [], 1_200_000 // threads
 
         def run(vector, name):
-            vector.settled()
-            grow_often(vector.seat(), name << 32, each)
+            grow_often(vector, name << 32, each)
 
         with Vector.create(PATH, seats=threads, growths=MOST_GROWTHS) as vector:
             flusher = begin_flusher(vector, refused)
@@ -1882,14 +1930,12 @@ def phases_end_beside_threads():
                 assert vector.settled() > receipt.number
 
     with Vector.create(PATH, seats=THREADS, growths=MOST_GROWTHS) as vector:
-        vector.settled()
-        grow_often(vector.seat(), 0, before)
-        vector.seat().close()
+        grow_often(vector, 0, before)
         run_all([lambda name=name: run(vector, name) for name in range(THREADS)])
         assert [numbers[at] for at in sorted(numbers)] == list(range(before, before + 100 * THREADS))
         gc.collect()
         for number in numbers.values():
-            vector.settle(cvec_vector.Receipt(number, 0, 1))
+            vector.settle(Receipt(number, 0, 1))
         assert vector.settled() == before + 100 * THREADS
     found = records()
     assert found[:before] == list(range(before))
@@ -1912,7 +1958,7 @@ def random_calls_beside_threads():
         by = random.Random(seed + name)
         calls = (lambda: receipts.append(vector.grow([name] * by.randrange(1, 5))),
                  lambda: vector.settle(by.choice(receipts), by.choice((None, 5))) if receipts else None,
-                 vector.settle, vector.settled, lambda: vector.seat().close(), lambda: len(vector), vector.fold,
+                 vector.settle, vector.settled, lambda: vector[::2], lambda: len(vector), vector.fold,
                  lambda: vector.count(5), lambda: vector.find(9), lambda: make(Status.OUT_OF_RANGE, vector.change, 0, [1]),
                  lambda: make(Status.UNFOLDED, vector.clear))
         for call in by.choices(calls, (12, 3, *[1] * 9), k=300):
@@ -1941,33 +1987,18 @@ def each_refusal():
     receipt = vector.grow([1] * 131071)
     assert refusal(vector.settle, receipt._replace(number=1))[0] == Status.OUT_OF_RANGE
     has_no(IndexError, lambda: vector[131071])
-    seat = vector.seat()
-    seat.close()
-    seat.close()
-    for call in (seat.settle, seat.settled, seat.size, lambda: seat.grow([1]), lambda: seat.read(0, 1)):
-        assert refusal(call) == (Status.NOT_SO, "closed")
-    # The thread has another, of which what it grew is still known. Another thread has none while this one has the last.
     vector.settle()
     assert vector.settled() == 1
-    refused = []
-
-    def ask():
-        refused.append(refusal(vector.settled))
-
-    run_all([ask])
-    assert refused == [(Status.NOT_SO, "every seat or block is taken, or there is no such handle, answer, block, hold, version or type")]
-    # Whoever closes one leaves it to another, and growths are counted on.
+    # Another thread calls by the same seat.
     for _ in range(3):
-        vector.seat().close()
         run_all([lambda: vector.settle(vector.grow([3]))])
     vector.settle(receipt)
     vector.grow([3])
-    vector.seat().close()
     vector.settle()
     assert vector.settled() == 5 and len(vector) == 131075
     vector.close()
     vector.close()
-    for call in (vector.settled, vector.settle, vector.seat, lambda: vector[0], lambda: vector.grow([1]), lambda: len(vector)):
+    for call in (vector.settled, vector.settle, vector.lent, lambda: vector[0], lambda: vector.grow([1]), lambda: len(vector)):
         assert refusal(call) == (Status.NOT_SO, "closed")
     assert refusal(Vector.create, PATH) == (Status.EXISTS, "something is there already")
     assert records() == [1] * 131071 + [3] * 4
@@ -1987,11 +2018,12 @@ def each_refusal():
 def each_status_has_the_sentence_of_c():
     with open(os.path.join(os.path.dirname(os.path.abspath(__file__)), "statuses.txt")) as lines:
         told = {int(number): text.rstrip("\n") for number, _, text in (line.split(" ", 2) for line in lines)}
-    assert {int(it) for it in Status} == {it for it in told if it < 96} - {0, 11, 12, 13, 42, 65, 70}
+    assert {int(it) for it in Status} == told.keys() - {0}
     for it in Status:
-        assert str(Error(it)) == told[it] and str(Error(it, errno=2)) == told[it] + ": No such file or directory"
-        assert Error(int(it)).status is it
-    assert str(Error(999)) == "an unknown status" and Error(999).status == 999
+        refused, of_system = error_of(it), it in errors.OF_SYSTEM
+        assert refused.args[0].startswith(told[it]) and refused.status is it and isinstance(refused, OSError) == of_system
+        assert of_system or str(refused) == told[it]
+    assert str(error_of(999)) == "an unknown status" and error_of(999).status == 999
 
 
 def what_the_system_refused_is_an_os_error():
@@ -2016,7 +2048,7 @@ def what_the_system_refused_is_an_os_error():
         else:
             raise AssertionError("not refused")
     # As a user who isn't root has it.
-    library = cvec_vector._LIB
+    library = LIB
     begin = library.cvec_vector_open
 
     def open_denied(*words):
@@ -2055,30 +2087,28 @@ def a_vector_shows_what_it_is():
     assert vector.closed and vector.path == PATH and repr(vector) == f"<Vector {PATH!r} of u32, closed>"
     assert refusal(lambda: vector.shape) == (Status.NOT_SO, "closed")
     with Vector.open(pathlib.Path(PATH), type="u32") as vector, Vector.create(os.fsencode(PATH + "2")) as other:
-        assert vector.path == PATH and other.path == os.fsencode(PATH + "2")
-        # A thread that only looks has no seat for it.
-        run_all([lambda: (repr(vector), vector.closed, vector.dtype)])
-        assert len(vector._seats) == 1
+        assert vector.path == os.fspath(pathlib.Path(PATH)) and other.path == os.fsencode(PATH + "2")
     if numpy is not None:
         with Vector.create(PATH + "3", dtype=POINT) as vector:
             assert vector.dtype == POINT == vector[:].dtype and repr(vector) == f"<Vector {PATH + '3'!r} of {numpy.dtype(POINT)}>"
             has_no(ValueError, Vector.create, PATH + "4", dtype="u64")
-    # A type in the place of the seats.
+            has_no(ValueError, Vector.create, PATH + "4", "u32", dtype=POINT)
+    # What is no type says what is wanted.
     for begin in (Vector.create, Vector.open, Vector.open_or_create):
-        try:
-            begin(PATH + "4", "u64")
-        except TypeError as fault:
-            assert "type='u64'" in str(fault)
-        else:
-            raise AssertionError("not refused")
+        for word in (8, int, None) + ((numpy.dtype("u8"),) if numpy else ()):
+            try:
+                begin(PATH + "4", word)
+            except TypeError as fault:
+                assert "'u64'" in str(fault) and "dtype=" in str(fault)
+            else:
+                raise AssertionError("not refused")
     assert not os.path.exists(PATH + "4")
 
 
 def a_vector_is_opened_or_created():
-    library = cvec_vector._LIB
     for turn in range(3):
-        with Vector.open_or_create(PATH, 2, version=2, growths=100) as vector:
-            assert list(vector) == list(range(turn)) and vector._limit == 2
+        with Vector.open_or_create(PATH, version=2, seats=2, growths=100) as vector:
+            assert list(vector) == list(range(turn))
             assert refusal(Vector.open_or_create, PATH)[0] == Status.IN_USE
             vector.grow([turn])
     with open(PATH, "rb") as file:
@@ -2094,30 +2124,19 @@ def a_vector_is_opened_or_created():
             assert refusal(Vector.open_or_create, PATH)[0] == status
             with open(PATH, "rb") as file:
                 assert file.read() == there
-    # Another makes it, once it wasn't found.
-    os.remove(PATH)
-    create = library.cvec_vector_create
-
-    def create_late(*words):
-        library.cvec_vector_create = create
-        with Vector.create(PATH) as other:
-            other.grow([7])
-        return create(*words)
-
-    library.cvec_vector_create = create_late
-    with Vector.open_or_create(PATH) as vector:
-        assert list(vector) == [7]
 
 
 def a_refusal_goes_to_another_process():
     """Each as it is; and a pool, which would wait for ever, has that of its process."""
-    its = [Error(Status.BUSY), Error(Status.DISK_OPEN, errno=errno.ENOENT), Error(99), Error(Status.NOT_SO, "closed")]
-    for kind in (cvec_vector.FileError, cvec_vector.MissingFileError, cvec_vector.DeniedFileError):
-        its.append(kind(Status.DISK_WRITE, errno=errno.ENOSPC, filename=b"of"))
+    its = [error_of(Status.BUSY), Error(Status.DISK_OPEN, "it", errno.ENOENT), error_of(99), Error(Status.NOT_SO, "closed")]
+    its += [Refused(Status.REFUSED_FULL, "full"), Gone("it has ended", -9)]
+    for kind in (errors.FileError, errors.MissingFileError, errors.DeniedFileError):
+        its.append(kind(Status.DISK_WRITE, "it", errno.ENOSPC, b"of"))
     for it in its:
         for there in (copy.copy(it), *(pickle.loads(pickle.dumps(it, protocol)) for protocol in range(pickle.HIGHEST_PROTOCOL + 1))):
             assert (type(there), there.status, there.errno, str(there)) == (type(it), it.status, it.errno, str(it))
-            assert [getattr(there, name, None) for name in ("filename", "strerror")] == [getattr(it, name, None) for name in ("filename", "strerror")]
+            for name in ("filename", "strerror", "exit_status", "at"):
+                assert getattr(there, name, None) == getattr(it, name, None), name
     with multiprocessing.Pool(1) as pool:
         told = pool.apply_async(Vector.open, (PATH,))
         assert refusal(told.get, 20) == (Status.DISK_OPEN, f"the file can't be opened: No such file or directory: {PATH!r}")
@@ -2163,116 +2182,82 @@ def threads_grow_whole_blocks():
     assert places_of(records()) == told
 
 
-def a_seat_goes_to_the_next_thread():
-    """Two seats serve 40 threads, two at a time; a third at a time is refused."""
-    with Vector.create(PATH, seats=2) as vector:
-        for name in range(0, 40, 2):
-            run_all([lambda name=name: vector.grow([name]), lambda name=name: vector.grow([name + 1])])
-        vector.grow([40])
-        asked, goes_on = threading.Event(), threading.Event()
-
-        def hold():
-            vector.settled()
-            asked.set()
-            goes_on.wait()
-
-        thread = threading.Thread(target=hold)
-        thread.start()
-        asked.wait()
-        try:
-            run_all([vector.settled])
-            raise AssertionError("a third seat")
-        except Error as fault:
-            assert fault.status == Status.NOT_SO and str(fault) == "every seat or block is taken, or there is no such handle, answer, block, hold, version or type"
-        goes_on.set()
-        thread.join()
-    assert sorted(records()) == list(range(41))
+def more_threads_than_seats_work():
+    """40 threads at a time by two seats, and by one: a call waits for one."""
+    for seats in (2, 1):
+        with Vector.create(PATH, seats=seats) as vector:
+            begun = threading.Barrier(40)
+            run_all([lambda name=name: (begun.wait(), [vector.grow([5 * name + turn]) for turn in range(5)], len(vector)) for name in range(40)])
+        assert sorted(records()) == list(range(200))
+        os.remove(PATH)
 
 
-def a_seat_is_waited_for():
-    """No longer than is asked; who has waited has the seat that a thread leaves by its end or its close; a close ends the wait."""
+class Holder(threading.Thread):
+    """Is inside a call by a seat of the vector until it is let go."""
+
+    def __init__(self, vector):
+        self.inside, self.goes_on = threading.Event(), threading.Event()
+        super().__init__(target=lambda: vector._run(lambda seat: (self.inside.set(), self.goes_on.wait())))
+        self.start()
+        self.inside.wait()
+
+    def let_go(self):
+        self.goes_on.set()
+        self.join()
+
+
+def seconds_to_an_interrupt(call):
+    """How long Ctrl-C takes, which comes after a while, to end this call."""
+    signal.signal(signal.SIGINT, signal.default_int_handler)
+    sent = []
+    threading.Timer(0.3, lambda: (sent.append(time.monotonic()), os.kill(os.getpid(), signal.SIGINT))).start()
+    has_no(KeyboardInterrupt, call)
+    return time.monotonic() - sent[0]
+
+
+def an_interrupt_ends_a_wait_for_a_seat():
+    signal.alarm(60)
     with Vector.create(PATH, seats=1) as vector:
-        vector.grow([0])
-        goes_on, holds, told = threading.Event(), threading.Event(), []
-
-        def ask(timeout):
-            begun = time.monotonic()
-            try:
-                told.append(vector.seat(timeout=timeout).grow([1]).number)
-            except Error as fault:
-                told.append(fault.status)
-            told.append(time.monotonic() - begun)
-
-        run_all([lambda: ask(None)])
-        assert told[0] == Status.NOT_SO
-        for timeout in (0, 0.05):
-            told.clear()
-            run_all([lambda: ask(timeout)])
-            assert told[0] == Status.LATE and timeout <= told[1] < 5
-        has_no(ValueError, vector.seat, -1)
-        assert vector.seat(timeout=0) is vector.seat()
-        told.clear()
-        thread = threading.Thread(target=ask, args=(math.inf,))
-        thread.start()
-        while not vector._places._waiting:
-            time.sleep(0.001)
-        vector.seat().close()
-        thread.join()
-        assert told[0] == 1
-        holder = threading.Thread(target=lambda: (vector.grow([2]), holds.set(), goes_on.wait()))
-        holder.start()
-        holds.wait()
-        told.clear()
-        thread = threading.Thread(target=ask, args=(60,))
-        thread.start()
-        while not vector._places._waiting:
-            time.sleep(0.001)
-        vector.close()
-        thread.join()
-        goes_on.set()
-        holder.join()
-        assert told[0] == Status.NOT_SO
+        for call in (lambda: vector.grow([5]), lambda: len(vector), lambda: vector[::2], lambda: vector.count(5), vector.lent):
+            holder = Holder(vector)
+            assert seconds_to_an_interrupt(call) < 5
+            holder.let_go()
+            vector.grow([7])
+            vector.fold()
+    assert set(records()) == {7}
 
 
-def a_pool_works_by_fewer_seats():
-    """200 threads by 64 seats: some leave theirs by a close, others by their end."""
-    def run(vector, name):
-        for turn in range(5):
-            seat = vector.seat(timeout=60)
-            seat.grow([name * 5 + turn])
-            if name % 2 == 0 or turn < 4:
-                seat.close()
+def a_close_ends_a_wait_for_a_seat():
+    """And waits itself for the call that has the seat."""
+    vector, told = Vector.create(PATH, seats=1), []
+    holder = Holder(vector)
+    waiting = threading.Thread(target=lambda: told.append(refusal(vector.grow, [5])))
+    closing = threading.Thread(target=lambda: (vector.close(), told.append("closed")))
+    waiting.start()
+    time.sleep(0.05)
+    closing.start()
+    waiting.join()
+    assert told == [(Status.NOT_SO, "closed")]
+    holder.let_go()
+    closing.join()
+    assert told[1:] == ["closed"] and records() == []
 
+
+def a_seat_settles_its_own_growths():
     with Vector.create(PATH) as vector:
-        run_all([lambda name=name: run(vector, name) for name in range(200)])
-    assert sorted(records()) == list(range(1000))
-
-
-def another_thread_by_the_same_seat_is_refused():
-    """A thread waits for the device again and again, and another calls by its seat meanwhile: then the call lets it run."""
-    seats, busy, asked, end = [], threading.Event(), threading.Event(), time.monotonic() + 20
-
-    def settle():
-        seats.append(vector.seat())
-        while not busy.is_set() and time.monotonic() < end:
-            try:
-                seats[0].settle(seats[0].grow([1]))
-            except Error as fault:
-                assert fault.status == Status.BUSY
-            asked.set()
-
-    def ask():
-        asked.wait()
-        while not busy.is_set() and time.monotonic() < end:
-            try:
-                seats[0].size()
-            except Error as fault:
-                assert fault.status == Status.BUSY
-                busy.set()
-
-    with Vector.create(PATH) as vector:
-        run_all([settle, ask])
-    assert busy.is_set() and set(records()) == {1}
+        seat, other = vector.seat(), vector.seat()
+        seat.settle()
+        assert vector.settled() == 0
+        first, second = seat.grow([5]), other.grow([7, 11])
+        assert (first, second) == ((0, 0, 1), (1, 1, 2))
+        seat.settle(timeout=0)
+        assert 1 <= vector.settled() <= 2
+        for it in (seat, other):
+            has_no(ValueError, it.settle, -1)
+        other.settle()
+        assert vector.settled() == 2 and refusal(seat.grow, [])[0] == Status.EMPTY
+        seat.settle()
+    assert refusal(seat.grow, [1]) == (Status.NOT_SO, "closed") and records() == [5, 7, 11]
 
 
 def a_call_lets_other_threads_run():
@@ -2327,7 +2312,7 @@ def a_program_ends_beside_a_thread():
     """A thread that nobody waits for is inside a call when the program ends."""
     text = """
 import threading, sys
-from cvec_vector import Vector
+from cvec import Vector
 vector = Vector.create(sys.argv[1])
 begun = threading.Event()
 def run():
@@ -2355,11 +2340,13 @@ def a_wait_has_a_deadline():
         while not os.path.exists(gate + ".held"):
             time.sleep(0.001)
         second = vector.grow([7])
-        for settle in (vector.settle, vector.seat().settle):
-            for words in ((None, 0), (None, 0.01), (first, 0.002), (second, 0)):
-                assert refusal(settle, *words)[0] == Status.LATE
-            for timeout in (-1, -0.001, math.nan):
-                has_no(ValueError, settle, second, timeout)
+        for words in ((None, 0), (None, 0.01), (first, 0.002), (second, 0), (second, 0.25)):
+            begun = time.monotonic()
+            assert refusal(vector.settle, *words)[0] == Status.LATE and words[1] <= time.monotonic() - begun < words[1] + 5
+        for timeout in (-1, -0.001, math.nan):
+            has_no(ValueError, vector.settle, second, timeout)
+        for call in (vector.settle, lambda: vector.settle(second), lambda: vector.settle(first, 50)):
+            assert seconds_to_an_interrupt(call) < 5
         assert vector.settled() == 0
         os.remove(gate)
         thread.join()
@@ -2369,7 +2356,7 @@ def a_wait_has_a_deadline():
         vector.settle(timeout=0)  # nobody commits: it does
         assert vector.settled() == 3
     assert records() == [5, 7, 11]
-    assert [_milliseconds(it) for it in (0, 0.0001, 1.5, 3, 1e30)] == [0, 1, 1500, 3000, 2 ** 60]
+    assert [milliseconds(it) for it in (0, 0.0001, 1.5, 3, 1e30)] == [0, 1, 1500, 3000, 2 ** 60]
 
 
 def a_flusher_commits_what_nobody_settles():
@@ -2502,7 +2489,7 @@ def a_program_ends_beside_flushers():
     """However its main thread ends: what was grown is durable, and a flusher goes on as long as another thread works."""
     begin = """
 import ctypes, sys, threading, time
-from cvec_vector import Vector
+from cvec import Vector
 vector = Vector.create(sys.argv[1])
 ctypes.pythonapi.Py_IncRef(ctypes.py_object(vector))  # its own end commits nothing
 vector.grow([5])
@@ -2577,31 +2564,27 @@ def a_forked_process_leaves_the_block_of_a_flusher():
     assert records() == [5, 7]
 
 
-def a_close_waits_for_a_flusher_that_is_late():
-    """One that has begun, and comes to the library when the close has begun too."""
-    library, order, begun, closed = cvec_vector._LIB, [], threading.Event(), threading.Event()
-    run, close = library.cvec_vector_flush, library.cvec_vector_close
+def a_flusher_may_be_late():
+    """One that has begun, and comes to the library when the vector is closed: it ends, and has nothing to commit."""
+    flush, begun, closed, told = LIB.cvec_vector_flush, threading.Event(), threading.Event(), []
 
-    def run_late(*words):
+    def flush_late(*words):
         begun.set()
-        closed.wait(0.3)
-        status = run(*words)
-        order.append("flusher")
-        return status
+        closed.wait()
+        told.append(flush(*words))
+        return told[0]
 
-    def close_noted(*words):
-        order.append("close")
-        closed.set()
-        return close(*words)
-
-    library.cvec_vector_flush, library.cvec_vector_close = run_late, close_noted
+    LIB.cvec_vector_flush = flush_late
     vector = Vector.create(PATH)
     thread = threading.Thread(target=vector.run_flusher, args=(math.inf,))
     thread.start()
     begun.wait()
+    vector.grow([5])
     vector.close()
+    Vector.open(PATH).close()
+    closed.set()
     thread.join()
-    assert order == ["flusher", "close"]
+    assert told == [Status.NOT_SO] and records() == [5]
 
 
 # ---- a process that is forked, and a device that is full
@@ -2611,13 +2594,13 @@ def a_forked_process_is_refused():
     vector = Vector.create(PATH, seats=2)
     seat = vector.seat()
     seat.grow([5])
-    vector._lock.acquire()  # as a thread that has it at the fork
+    vector._turn.acquire()  # as a thread that has it at the fork
     child = os.fork()
     if child == 0:
         signal.alarm(20)
-        calls = (vector.seat, vector.settle, vector.settled, lambda: vector.run_flusher(1), vector.flusher(1).__enter__, vector.stop_flusher, lambda: vector.grow([6]), lambda: len(vector), lambda: vector[0],
-                 seat.settle, seat.size, lambda: seat.grow([7]), seat.close, vector.clear, vector.fold, lambda: vector.change(0, [1]),
-                 lambda: vector.resize(0), lambda: vector.count(5), lambda: vector.find(5), vector.compact, vector.lent, lambda: vector.grow_into(1))
+        calls = (vector.settle, vector.settled, lambda: vector.run_flusher(1), vector.flusher(1).__enter__, vector.stop_flusher, lambda: vector.grow([6]), lambda: len(vector), lambda: vector[0],
+                 seat.settle, lambda: seat.grow([7]), lambda: vector[0:1], lambda: list(vector), vector.clear, vector.fold, lambda: vector.change(0, [1]),
+                 lambda: vector.resize(0), lambda: vector.count(5), lambda: vector.find(5), vector.compact, vector.lent, vector.grow_into(1).__enter__)
         refused = all(refusal(call)[0] == Status.FORKED for call in calls)
         vector.close()
         vector.close()
@@ -2626,7 +2609,7 @@ def a_forked_process_is_refused():
         os.read(goes_on[0], 1)
         os._exit(0)
     os.close(told[1])
-    vector._lock.release()
+    vector._turn.release()
     assert os.read(told[0], 1) == b"1", "a forked process isn't refused"
     vector.grow([8])
     vector.close()
@@ -2646,28 +2629,22 @@ def a_forked_process_with_its_parents_number_is_refused():
 
 
 def a_close_that_is_interrupted_is_made_again():
-    """Ctrl-C comes while it waits for a flusher."""
-    library, begun, goes_on = cvec_vector._LIB, threading.Event(), threading.Event()
-    run = library.cvec_vector_flush
-
-    def run_late(*words):
-        begun.set()
-        goes_on.wait()
-        return run(*words)
-
-    library.cvec_vector_flush = run_late
-    signal.signal(signal.SIGINT, signal.default_int_handler)
+    """Ctrl-C comes while it waits for a pass over the records, and for who has the whole vector."""
+    signal.alarm(60)
     vector = Vector.create(PATH)
     vector.grow([5])
-    thread = threading.Thread(target=vector.run_flusher, args=(math.inf,))
-    thread.start()
-    begun.wait()
-    threading.Timer(0.3, os.kill, (os.getpid(), signal.SIGINT)).start()
-    has_no(KeyboardInterrupt, vector.close)
-    assert refusal(Vector.open, PATH)[0] == Status.IN_USE
-    goes_on.set()
+    inside, goes_on = threading.Event(), threading.Event()
+    for hold in (lambda: vector._pass(lambda seat: (inside.set(), goes_on.wait())), lambda: vector._whole(lambda at: (inside.set(), goes_on.wait(), 0)[2])):
+        inside.clear()
+        goes_on.clear()
+        thread = threading.Thread(target=hold)
+        thread.start()
+        inside.wait()
+        assert seconds_to_an_interrupt(vector.close) < 5
+        assert not vector.closed and refusal(Vector.open, PATH)[0] == Status.IN_USE
+        goes_on.set()
+        thread.join()
     vector.close()
-    thread.join()
     with Vector.open(PATH) as again:
         assert list(again) == [5]
 

@@ -4,7 +4,7 @@ import os
 import sys
 
 sys.modules["numpy"] = None  # it begins so often
-from cvec_vector import Vector
+from cvec import Vector
 
 
 def told(step):

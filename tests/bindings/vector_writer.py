@@ -4,7 +4,7 @@ import os
 import sys
 import threading
 
-from cvec_vector import Error, Status, Vector
+from cvec import Error, Status, Vector
 from vector_blocks import block
 
 

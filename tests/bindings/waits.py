@@ -4,7 +4,7 @@ With `leaves` a SIGINT is the exception that ends a block of `with` while it gro
 import signal
 import sys
 
-import cvec_client
+import cvec
 
 COUNT = 200
 
@@ -16,7 +16,7 @@ def tell(text):
 def settle(*_):
     try:
         tell(f"settled {seat.settle()}")
-    except cvec_client.Gone as gone:
+    except cvec.Gone as gone:
         tell(str(gone))
     seat.end()
     tell(f"ended {server.wait()}")
@@ -27,7 +27,7 @@ def grow_until_left(program, path):
     signal.signal(signal.SIGINT, signal.default_int_handler)
     grown = 0
     try:
-        with cvec_client.Server(program, "u64", path) as server:
+        with cvec.Server(path, "u64", program=program) as server:
             while True:
                 server.seats[0].grow([grown])
                 grown += 1
@@ -43,7 +43,7 @@ if how == ["leaves"]:
     grow_until_left(program, path)
     sys.exit()
 signal.signal(signal.SIGINT, settle)
-server = cvec_client.Server(program, "u64", path)
+server = cvec.Server(path, "u64", program=program)
 seat = server.seats[0]
 for record in range(COUNT):
     seat.grow([record])

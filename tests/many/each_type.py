@@ -11,7 +11,7 @@ import sys
 
 TOP = os.path.join(os.path.dirname(os.path.abspath(__file__)), "..", "..")
 sys.path.insert(0, os.path.join(TOP, "bindings", "python"))
-import cvec_cut
+import cvec
 
 FOLDER, PROGRAM = map(os.path.abspath, sys.argv[1:3])
 # Of each type records as the program has them, and the bytes of each.
@@ -73,15 +73,15 @@ def main():
     for kind in RECORDS:
         pick = random.Random(kind)
         file = File(kind, os.path.join(FOLDER, f"{kind}.cv"), pick.choice([1, 2]))
-        cut = cvec_cut.take(file.path, kind)
+        cut = cvec.cut.take(file.path, kind)
         for step in steps_of(file, pick):
             step()
             try:
-                cut = cvec_cut.refreshed(cut)
-            except cvec_cut.Replaced:
-                cut = cvec_cut.take(file.path, kind)
-            for it in cut, cvec_cut.take(file.path, kind):
-                assert cvec_cut.read(it).tobytes() == b"".join(file.records), f"{kind}: other records after {moments} moments"
+                cut = cvec.cut.refreshed(cut)
+            except cvec.cut.Replaced:
+                cut = cvec.cut.take(file.path, kind)
+            for it in cut, cvec.cut.take(file.path, kind):
+                assert cvec.cut.read(it).tobytes() == b"".join(file.records), f"{kind}: other records after {moments} moments"
             moments += 1
     print(f"{len(RECORDS)} types, {moments} moments")
 

@@ -15,8 +15,7 @@ TOP = os.path.join(os.path.dirname(os.path.abspath(__file__)), "..", "..")
 sys.path.insert(0, os.path.join(TOP, "bindings", "python"))
 import numpy
 
-import cvec_cut
-import cvec_dask
+import cvec
 from cluster import HERE, Cluster, wait_until
 from pen import Pen
 
@@ -57,8 +56,8 @@ def by_pen(path):
 
 def compact(path):
     """Another file with the same records takes the name."""
-    cut, pen = cvec_cut.take(path, "u64"), Pen(f"{path}.copy")
-    for _, block in cvec_cut.blocks(cut):
+    cut, pen = cvec.cut.take(path, "u64"), Pen(f"{path}.copy")
+    for _, block in cvec.cut.blocks(cut):
         data = block.tobytes()
         pen.grow([data[it:it + 8] for it in range(0, len(data), 8)])
         pen.records.clear()
@@ -84,7 +83,7 @@ def wanted(lengths):
 
 class Looks:
     def __init__(self, client, addresses):
-        self.shards = cvec_dask.find(client, "*.cv", "u64", addresses, chunk=1 << 16, patience=30)
+        self.shards = cvec.dask.find(client, "*.cv", "u64", addresses, chunk=1 << 16, patience=30)
         self.standing = self.shards.standing(each, join)
         self.count, self.reread, self.longest, self.before = 0, 0, 0.0, {}
 

@@ -1,5 +1,5 @@
 #!/usr/bin/env python3
-"""Tests of bindings/python/cvec_dask.py by a cluster of two hosts, over files that tests/many/pen.py writes: queries.py FOLDER [NAME ..]
+"""Tests of bindings/python/cvec/dask.py by a cluster of two hosts, over files that tests/many/pen.py writes: queries.py FOLDER [NAME ..]
 
 Expected answers are those of the writers' own lists. The last line is 'N passed, N failed'."""
 import functools
@@ -17,11 +17,10 @@ sys.path.insert(0, os.path.join(TOP, "bindings", "python"))
 import dask
 import numpy
 
-import cvec_cut
-import cvec_dask
+import cvec
 from cases import Skipped, main, raises
 from cluster import Cluster, wait_until
-from cvec_dask import Lost, Missing, Moved, WrongMachine, WrongVersion
+from cvec.dask import Lost, Missing, Moved, WrongMachine, WrongVersion
 from pen import Pen, numbers
 
 FOLDER = os.path.abspath(sys.argv[1])
@@ -57,7 +56,7 @@ def grown(number, records, name="a.cv", each=100, **options):
 
 
 def found(kind="u64", pattern="*.cv", **options):
-    return cvec_dask.find(client, pattern, kind, CLUSTER.addresses, **options)
+    return cvec.dask.find(client, pattern, kind, CLUSTER.addresses, **options)
 
 
 def size_and_sum(block, first):
@@ -366,10 +365,10 @@ def new_files_join_and_others_are_dropped():
     assert shards.refresh().count(lambda block: block >= 0) == 600 and standing.value() == of_list(pens[1:])
     shards.add([f"{CLUSTER.addresses[0]}:a.cv"])
     assert standing.value() == of_list(pens)
-    listed = cvec_dask.from_files(client, [f"{it}:a.cv" for it in CLUSTER.addresses], "u64")
+    listed = cvec.dask.from_files(client, [f"{it}:a.cv" for it in CLUSTER.addresses], "u64")
     assert len(listed) == 200
     for name in "a.cv", ":a.cv", "host:", "[::1]a.cv":
-        raises(ValueError, lambda: cvec_dask.from_files(client, [name], "u64"))
+        raises(ValueError, lambda: cvec.dask.from_files(client, [name], "u64"))
 
 
 def what_takes_a_files_place():
@@ -453,8 +452,8 @@ def a_task_on_another_machine_refuses():
     pens = [grown(number, numbers(range(number, 500 + number))) for number in (0, 1)]
     shards, (own, other) = found(), CLUSTER.addresses
     cut = shards.cuts[shards.names[0]]
-    for call in (cvec_dask._read, [own], cut, 0, 10), (cvec_dask._reduced, [own], cut, 0, 10, size_and_sum, added), \
-            (cvec_dask._cut, [own], "a.cv", "u64", None, True):
+    for call in (cvec.dask._read, [own], cut, 0, 10), (cvec.dask._reduced, [own], cut, 0, 10, size_and_sum, added), \
+            (cvec.dask._cut, [own], "a.cv", "u64", None, True):
         raises(WrongMachine, client.submit(*call, workers=[other], pure=False).result)
     # With fusion tasks forget where they belong: where they come is right, or refuses.
     total = shards.array(chunk=50).sum()
@@ -475,7 +474,7 @@ def a_host_is_known_by_what_its_name_is_resolved_to():
     first, second, *rest = CLUSTER.addresses[0].split(".")
     name = f"{first}.{second}.{256 * int(rest[0]) + int(rest[1])}"
     assert socket.gethostbyname(name) == CLUSTER.addresses[0]
-    shards = cvec_dask.find(client, "*.cv", "u64", [name, CLUSTER.addresses[1]])
+    shards = cvec.dask.find(client, "*.cv", "u64", [name, CLUSTER.addresses[1]])
     assert [it.host for it in shards.names] == [name, CLUSTER.addresses[1]]
     assert shards.reduce(size_and_sum, added) == of_list(pens) and shards.compute(shards.array().sum()) == of_list(pens)[1]
 
@@ -496,9 +495,9 @@ def a_host_has_an_address_of_ipv6():
                           "worker6", folder)
     try:
         wait_until(lambda: any("[::1]" in it for it in client.scheduler_info()["workers"]), "a worker at ::1")
-        shards = cvec_dask.find(client, "*.cv", "u64", ["::1"])
+        shards = cvec.dask.find(client, "*.cv", "u64", ["::1"])
         assert [str(it) for it in shards.names] == ["[::1]:six.cv"] and shards.reduce(size_and_sum, added) == of_list([pen])
-        assert cvec_dask.from_files(client, ["[::1]:six.cv"], "u64").count(5) == 1
+        assert cvec.dask.from_files(client, ["[::1]:six.cv"], "u64").count(5) == 1
     finally:
         os.killpg(child.pid, signal.SIGKILL)
 
@@ -508,16 +507,15 @@ def a_worker_of_another_version_is_refused():
     fresh()
     grown(0, numbers(range(10)))
     modules = os.path.join(FOLDER, "modules")
-    os.makedirs(modules, exist_ok=True)
-    for name in "cvec_cut", "cvec_dask", "cvec_frames", "cvec_records":
-        shutil.copy(os.path.join(TOP, "bindings", "python", f"{name}.py"), modules)
-    with open(os.path.join(modules, "cvec_cut.py"), "a") as file:
+    shutil.rmtree(modules, ignore_errors=True)
+    shutil.copytree(os.path.join(TOP, "bindings", "python", "cvec"), os.path.join(modules, "cvec"))
+    with open(os.path.join(modules, "cvec", "cut.py"), "a") as file:
         file.write("\n")
-    for path, told in (modules, " has cvec "), (os.devnull, "cvec_dask"):
+    for path, told in (modules, " has cvec "), (os.devnull, "cvec"):
         CLUSTER.kill_worker(1)
         CLUSTER.start_worker(1, {"PYTHONPATH": path})
         wait_until(lambda: workers_at(1), "a worker")
-        for call in found, lambda: cvec_dask.from_files(client, [f"{CLUSTER.addresses[1]}:a.cv"], "u64"):
+        for call in found, lambda: cvec.dask.from_files(client, [f"{CLUSTER.addresses[1]}:a.cv"], "u64"):
             fault = raises(WrongVersion, call)
             assert CLUSTER.addresses[1] in str(fault) and told in str(fault), fault
     CLUSTER.kill_worker(1)
@@ -630,7 +628,7 @@ def nothing_that_matches_is_missing():
     assert "no-such-*" in str(raises(Missing, lambda: found(pattern="no-such-*")))
     grown(0, numbers(range(10)))
     assert len(found()) == 10
-    in_the_bound(Missing, lambda: cvec_dask.find(client, "*.cv", "u64", [CLUSTER.addresses[0], "192.0.2.7"], patience=PATIENCE))
+    in_the_bound(Missing, lambda: cvec.dask.find(client, "*.cv", "u64", [CLUSTER.addresses[0], "192.0.2.7"], patience=PATIENCE))
 
 
 def a_scheduler_that_is_stopped_is_lost():

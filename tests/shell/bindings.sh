@@ -114,7 +114,7 @@ follows() {
     (
         cd "$work/here"
         umask 022
-        export "PATH=$built:$PATH" "CVEC_LIBRARY=$built/libcvec.so"
+        export "PATH=$built:$PATH" "CVEC_LIB=$built"
         export "PYTHONPATH=$top/bindings/python:$top/tests/fuzz" PYTHONDONTWRITEBYTECODE=1
         exec timeout 600 env "$@" "$work/table"
     ) <"$work/table" >"$work/answered" || ended=$?
@@ -328,8 +328,8 @@ a_python_client_may_have_closed_streams() (
     has python3 'clients of a server' || exit $is_skipped
     cat >"$work/client.py" <<'CLIENT'
 import sys
-import cvec_client
-with cvec_client.Server(sys.argv[1], "u64", sys.argv[2], seats=2) as server:
+import cvec
+with cvec.Server(sys.argv[2], "u64", seats=2, program=sys.argv[1]) as server:
     for number in (5, 6, 7):
         server.seats[number % 2].grow([number])
         server.seats[number % 2].settle()
@@ -355,14 +355,14 @@ a_python_client_without_descriptors_loses_none() (
     PYTHONPATH=$top/bindings/python PYTHONDONTWRITEBYTECODE=1 timeout 60 python3 - <<'CLIENT'
 import os
 import resource
-import cvec_client
+import cvec
 opened = lambda: set(os.listdir("/proc/self/fd"))
 os.close(0)
 before = opened()
 for limit in range(4, 24):
     resource.setrlimit(resource.RLIMIT_NOFILE, (limit, resource.getrlimit(resource.RLIMIT_NOFILE)[1]))
     try:
-        cvec_client.Server("/nowhere", "u64", "/nowhere", seats=8)
+        cvec.Server("/nowhere", "u64", seats=8, program="/nowhere")
         raise SystemExit("it was started")
     except OSError:
         pass

@@ -25,7 +25,7 @@ the_readme_appends_in_python() (
     mkdir "$work/bin"
     ln -s "$top/cvec" "$work/bin/cvec"
     cd "$work"
-    CVEC_LIBRARY=$work/libcvec.so PYTHONPATH=$top/bindings/python PATH=$work/bin:$PATH PYTHONDONTWRITEBYTECODE=1 \
+    CVEC_LIB=$work PYTHONPATH=$top/bindings/python PATH=$work/bin:$PATH PYTHONDONTWRITEBYTECODE=1 \
         python3 shown.py >"$out"
     [ "$(tr -cs 0-9 ' ' <"$out")" = ' 5 7 11 ' ]
     run list u64 python.cv

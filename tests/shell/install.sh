@@ -125,7 +125,7 @@ the_shared_library_has_what_its_headers_declare() (
     installs_once
     printf '#include "%s"\n' cvec.h cvec/proved.h >"$work/all.c"
     cc -E -P "-I$prefix/include" "$work/all.c" >"$work/declared"
-    nm -D --defined-only "$prefix/lib/python3/dist-packages/libcvec.so" | sed -n 's/.* \(cvec_[a-z0-9_]*\)$/\1/p' >"$work/names"
+    nm -D --defined-only "$prefix/lib/python3/dist-packages/cvec/libcvec.so" | sed -n 's/.* \(cvec_[a-z0-9_]*\)$/\1/p' >"$work/names"
     [ "$(wc -l <"$work/names")" -gt 90 ]
     while read -r name; do
         grep -qw "$name" "$work/declared" || { echo "$name is declared nowhere" && exit 1; }
@@ -174,11 +174,11 @@ a_python_program_finds_the_installed_modules() (
     cp "$top/examples/python/use.py" "$work"
     cat >"$work/client.py" <<'CLIENT'
 import sys
-import cvec, cvec_client, cvec_vector
-found = cvec, cvec_client, cvec_vector
-sys.exit(0 if all(it.__file__.startswith(sys.argv[1]) for it in found) else "they are found elsewhere")
+import cvec
+found = [sys.modules[getattr(cvec, name).__module__] for name in ("Vector", "File", "Map", "Server", "Error")]
+sys.exit(0 if all(it.__file__.startswith(sys.argv[1]) for it in [cvec, *found]) else "they are found elsewhere")
 CLIENT
-    unset CVEC_LIBRARY CVEC_VECTOR_LIBRARY
+    unset CVEC_LIB
     export PYTHONPATH="$prefix/lib/python3/dist-packages" PYTHONDONTWRITEBYTECODE=1
     python3 "$work/client.py" "$prefix/"
     python3 "$work/use.py" "$work/file" >"$out"
@@ -189,19 +189,18 @@ CLIENT
     sed -n 1p "$out" | grep -qx '286 records of 15 growths'
 )
 
-# The folder of the repository as pip takes it, with no network: the modules, and the library beside them.
+# The folder of the repository as pip takes it, with no network: the package, and the library in it.
 pip_installs_the_modules() (
     can_install && has python3 'the modules of Python' || exit $is_skipped
     python3 -m pip --version >/dev/null 2>&1 || lacks 'there is no pip for the modules of Python' || exit $is_skipped
     installs_once
     cp -R "$top/bindings/python" "$work/python"
-    CVEC_LIB=$prefix/lib/python3/dist-packages python3 -m pip install --quiet --no-index --no-cache-dir \
+    CVEC_LIB=$prefix/lib/python3/dist-packages/cvec python3 -m pip install --quiet --no-index --no-cache-dir \
         --disable-pip-version-check --target "$work/site" "$work/python" 2>"$err" || { cat "$err" && exit 1; }
-    for name in cvec.py cvec_client.py cvec_cut.py cvec_dask.py cvec_frames.py cvec_records.py cvec_vector.py libcvec.so; do
-        cmp "$prefix/lib/python3/dist-packages/$name" "$work/site/$name"
-    done
+    diff -r -x __pycache__ "$prefix/lib/python3/dist-packages/cvec" "$work/site/cvec"
+    [ -e "$work/site/cvec/py.typed" ] && [ -e "$work/site/cvec/libcvec.so" ]
     [ "cvec $(sed -n 's/^Version: //p' "$work/site"/cvec-*.dist-info/METADATA)" = "$("$program" --version | head -n 1)" ]
-    unset CVEC_LIBRARY CVEC_VECTOR_LIBRARY
+    unset CVEC_LIB
     export PYTHONPATH="$work/site" PYTHONDONTWRITEBYTECODE=1
     cp "$top/examples/python/use.py" "$top/examples/python/use_vector.py" "$work"
     python3 "$work/use.py" "$work/file" >"$out"
@@ -212,7 +211,7 @@ pip_installs_the_modules() (
     if CVEC_LIB=$work python3 -m pip install --quiet --no-index --no-cache-dir --disable-pip-version-check \
         --target "$work/other" "$work/python" >"$out" 2>&1; then exit 1; fi
     grep -q "CVEC_LIB names $work, which has no libcvec.so" "$out"
-    [ ! -e "$work/other/cvec.py" ]
+    [ ! -e "$work/other/cvec" ]
 )
 
 a_rust_program_is_built_by_rustc() (
@@ -299,8 +298,8 @@ an_uninstall_takes_away_what_was_installed() (
     found_in "$work/there" >"$work/before"
     make_there install "PREFIX=$work/there"
     unset PYTHONDONTWRITEBYTECODE PYTHONPYCACHEPREFIX
-    PYTHONPATH=$work/there/lib/python3/dist-packages python3 -c 'import cvec, cvec_client, cvec_vector'
-    [ -d "$work/there/lib/python3/dist-packages/__pycache__" ]
+    PYTHONPATH=$work/there/lib/python3/dist-packages python3 -c 'import cvec; cvec.Vector, cvec.File, cvec.Map, cvec.Server'
+    [ -d "$work/there/lib/python3/dist-packages/cvec/__pycache__" ]
     make_there uninstall "PREFIX=$work/there"
     found_in "$work/there" | diff "$work/before" -
     # Nor is there the prefix, where an install has made it.

@@ -1,4 +1,4 @@
-# Many vectors on many hosts: bindings/python/cvec_cut.py and cvec_dask.py (docs/use/many.md), by the programs of tests/many. Expected
+# Many vectors on many hosts: cvec.cut and cvec.dask of Python (docs/use/many.md), by the programs of tests/many. Expected
 # answers are those of the lists of tests/many/pen.py, which writes the files; the program writes them where that is said.
 
 # The Python that has numpy and Dask: the one that the path finds, or Debian's own. Where none has them, the former.
@@ -88,7 +88,7 @@ the_units_of_systemd_are_right() (
 # Each module says which of Debian's packages it takes. What is there is hidden from it.
 a_module_that_lacks_a_package_names_it() (
     has python3 'the modules of Python' || exit "$is_skipped"
-    for row in 'cvec_cut numpy python3-numpy' 'cvec_dask distributed python3-distributed'; do
+    for row in 'cvec.cut numpy python3-numpy' 'cvec.dask distributed python3-distributed'; do
         # shellcheck disable=SC2086 # each word is one
         set -- $row
         status=0

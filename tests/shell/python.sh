@@ -13,7 +13,7 @@ done
 
 # Runs this program in Python with further words.
 python_runs() {
-    CVEC_LIBRARY=$work/libcvec.so PYTHONPATH=$top/bindings/python PYTHONDONTWRITEBYTECODE=1 "$python" "$@" >"$out" 2>"$err"
+    CVEC_LIB=$work PYTHONPATH=$top/bindings/python PYTHONDONTWRITEBYTECODE=1 "$python" "$@" >"$out" 2>"$err"
 }
 
 a_python_program_appends_and_reads() (
@@ -29,7 +29,7 @@ the_python_program_that_is_shown_reads() (
     make_python_library
     python_runs "$top/examples/python/use.py" "$work/numbers.cvec"
     shown_in use/c.md python >"$work/shown.py"
-    (cd "$work" && flock numbers.cvec env "CVEC_LIBRARY=$work/libcvec.so" "PYTHONPATH=$top/bindings/python" PYTHONDONTWRITEBYTECODE=1 \
+    (cd "$work" && flock numbers.cvec env "CVEC_LIB=$work" "PYTHONPATH=$top/bindings/python" PYTHONDONTWRITEBYTECODE=1 \
         "$python" shown.py >"$out")
     [ "$(tr '\n' ' ' <"$out")" = '4 records 5 7 11 13 ' ]
 )
@@ -113,7 +113,48 @@ numbers_are_listed_in_decimal() (
     printf '0.5\n' | cmp - "$out"
 )
 
-# pip makes a wheel by this module, here with libraries that only seem such: the one of the folder that CVEC_LIB names, or the
+# One library of all of C, as `make libraries` makes it, in a folder of its own.
+make_whole_library() {
+    make_c_library
+    make_threads_library
+    mkdir -p "$work/lib" "$work/bin"
+    cc -std=c99 -O2 -fPIC -shared -Wl,-Bsymbolic "-I$c_headers" -o "$work/lib/libcvec.so" "$c_sources"/*.c -Wl,--whole-archive "$c_library" \
+        "$threads_library" -Wl,--no-whole-archive "$kit_library" -lpthread
+    ln -sf "$top/cvec" "$work/bin/cvec"
+}
+
+# Of each dtype, by a vector, a file and a server, which is found in PATH; and a seat of a server in processes of pools.
+a_struct_has_one_format_in_python() (
+    has_c && has python3 'the library for Python' || exit $is_skipped
+    "$python" -c 'import numpy' 2>/dev/null || lacks 'there is no numpy for arrays for Python' || exit $is_skipped
+    make_whole_library
+    mkdir "$work/files"
+    CVEC_LIB=$work/lib PATH=$work/bin:$PATH PYTHONPATH=$top/bindings/python PYTHONDONTWRITEBYTECODE=1 \
+        timeout 120 "$python" "$top/tests/bindings/formats.py" "$work/files" >"$out"
+    [ "$(cat "$out")" = 'one format' ]
+)
+
+# A client of a server takes none, nor does what only asks for a name.
+a_missing_library_is_named_where_it_is_taken() (
+    has python3 'the modules of Python' || exit $is_skipped
+    mkdir "$work/none"
+    CVEC_LIB=$work/none PYTHONPATH=$top/bindings/python PYTHONDONTWRITEBYTECODE=1 python3 - >"$out" <<'PROGRAM'
+import cvec
+print(cvec.Server.__name__, cvec.Error.__name__, cvec.Status(66).name, sorted(set(cvec.__all__) - set(dir(cvec))))
+for name in ("Vector", "File", "Map"):
+    try:
+        getattr(cvec, name)
+    except ImportError as fault:
+        print(name, "CVEC_LIB names" in str(fault))
+try:
+    cvec.nothing
+except AttributeError as fault:
+    print(fault)
+PROGRAM
+    printf "Server Error FULL []\nVector True\nFile True\nMap True\nmodule 'cvec' has no attribute 'nothing'\n" | cmp - "$out"
+)
+
+# pip makes a wheel by the backend, here with libraries that only seem such: the one of the folder that CVEC_LIB names, or the
 # repository's own.
 a_wheel_has_the_library_that_is_named_or_its_own() (
     has python3 'the modules of Python' || exit $is_skipped
@@ -125,7 +166,7 @@ a_wheel_has_the_library_that_is_named_or_its_own() (
         (
             cd "$work/top/bindings/python"
             wheel=$(PYTHONDONTWRITEBYTECODE=1 python3 -c 'import backend, sys; print(backend.build_wheel(sys.argv[1]))' "$work/wheels")
-            python3 -c 'import sys, zipfile; print(zipfile.ZipFile(sys.argv[1]).read("libcvec.so").decode(), end="")' "$work/wheels/$wheel"
+            python3 -c 'import sys, zipfile; print(zipfile.ZipFile(sys.argv[1]).read("cvec/libcvec.so").decode(), end="")' "$work/wheels/$wheel"
         ) >"$out" 2>"$err"
         [ "$(cat "$out")" = "$1" ]
     }

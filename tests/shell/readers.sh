@@ -280,7 +280,7 @@ looks_by_the_library_are_of_one_moment() (
         "$c_library" "$kit_library"
     for seed in 1 2; do
         rm -f "$work/looks.cv"
-        CVEC_LIBRARY=$work/libcvec.so PYTHONDONTWRITEBYTECODE=1 "$top/tests/looks.py" "$program" "$work/calls.so" \
+        CVEC_LIB=$work PYTHONDONTWRITEBYTECODE=1 "$top/tests/looks.py" "$program" "$work/calls.so" \
             "$work/looks" "$work" "${CVEC_LOOKS:-10000}" $seed >"$out"
         cat "$out"
     done

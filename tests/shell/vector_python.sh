@@ -1,4 +1,4 @@
-# The vector that threads of Python grow (bindings/python/cvec_vector.py), over the library for threads of C.
+# The vector that threads of Python grow (cvec.Vector), over the library for threads of C.
 
 # ---- the shared library, built once as docs/use/threads.md builds a program, beside the folder of a test's files
 
@@ -18,14 +18,14 @@ has_python_vector() { has_c && has python3 'the vector for Python'; }
 make_python_vector() {
     make_threads_library
     mkdir -p "$built"
-    if [ -e "$built/libcvec_vector.so" ]; then return; fi
+    if [ -e "$built/libcvec.so" ]; then return; fi
     compile_c cvec_vector "$built"
-    cc -shared -o "$built/libcvec_vector.so" "$built/cvec_vector.o" "$threads_library" "$kit_library" -lpthread
+    cc -shared -o "$built/libcvec.so" "$built/cvec_vector.o" "$threads_library" "$kit_library" -lpthread
 }
 
 # Runs this program in Python with further words.
 python_vector_runs() {
-    CVEC_VECTOR_LIBRARY=$built/libcvec_vector.so PYTHONDONTWRITEBYTECODE=1 \
+    CVEC_LIB=$built PYTHONDONTWRITEBYTECODE=1 \
         PYTHONPATH=$top/bindings/python:$top/tests/bindings${PYTHONPATH:+:$PYTHONPATH} timeout 120 "$python" "$@"
 }
 
@@ -97,39 +97,42 @@ the_python_program_of_the_page_writes_rows_in_place() (
     [ "$(sed -n '1p;5p;9p' "$out" | tr '\n' ' ')" = '7 1 4607182418800017408 ' ]
 )
 
-# The commands of the page, in a copy of the repository over the crates as they are built.
-the_build_of_the_page_makes_the_python_example() (
+# The commands of the page, in a copy of the repository over the crates as they are built: the page's program runs by what pip puts into
+# an empty prefix.
+the_first_program_of_the_python_page_runs_by_its_lines() (
     has_python_vector && has make 'the libraries' || exit $is_skipped
+    python3 -c 'import ensurepip, venv' 2>/dev/null || lacks 'there is no venv with pip for the package of Python' || exit $is_skipped
     make_c_library
     make_threads_library
     mkdir "$work/there"
     cd "$work/there"
-    cp -Rp "$top/bindings" "$top/examples" "$top/tools" "$top/Makefile" "$top/crates.txt" .
+    cp -Rp "$top/bindings" "$top/tools" "$top/Makefile" "$top/crates.txt" .
     ln -s "$top/crates" .
+    shown_in use/python.md python | awk '/^import sys/ { at++ } at == 1' >first.py
     sed -n '/^```sh$/,/^```$/p' "$top/docs/use/python.md" | sed '/^```/d' >"$work/build.sh"
-    unset CVEC_LIB
-    PYTHONDONTWRITEBYTECODE=1 sh -e "$work/build.sh" >"$out" 2>"$err" || { cat "$err" && exit 1; }
-    printf '286 records of 15 growths\n286 records, the last 249, in all 31185\n' | cmp - "$out"
+    unset CVEC_LIB PYTHONPATH
+    sh -e "$work/build.sh" >"$out" 2>"$err" || { cat "$out" "$err" && exit 1; }
+    [ "$(tail -n 1 "$out")" = '16 records, 8 growths durable' ]
 )
 
 samples_of_sensors_go_on_in_python() (
     has_python_vector || exit $is_skipped
     make_python_vector
-    export "CVEC_VECTOR_LIBRARY=$built/libcvec_vector.so" "PYTHONPATH=$top/bindings/python" PYTHONDONTWRITEBYTECODE=1
+    export "CVEC_LIB=$built" "PYTHONPATH=$top/bindings/python" PYTHONDONTWRITEBYTECODE=1
     goes_on_with_its_samples "$python" "$top/examples/python/samples.py"
 )
 
 words_are_indexed_in_python() (
     has_python_vector || exit $is_skipped
     make_python_vector
-    export "CVEC_VECTOR_LIBRARY=$built/libcvec_vector.so" "PYTHONPATH=$top/bindings/python" PYTHONDONTWRITEBYTECODE=1
+    export "CVEC_LIB=$built" "PYTHONPATH=$top/bindings/python" PYTHONDONTWRITEBYTECODE=1
     indexes_words 1 "$python" "$top/examples/python/word_index.py"
 )
 
 results_of_a_pool_are_kept_in_python() (
     has_python_vector || exit $is_skipped
     make_python_vector
-    export "CVEC_VECTOR_LIBRARY=$built/libcvec_vector.so" "PYTHONPATH=$top/bindings/python" PYTHONDONTWRITEBYTECODE=1
+    export "CVEC_LIB=$built" "PYTHONPATH=$top/bindings/python" PYTHONDONTWRITEBYTECODE=1
     has_results_of_a_pool u64 2 "$python" "$top/examples/python/pool.py"
 )
 
@@ -182,11 +185,11 @@ interrupted_calls_of_a_python_vector_leave_it() (
     rm -rf "$work/files"
     is_so_without_numpy an_interrupt_comes_as_soon_as_c_has_begun
     rm -rf "$work/files"
-    is_so_without_numpy seats_and_flushers_are_interrupted
+    is_so_without_numpy the_turn_is_interrupted
     rm -rf "$work/files"
     is_so_without_numpy a_close_is_interrupted_at_any_moment
     rm -rf "$work/files"
-    is_so_without_numpy a_close_of_a_seat_is_interrupted_at_any_moment
+    is_so_without_numpy calls_are_interrupted_at_any_moment
 )
 
 # ---- the whole vector
@@ -214,7 +217,7 @@ a_refused_call_of_a_whole_python_vector_leaves_it() (
     run list u64 "$work/files/vector.cvec"
     did '5\n11\n'
     rm -rf "$work/files"
-    is_so_without_numpy a_call_is_interrupted_while_seats_are_closed
+    is_so_without_numpy a_call_of_the_whole_vector_is_interrupted
     rm -rf "$work/files"
     is_so_without_numpy a_change_that_fails_breaks_it
     run list u64 "$work/files/vector.cvec"
@@ -294,6 +297,8 @@ what_is_lent_outlives_a_python_vector() (
     is_so_with_and_without_numpy what_is_lent_outlives_the_vector
     rm -rf "$work/files"
     is_so_with_and_without_numpy cycles_of_what_is_lent_are_collected
+    rm -rf "$work/files"
+    is_so_without_numpy a_vector_of_a_cycle_is_closed_behind_all_of_it
     rm -rf "$work/files"
     is_so_with_and_without_numpy a_program_ends_with_what_is_lent
 )
@@ -395,18 +400,18 @@ threads_of_python_grow_whole_blocks() (
     is_so_with_and_without_numpy threads_grow_whole_blocks
 )
 
-a_seat_of_python_goes_to_the_next_thread() (
-    is_so_without_numpy a_seat_goes_to_the_next_thread
-)
-
 more_threads_of_python_than_seats_work() (
-    is_so_without_numpy a_seat_is_waited_for
-    rm -rf "$work/files"
-    is_so_without_numpy a_pool_works_by_fewer_seats
+    is_so_without_numpy more_threads_than_seats_work
 )
 
-a_seat_of_python_is_in_one_call() (
-    is_so_without_numpy another_thread_by_the_same_seat_is_refused
+a_wait_for_a_seat_in_python_ends() (
+    is_so_without_numpy an_interrupt_ends_a_wait_for_a_seat
+    rm -rf "$work/files"
+    is_so_without_numpy a_close_ends_a_wait_for_a_seat
+)
+
+a_seat_of_python_settles_its_own_growths() (
+    is_so_without_numpy a_seat_settles_its_own_growths
 )
 
 a_call_of_a_python_vector_lets_threads_run() (
@@ -427,7 +432,7 @@ a_wait_has_a_deadline_in_python() (
 a_flusher_in_python_commits_what_nobody_settles() (
     is_so_without_numpy a_flusher_commits_what_nobody_settles
     rm -rf "$work/files"
-    is_so_without_numpy a_close_waits_for_a_flusher_that_is_late
+    is_so_without_numpy a_flusher_may_be_late
     rm -rf "$work/files"
     is_so_without_numpy a_close_that_is_interrupted_is_made_again
 )

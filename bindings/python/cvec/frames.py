@@ -24,7 +24,7 @@ import struct
 import sys
 from typing import Any, Iterator, NamedTuple
 
-from cvec_records import numpy
+from .records import numpy
 
 HEADER_BYTES, HEAD_BYTES, OPEN = 11, 6, 1
 GROUP, CHANGE, SHRINK, FOLD = 1, 2, 3, 4

@@ -1,7 +1,9 @@
-"""Records as bytes, for cvec.py and cvec_client.py. None is cut or altered: what its type doesn't have is refused."""
-import ctypes
+"""Records of each type as bytes. None is cut or altered: what its type doesn't have is refused."""
+from __future__ import annotations
+
 import itertools
 import struct
+from typing import Any, Iterator
 
 try:
     import numpy
@@ -9,18 +11,18 @@ except ImportError:
     numpy = None
 
 
-def has_mask(kind):
+def has_mask(kind: type) -> bool:
     """Whether arrays of this class, and their rows, mask entries: what stands there may be anything, and no range of it is looked
     at."""
     return numpy is not None and kind is not numpy.ndarray and issubclass(kind, numpy.ndarray) and issubclass(kind, numpy.ma.MaskedArray)
 
 
-def _is_no_record(kind):
+def _is_no_record(kind: type) -> bool:
     """Whether what has this class is no record with two fields, though it may have two entries."""
     return issubclass(kind, (bytes, bytearray, memoryview)) or has_mask(kind)
 
 
-def _are_bytes(records):
+def _are_bytes(records: Any) -> bool:
     """Whether each entry is a byte, which is no number but of u8. A view of numbers may be a piece of a map."""
     return isinstance(records, (bytes, bytearray)) or isinstance(records, memoryview) and records.itemsize == 1
 
@@ -30,13 +32,13 @@ class Form:
 
     is_bytes = False
 
-    def __init__(self, format, dtype, align=False):
+    def __init__(self, format: str, dtype: Any, align: bool = False) -> None:
         self.record = struct.Struct(format)
         self.width = self.record.size
         self.is_number = isinstance(dtype, str) and not self.is_bytes
         self.dtype = numpy and numpy.dtype(dtype, align=align)
 
-    def pack(self, records):
+    def pack(self, records: Any) -> bytes:
         """The bytes of a row of numbers, of tuples for a type with two fields, or of `bytes` for one of bytes; or of an array of
         numpy with one dimension. A flag is whatever is true or false. ValueError: not all of them are records of the type."""
         if self.width > 1 and _are_bytes(records):
@@ -54,7 +56,7 @@ class Form:
         except (struct.error, TypeError, NotImplementedError, OverflowError) as fault:
             raise ValueError(f"no records of the type: {fault}") from fault
 
-    def _packed(self, records):
+    def _packed(self, records: Any) -> Iterator[bytes]:
         if self.is_number:
             return map(self.record.pack, records)
         records = list(records)
@@ -62,7 +64,7 @@ class Form:
             raise ValueError(f"no records of the type: one is of {kind.__name__}")
         return itertools.starmap(self.record.pack, records)
 
-    def _pack_array(self, array):
+    def _pack_array(self, array: Any) -> bytes:
         if array.dtype.names != self.dtype.names:
             raise ValueError(f"no records of the type: an array of {array.dtype}")
         row = numpy.zeros(len(array), dtype=self.dtype)
@@ -70,11 +72,11 @@ class Form:
             row[name] = _column(array[name], row[name].dtype)
         return row.tobytes()
 
-    def unpack(self, data):
+    def unpack(self, data: Any) -> Any:
         """The records of these bytes: an array, or a list."""
         return numpy.frombuffer(data, dtype=self.dtype) if numpy is not None else list(self.each(data))
 
-    def each(self, data):
+    def each(self, data: Any) -> Iterator[Any]:
         """The records of these bytes, one by one, and none of numpy's."""
         records = self.record.iter_unpack(data)
         return (it for it, in records) if self.is_number or self.is_bytes else records
@@ -83,10 +85,10 @@ class Form:
 class FloatForm(Form):
     """That of numbers with a fraction. What the type would round is no record of it, nor a NaN whose bits it would change."""
 
-    def _packed(self, records):
+    def _packed(self, records: Any) -> Iterator[bytes]:
         return map(self._exact, records)
 
-    def _exact(self, record):
+    def _exact(self, record: Any) -> bytes:
         """The bytes of the number. What is masked equals nothing, nor differs from anything."""
         data = self.record.pack(record)
         there, = self.record.unpack(data)
@@ -94,7 +96,7 @@ class FloatForm(Form):
             return data
         raise ValueError(f"no records of the type: {record!r} would be another number")
 
-    def _pack_array(self, array):
+    def _pack_array(self, array: Any) -> bytes:
         if array.dtype.kind in "biu":
             # Python compares whole numbers with these as they are: numpy would round them first.
             return b"".join(self._packed(array.tolist()))
@@ -110,13 +112,13 @@ class BytesForm(Form):
 
     is_bytes = True
 
-    def __init__(self, width):
+    def __init__(self, width: int) -> None:
         super().__init__(f"{width}s", f"V{width}")
 
-    def _packed(self, records):
+    def _packed(self, records: Any) -> Iterator[bytes]:
         return map(self._whole, records)
 
-    def _whole(self, record):
+    def _whole(self, record: Any) -> Any:
         """The record. `struct` would cut one that is longer, and put zeros behind one that is shorter."""
         if isinstance(record, bytes) and len(record) == self.width:
             return record
@@ -125,13 +127,13 @@ class BytesForm(Form):
             return record
         raise ValueError(f"no records of the type: {record!r} isn't {self.width} bytes")
 
-    def _pack_array(self, array):
+    def _pack_array(self, array: Any) -> bytes:
         if array.dtype != self.dtype:
             raise ValueError(f"no records of the type: an array of {array.dtype}")
         return array.tobytes()
 
 
-def _column(values, dtype):
+def _column(values: Any, dtype: Any) -> Any:
     """The values as this type has them."""
     if values.dtype == bool:
         # A view of other bytes may have flags that are neither 0 nor 1.
@@ -163,19 +165,6 @@ IN_FILE = {
     "flagged": Form("<Q?", [("key", "<u8"), ("flag", "?")]),
     **{f"bytes{width}": BytesForm(width) for width in (16, 24, 32, 64)},
 }
-
-
-class _TypeOf(ctypes.Structure):
-    _fields_ = [("name", ctypes.c_char_p), ("width", ctypes.c_uint16), ("size", ctypes.c_uint16)]
-
-
-def numbers_of(library):
-    """The numbers that C has for the types, by their names."""
-    count = ctypes.c_size_t()
-    library.cvec_types.restype = ctypes.POINTER(_TypeOf)
-    types = library.cvec_types(ctypes.byref(count))
-    return {types[number].name.decode(): number for number in range(count.value)}
-
 
 # Those that C has: a flagged is as wide as what is aligned to its key.
 IN_C = {**IN_FILE, "flagged": Form("<Q?7x", [("key", "<u8"), ("flag", "?")], align=True)}

@@ -1,11 +1,11 @@
 """Many vectors on many machines, computed over where they stand, by Dask distributed. Each machine has a worker; the writers go on.
 
     client = Client("tls://head:8786", security=security)
-    trades = cvec_dask.find(client, "/srv/trades/*.cv", "u64", ["10.0.0.1", "10.0.0.2"])
+    trades = cvec.dask.find(client, "/srv/trades/*.cv", "u64", ["10.0.0.1", "10.0.0.2"])
     print(len(trades), trades.count(50), trades.top(10))          # of a cut of each file, which this call of `find` took
     trades.refresh()                                               # and one of now
 
-What is computed runs on the machine that has the file, and answers alone come back. Each file is as it was at one moment (cvec_cut),
+What is computed runs on the machine that has the file, and answers alone come back. Each file is as it was at one moment (cvec.cut),
 and no moment is common to two files. docs/use/many.md says what is exact, how it is set up, and what the caller sees of each fault.
 Nothing here is proved."""
 from __future__ import annotations
@@ -32,11 +32,11 @@ try:
     from distributed.comm.addressing import get_address_host
     from distributed.protocol.pickle import dumps, loads
 except ImportError as fault:
-    raise ImportError("cvec_dask takes Dask distributed and numpy, which are Debian's package python3-distributed") from fault
+    raise ImportError("cvec.dask takes Dask distributed and numpy, which are Debian's package python3-distributed") from fault
 
-import cvec_cut
-from cvec_cut import Cut, Moved, Replaced
-from cvec_frames import Fault
+from . import cut as cuts
+from .cut import Cut, Moved, Replaced
+from .frames import Fault
 
 # So many bytes of a file are one task.
 CHUNK_BYTES = 64 << 20
@@ -92,7 +92,7 @@ class Name(NamedTuple):
 def _versions() -> dict[str, str]:
     """What client and workers have to have alike."""
     digest = hashlib.blake2b(digest_size=6)
-    for module in ("cvec_cut", "cvec_dask", "cvec_frames", "cvec_records"):
+    for module in ("cut", "dask", "frames", "kinds", "records"):
         with open(os.path.join(os.path.dirname(os.path.abspath(__file__)), f"{module}.py"), "rb") as file:
             digest.update(file.read())
     return {"Python": ".".join(platform.python_version_tuple()[:2]), "dask": dask.__version__, "distributed": distributed.__version__,
@@ -120,17 +120,17 @@ def _cut(machines: Iterable[str], path: str, kind: Any, before: Cut | None, sync
     try:
         if before is not None:
             try:
-                return cvec_cut.refreshed(before, sync)
+                return cuts.refreshed(before, sync)
             except Replaced:
                 pass
-        return cvec_cut.take(path, kind, sync)
+        return cuts.take(path, kind, sync)
     except (Fault, OSError) as fault:
         return fault
 
 
 def _blocks(cut: Cut, start: int, stop: int) -> Iterator[tuple[int, Any]]:
     try:
-        yield from cvec_cut.blocks(cut, start, stop)
+        yield from cuts.blocks(cut, start, stop)
     except (Fault, OSError) as fault:
         raise _Unreadable(fault) from fault
 
@@ -152,7 +152,7 @@ def _joined(join: Any, parts: list[bytes]) -> bytes:
 
 def _read(machines: Iterable[str], cut: Cut, start: int, stop: int) -> Any:
     _check_machine(machines)
-    return cvec_cut.read(cut, start, stop)
+    return cuts.read(cut, start, stop)
 
 
 # ---- what is computed of a block, and of some answers
@@ -161,7 +161,7 @@ def _matches(kind: Any, record: Any) -> Callable[[Any], Any]:
     """The places in a block of a record of the kind, or of those of which a function is true."""
     if callable(record):
         return functools.partial(_true_places, record)
-    return functools.partial(_equal_places, cvec_cut.packed(kind, record))
+    return functools.partial(_equal_places, cuts.packed(kind, record))
 
 
 def _true_places(is_one: Any, block: Any) -> Any:
@@ -169,7 +169,7 @@ def _true_places(is_one: Any, block: Any) -> Any:
 
 
 def _equal_places(data: bytes, block: Any) -> Any:
-    return cvec_cut.places_of(block, data)
+    return cuts.places_of(block, data)
 
 
 def _count_each(places: Any, block: Any, first: int) -> int:
@@ -383,7 +383,7 @@ class Shards:
                  missing: str = "raise", patience: float = 30, sync: bool = True) -> None:
         if missing not in ("raise", "skip"):
             raise ValueError(f"missing is 'raise' or 'skip', not {missing!r}")
-        self.client, self.dtype = client, cvec_cut.dtype_of(kind)
+        self.client, self.dtype = client, cuts.dtype_of(kind)
         self.kind = kind if isinstance(kind, str) else self.dtype
         self.pattern, self.hosts, self.names = pattern, list(dict.fromkeys(hosts)), []
         self.chunk = chunk or max(1, CHUNK_BYTES // self.dtype.itemsize)

@@ -1,14 +1,14 @@
 """A segment file as it was at one moment, as plain data. It takes numpy and no library; the writer is asked nothing, and goes on.
 
-    cut = cvec_cut.take("trades.cv", "u64")              # what stands on the device now
-    for first, block in cvec_cut.blocks(cut): ...        # arrays, each of the records from position `first` on
-    cut = cvec_cut.refreshed(cut)                        # reads the frames that came since, and no other
+    cut = cvec.cut.take("trades.cv", "u64")              # what stands on the device now
+    for first, block in cvec.cut.blocks(cut): ...        # arrays, each of the records from position `first` on
+    cut = cvec.cut.refreshed(cut)                        # reads the frames that came since, and no other
 
 A cut holds no file open, and is pickled. It is made of places: frames of a file are never moved, so any process of the machine reads
 the records of a cut later, in any order. Two things end that, and both are raised, never answered over: `Replaced` and `Moved`.
 Appends, shrinks, and folds of changes that the cut has leave a cut as it is.
 
-How a file is read beside its writer stands at the head of cvec_frames.py. docs/use/many.md says what is exact."""
+How a file is read beside its writer stands at the head of frames.py. docs/use/many.md says what is exact."""
 from __future__ import annotations
 
 import ctypes
@@ -21,10 +21,11 @@ from typing import Any, Iterator, NamedTuple
 try:
     import numpy
 except ImportError as fault:
-    raise ImportError("cvec_cut takes numpy, which is Debian's package python3-numpy") from fault
+    raise ImportError("cvec.cut takes numpy, which is Debian's package python3-numpy") from fault
 
-from cvec_frames import CHANGE, GROUP, HEAD_BYTES, HEADER_BYTES, OPEN, SHRINK, Fault, Tally, frame_at, frames, version_of
-from cvec_records import IN_FILE
+from .frames import CHANGE, GROUP, HEAD_BYTES, HEADER_BYTES, OPEN, SHRINK, Fault, Tally, frame_at, frames, version_of
+from .kinds import Records, Rows
+from .records import IN_FILE
 
 # A mark stands at the first frame behind so many records, or behind so many bytes of small frames.
 MARK_RECORDS, MARK_BYTES = 1 << 20, 1 << 24
@@ -49,19 +50,18 @@ class Moved(Exception):
 
 # ---- what a record is
 
+def kind_of(kind: Any) -> Records | Rows:
+    """Of a type's word, or of a dtype, whose records are rows of the file's. ValueError: there is no such type, or no row."""
+    return Records(kind) if isinstance(kind, str) and kind in IN_FILE else Rows(kind)
+
+
 def dtype_of(kind: Any) -> numpy.dtype:
-    """The dtype of records of a type word, or of rows of u64 that a dtype describes. ValueError: a row isn't some u64."""
-    if isinstance(kind, str) and kind in IN_FILE:
-        return IN_FILE[kind].dtype
-    dtype = numpy.dtype(kind)
-    if dtype.itemsize % 8 or dtype.itemsize == 0 or dtype.hasobject:
-        raise ValueError(f"a record of {dtype} is no row of u64")
-    return dtype
+    return kind_of(kind).dtype_in_file
 
 
 def width_of(kind: Any) -> int:
     """How wide a record of the file is. A row is several."""
-    return IN_FILE[kind].width if isinstance(kind, str) and kind in IN_FILE else 8
+    return kind_of(kind).width_in_file
 
 
 # ---- which file it is
@@ -622,6 +622,8 @@ def places_of(block: Any, data: bytes) -> Any:
     if width in (1, 2, 4, 8):
         return numpy.flatnonzero(block.view(f"<u{width}") == numpy.frombuffer(data, f"<u{width}")[0])
     rows = block.view("u1").reshape(-1, width)
+    if width < 8:
+        return numpy.flatnonzero((rows == numpy.frombuffer(data, "u1")).all(axis=1))
     first = numpy.ndarray(len(block), "<u8", rows, 0, (width,))
     found = numpy.flatnonzero(first == numpy.frombuffer(data[:8], "<u8")[0])
     return found[(rows[found] == numpy.frombuffer(data, "u1")).all(axis=1)]
