@@ -239,6 +239,10 @@ rows_are_changed_in_cpp() (
     lists 3 0 '5\n8\n9\n'
 )
 
+rows_are_rewritten_in_place_in_cpp() (
+    behaves rewriting rewriting_beside rewriting_by_threads rewriting_is_refused
+)
+
 rows_are_read_in_cpp() (
     behaves reading iterators pieces shared_iterator ranges searching
 )
@@ -278,7 +282,15 @@ a_wait_has_a_deadline_in_cpp() (
 )
 
 a_flusher_in_cpp_commits_what_nobody_settles() (
-    behaves flushing
+    behaves flushing own_flusher
+)
+
+a_wait_for_the_device_keeps_no_seat_from_others_in_cpp() (
+    behaves settling_lends_seats
+)
+
+a_push_takes_no_long_time_in_cpp() (
+    behaves pushing_long
 )
 
 an_appender_gathers_rows_in_cpp() (
@@ -445,7 +457,8 @@ memory_is_used_rightly_in_cpp() (
     no_complaint_of_threads 2
     no_complaint_by behaviours growing greatest_growth structs other_types reading iterators shared_iterator ranges changing \
         changing_counts_on changing_has_seats_again changing_ends changing_beside changing_breaks appenders closing \
-        closing_meanwhile moving opening_without_memory refusals breaking few_seats many_threads renewing
+        closing_meanwhile moving opening_without_memory refusals breaking few_seats many_threads renewing own_flusher \
+        settling_lends_seats rewriting rewriting_beside rewriting_by_threads rewriting_is_refused
     rm -f "$work"/t.cv*
     sanitized sizes
     timeout 60 "$work/sizes" "$work/t.cv"
@@ -470,7 +483,8 @@ threads_are_in_order_in_cpp() (
     has_cpp_under thread
     no_complaint_of_threads 2
     no_complaint_by behaviours deadlines_for_a_seat flushing shortening shared_iterator changing_beside closing_meanwhile \
-        few_seats many_threads turns reading_beside_reads renewing
+        few_seats many_threads turns reading_beside_reads renewing own_flusher settling_lends_seats rewriting_beside \
+        rewriting_by_threads
     no_complaint_by lent early_references
     no_complaint_by views a_call_waits calls_come_soon
     # As in a program whose C isn't built for it either.

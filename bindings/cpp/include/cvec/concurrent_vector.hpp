@@ -20,6 +20,7 @@
 #include <chrono>
 #include <cstddef>
 #include <cstdint>
+#include <cstring>
 #include <initializer_list>
 #include <iterator>
 #include <memory>
@@ -140,6 +141,30 @@ template <class T, class Layout = one_record> class concurrent_vector {
         change(first, rows.begin(), rows.end());
     }
 
+    // Calls use(rows) with a mutable_rows<T>, a copy of all rows that there are, and then writes it over them, from the first row that
+    // differs to the last: by changes of max_growth() rows, each of which is whole or not at all after a crash. Meanwhile other calls
+    // that want the vector alone wait, or are CVEC_BUSY in its own thread; all others go on, and what they grow stands behind. What
+    // `use` throws changes nothing.
+    template <class Use> void exclusive(Use &&use) {
+        detail::word_file::exclusion others(file());
+        const size_type count = size();
+        const std::unique_ptr<unsigned char[]> copy(new unsigned char[count * row::bytes]);
+        for_each_piece(0, count, [&](const cvec::rows<T, Layout> &piece) {
+            std::memcpy(copy.get() + piece.first() * row::bytes, std::addressof(piece[0]), piece.size() * row::bytes);
+        });
+        std::forward<Use>(use)(mutable_rows<T, Layout>(copy.get(), count));
+        const auto differs = [&](size_type at) {
+            return std::memcmp(copy.get() + at * row::bytes, std::addressof((*this)[at]), row::bytes) != 0;
+        };
+        size_type first = 0, last = count;
+        while (first < last && !differs(first)) ++first;
+        while (first < last && !differs(last - 1)) --last;
+        for (size_type some = 0; first < last; first += some) {
+            some = std::min(last - first, max_growth());
+            others.write(std::uint64_t{first} * row::words, copy.get() + first * row::bytes, some * row::words);
+        }
+    }
+
     // Writes what was changed to its place in the file, which costs a write for each changed record. Without it the file
     // keeps each change besides.
     void fold() { file().fold(); }
@@ -194,6 +219,11 @@ template <class T, class Layout = one_record> class concurrent_vector {
     // stop_flusher or close is called. It throws where a commit is refused.
     template <class Rep, class Period> void run_flusher(const std::chrono::duration<Rep, Period> &every) {
         file().run_flusher(detail::milliseconds_of(every));
+    }
+
+    // The same by a thread of the library's own, which stop_flusher or close ends, or a commit that is refused for good: nobody is told.
+    template <class Rep, class Period> void start_flusher(const std::chrono::duration<Rep, Period> &every) {
+        file().start_flusher(detail::milliseconds_of(every));
     }
 
     // Ends the loops of flushers, each that is begun later too. It doesn't wait for them.

@@ -91,6 +91,12 @@ class word_file final : public open_file, public std::enable_shared_from_this<wo
         require_unless_closed(cvec_vector_run_flusher(vector_, milliseconds));
     }
 
+    // The same by a thread of the library's.
+    void start_flusher(std::uint64_t milliseconds) {
+        refuse_ended();
+        require(cvec_vector_start_flusher(vector_, milliseconds));
+    }
+
     void stop_flusher() {
         refuse_forked();
         require_unless_closed(cvec_vector_stop_flusher(vector_));
@@ -215,6 +221,34 @@ class word_file final : public open_file, public std::enable_shared_from_this<wo
 
     // ---- having the file alone
 
+    // As long as it lives nobody has the file alone, and what stands changes by `write` alone. Words are grown and read meanwhile. Threads
+    // that begin one wait for one another, and for views as calls that want the file alone.
+    class exclusion {
+      public:
+        explicit exclusion(word_file &file) : file_(file), turn_(file.take_exclusion()), mine_(&file) {
+            file.holds_.give_way();
+            const holds::want now(file.holds_, file.wait_for_views_);
+            if (!now.await_none()) file.refuse_held();
+            const std::lock_guard<std::mutex> lock(file.learning_); // behind a call that has the file alone
+            file.holds_.begin_exclusion();
+        }
+        exclusion(const exclusion &) = delete;
+        exclusion &operator=(const exclusion &) = delete;
+        ~exclusion() { file_.holds_.end_exclusion(); }
+
+        // Writes some words over those from this place on, which are there, as one frame.
+        void write(std::uint64_t from, const void *words, std::size_t count) {
+            file_.act_alone(holds::excluding, [&](bool &) {
+                return cvec_vector_change(file_.vector_, file_.type_, from, words, count);
+            });
+        }
+
+      private:
+        word_file &file_;
+        const std::unique_lock<std::mutex> turn_;
+        const filling mine_;
+    };
+
     // Takes the words behind so many away, if there are some.
     void cut(std::uint64_t length) {
         run_alone([this, length](bool &has_begun) {
@@ -252,6 +286,12 @@ class word_file final : public open_file, public std::enable_shared_from_this<wo
     }
 
   private:
+    std::unique_lock<std::mutex> take_exclusion() {
+        refuse_ended();
+        if (filling::is_of(this)) refuse_held();
+        return std::unique_lock<std::mutex>(excluding_);
+    }
+
     [[nodiscard]] std::uint32_t settle(std::uint64_t milliseconds) const {
         refuse_ended();
         return cvec_vector_settle(vector_, milliseconds);
@@ -285,11 +325,16 @@ class word_file final : public open_file, public std::enable_shared_from_this<wo
     template <class Action> void run_alone(const Action &act) {
         refuse_ended();
         if (filling::is_of(this)) refuse_held();
-        const holds::want mine(holds_, wait_for_views_);
+        act_alone(holds::any, act);
+    }
+
+    template <class Action> void act_alone(holds::caller who, const Action &act) {
+        const holds::want mine(holds_, wait_for_views_, who);
         for (;;) {
             if (!mine.await_none()) refuse_held();
             await_all();
             const std::lock_guard<std::mutex> lock(learning_);
+            if (mine.is_excluded()) continue;
             bool has_begun = true;
             const std::uint32_t status = act(has_begun);
             if (status == CVEC_BUSY) continue;
@@ -324,6 +369,7 @@ class word_file final : public open_file, public std::enable_shared_from_this<wo
         for (;;) {
             if (!mine.await_none()) return CVEC_BUSY;
             const std::lock_guard<std::mutex> lock(learning_);
+            if (mine.is_excluded()) continue;
             const std::uint32_t status = end();
             if (status == CVEC_BUSY) continue;
             index_.clear();
@@ -336,7 +382,7 @@ class word_file final : public open_file, public std::enable_shared_from_this<wo
     std::mutex learning_;
     holds holds_;
     const std::chrono::milliseconds wait_for_views_;
-    std::mutex turn_;
+    std::mutex turn_, excluding_;
 };
 
 } // namespace detail
