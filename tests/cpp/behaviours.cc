@@ -1039,6 +1039,9 @@ static void rewriting(const std::string &path) {
     for (std::uint64_t k = 0; k < 5; ++k) turns.push_back(turned(k));
     turns.exclusive([](auto rows) { std::reverse(rows.begin() + 1, rows.end()); });
     HOLDS(turns_of(turns) == list({0, 4, 3, 2, 1}) && made == changes({{3, 12}}));
+    cvec::concurrent_vector<std::array<char, 3>> letters{{'c', 'b', 'a'}, {'a', 'b', 'c'}};
+    letters.exclusive([](auto rows) { std::sort(rows.begin(), rows.end()); });
+    HOLDS(letters[0][0] == 'a' && letters[1][0] == 'c');
     noted = nullptr;
 }
 
@@ -1258,6 +1261,14 @@ static void moving(const std::string &path) {
         [&] { other.run_flusher(std::chrono::seconds(1)); },
         [&] { other.start_flusher(std::chrono::seconds(1)); },
         [&] { other.exclusive([](auto) {}); },
+        [&] { other.save(path + ".saved"); },
+        [&] { other.assign(1, 1); },
+        [&] { other.assign({1, 2}); },
+        [&] { other = {1, 2}; },
+        [&] { vector = other; },
+        [&] { numbers copy(other); },
+        [&] { other.reserve(1); },
+        [&] { other.shrink_to_fit(); },
         [&] { other.stop_flusher(); },
         [&] { static_cast<void>(other[0]); },
         [&] { static_cast<void>(other.at(0)); },

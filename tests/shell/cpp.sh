@@ -131,7 +131,7 @@ a_type_without_rows_is_refused_with_its_reason() (
         is_refused_as 'T has 256 bytes at most' "$type"
     done
     for type in std::string 'std::vector<int>' 'const int' 'volatile double' 'std::unique_ptr<int>' \
-        'std::pair<int, std::string>' 'std::pair<int &, int>'; do
+        'std::pair<int, std::string>' 'std::pair<int &, int>' 'std::tuple<int, std::string>'; do
         is_refused_as 'T is copied to a file byte by byte' "$type"
     done
     printf '#include "cvec/concurrent_vector.hpp"\nstruct bytes { char all[256]; };\n%s\n' \
@@ -256,9 +256,19 @@ growths_have_receipts_in_cpp() (
 )
 
 programs_use_a_vector_as_one_in_memory_in_cpp() (
-    behaves_by idioms own_addresses fields texts compared inserted
+    behaves_by idioms own_addresses fields texts compared inserted two_iterators hints tuples
     link_cpp -std=c++20 -o "$work/idioms" "$cpp_tests/idioms.cc"
-    each_behaves "$work/idioms" fields compared inserted
+    each_behaves "$work/idioms" fields compared inserted ordered begun copied
+)
+
+a_vector_begins_with_rows_in_cpp() (
+    behaves_by idioms begun copied assigned
+)
+
+a_vector_stands_in_memory_alone_in_cpp() (
+    behaves_by idioms in_memory
+    [ ! -e "$work/t.cv" ]
+    behaves_by idioms saved a_save_is_refused
 )
 
 a_path_with_a_zero_byte_is_refused_in_cpp() (
@@ -468,7 +478,8 @@ memory_that_is_lent_is_used_rightly_in_cpp() (
     has_cpp_under address,undefined
     no_complaint_by lent each_type many_growths a_part_is_kept a_member_is_kept the_greater_one_is_kept spans early_references \
         lent_anew room_for_eight forked
-    no_complaint_by idioms own_addresses texts inserted an_appender_is_left a_view_keeps_others
+    no_complaint_by idioms own_addresses texts inserted an_appender_is_left a_view_keeps_others two_iterators hints tuples begun \
+        copied assigned in_memory saved a_save_is_refused
     no_complaint_by views each_call copies a_call_waits calls_come_soon it_outlives_the_vector it_outlives_an_assignment \
         what_was_grown_is_kept a_child_has_its_own
     no_complaint_by in_place each_type what_it_gives what_it_throws refusals calls_within_it one_within_another \

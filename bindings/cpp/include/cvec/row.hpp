@@ -12,6 +12,7 @@
 #include <memory>
 #include <new>
 #include <optional>
+#include <tuple>
 #include <type_traits>
 #include <utility>
 #include <vector>
@@ -41,10 +42,16 @@ inline constexpr std::size_t most_bytes = (std::size_t{1} << 20) - 8;
 
 template <class Iterator> using category_of = typename std::iterator_traits<Iterator>::iterator_category;
 
-// Types whose bytes are all that there is of a value. A pair isn't trivially copyable, but only since it is assigned to part by
-// part, which nothing here does.
+// An iterator that is no path: of two pointers to char one may be meant as that.
+template <class Iterator>
+using value_of_iterator = std::enable_if_t<!std::is_convertible_v<Iterator, std::string> && !std::is_same_v<category_of<Iterator>, void>,
+                                           typename std::iterator_traits<Iterator>::value_type>;
+
+// Types whose bytes are all that there is of a value. A pair and a tuple aren't trivially copyable, but only since they are assigned to
+// part by part, which nothing here does.
 template <class T> struct is_its_bytes : std::is_trivially_copyable<T> {};
 template <class A, class B> struct is_its_bytes<std::pair<A, B>> : std::conjunction<is_its_bytes<A>, is_its_bytes<B>> {};
+template <class... Parts> struct is_its_bytes<std::tuple<Parts...>> : std::conjunction<is_its_bytes<Parts>...> {};
 
 template <class T, class Layout = one_record> struct row {
     using kept = keeping<T, Layout>;
@@ -117,6 +124,14 @@ template <class T, class Layout = one_record> struct row {
 
     static growth grow(word_file &file, const std::vector<word> &all) {
         return grow(file, all.data(), all.size() / words);
+    }
+
+    // Any number of rows, by as many growths as they take.
+    template <class Iterator> static void grow_all(word_file &file, Iterator first, Iterator last) {
+        for (std::vector<word> some; first != last; some.clear()) {
+            for (; first != last && some.size() < most_in_growth * words; ++first) add(some, *first);
+            grow(file, some);
+        }
     }
 
     // Of rows that lie in memory as they will in the file, without a copy on the way.

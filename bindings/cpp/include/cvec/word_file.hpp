@@ -14,6 +14,7 @@
 #include <cstdint>
 #include <memory>
 #include <mutex>
+#include <optional>
 #include <string>
 #include <utility>
 
@@ -41,7 +42,7 @@ class lease {
 class word_file final : public open_file, public std::enable_shared_from_this<word_file> {
   public:
     // A row is so many words, which have so many bytes together.
-    word_file(const std::string &path, cvec_type type, std::size_t words, std::size_t bytes, const options &wanted)
+    word_file(const std::optional<std::string> &path, cvec_type type, std::size_t words, std::size_t bytes, const options &wanted)
         : open_file(path, type, wanted), row_words_(words), index_(bytes), wait_for_views_(wanted.wait_for_views) {}
 
     // A destructor reports nothing: who wants to know calls close.
@@ -66,12 +67,14 @@ class word_file final : public open_file, public std::enable_shared_from_this<wo
 
     // Waits until the growth of this number, and each before it, is durable.
     void await(std::uint64_t number) {
+        refuse_in_memory();
         const lease lent(*this);
         require(cvec_seat_settle(lent.seat(), number, CVEC_NO_LIMIT));
     }
 
     // The same, for others, also for a seat, so many milliseconds at most: then false.
     bool await_for(std::uint64_t number, std::uint64_t milliseconds) {
+        refuse_in_memory();
         const auto begun = waiting_clock::now();
         cvec_seat *borrowed = nullptr;
         if (!is_in_time(borrow(milliseconds, &borrowed))) return false;
@@ -88,17 +91,20 @@ class word_file final : public open_file, public std::enable_shared_from_this<wo
     // Commits what was grown, and so again and again behind such a pause, until stop_flusher or the close.
     void run_flusher(std::uint64_t milliseconds) {
         refuse_forked();
+        refuse_in_memory();
         require_unless_closed(cvec_vector_run_flusher(vector_, milliseconds));
     }
 
     // The same by a thread of the library's.
     void start_flusher(std::uint64_t milliseconds) {
         refuse_ended();
+        refuse_in_memory();
         require(cvec_vector_start_flusher(vector_, milliseconds));
     }
 
     void stop_flusher() {
         refuse_forked();
+        refuse_in_memory();
         require_unless_closed(cvec_vector_stop_flusher(vector_));
     }
 
@@ -294,6 +300,7 @@ class word_file final : public open_file, public std::enable_shared_from_this<wo
 
     [[nodiscard]] std::uint32_t settle(std::uint64_t milliseconds) const {
         refuse_ended();
+        refuse_in_memory();
         return cvec_vector_settle(vector_, milliseconds);
     }
 
@@ -332,7 +339,7 @@ class word_file final : public open_file, public std::enable_shared_from_this<wo
         const holds::want mine(holds_, wait_for_views_, who);
         for (;;) {
             if (!mine.await_none()) refuse_held();
-            await_all();
+            if (!is_in_memory()) await_all();
             const std::lock_guard<std::mutex> lock(learning_);
             if (mine.is_excluded()) continue;
             bool has_begun = true;
