@@ -68,7 +68,7 @@ compiles_without_a_warning() {
     for name in behaviours lent views in_place idioms; do
         compile_cpp -O2 -Wshadow -Wnon-virtual-dtor -fsyntax-only "$cpp_tests/$name.cc"
     done
-    for name in lent in_place idioms; do
+    for name in lent in_place idioms onetbb; do
         compile_cpp -std=c++20 -Wshadow -Wnon-virtual-dtor -fsyntax-only "$cpp_tests/$name.cc"
         compile_cpp -DCVEC_CHECKED -Wshadow -Wnon-virtual-dtor -fsyntax-only "$cpp_tests/$name.cc"
     done
@@ -577,13 +577,17 @@ has_tbb() {
     c++ -std=c++17 -o "$work/empty" "$work/empty.cc" -ltbb 2>/dev/null || lacks 'there is no oneTBB (libtbb-dev)'
 }
 
+# The program of this name for oneTBB, with the include and the types that are here.
+with_types_of_ours() {
+    sed -e 's|<oneapi/tbb/concurrent_vector\.h>|<cvec/concurrent_vector.hpp>|' -e 's|tbb::concurrent_vector|cvec::concurrent_vector|' \
+        "$cpp/$1_tbb.cc"
+}
+
 # But for its include, its type and its constructor the program is the one that is written for oneTBB.
 a_program_for_onetbb_is_made_durable() (
     has_cpp || exit $is_skipped
     make_cpp
-    sed -e 's|<oneapi/tbb/concurrent_vector\.h>|<cvec/concurrent_vector.hpp>|' \
-        -e 's|tbb::concurrent_vector|cvec::concurrent_vector|' -e 's|> primes;|> primes("primes.cv");|' "$cpp/primes_tbb.cc" |
-        cmp - "$cpp/primes.cc"
+    with_types_of_ours primes | sed 's|> primes;|> primes("primes.cv");|' | cmp - "$cpp/primes.cc"
     link_cpp -o "$work/primes" "$cpp/primes.cc"
     cd "$work"
     timeout 60 ./primes >"$out"
@@ -592,11 +596,78 @@ a_program_for_onetbb_is_made_durable() (
     seq 99999 | factor | awk 'NF == 2 { print $2 }' | cmp - "$work/found"
 )
 
-the_program_for_onetbb_prints_the_same() (
+# Of this example so many lines differ, added and taken away, but for those. What it prints stands in the file $out.
+is_ported_by() {
+    with_types_of_ours "$2" | diff - "$cpp/$2.cc" >"$work/lines" || :
+    [ "$(grep -c '^[<>]' "$work/lines")" -eq "$1" ]
+    link_cpp -o "$work/$2" "$cpp/$2.cc"
+    (cd "$work" && timeout 60 "./$2") >"$out"
+}
+
+# The first by another algorithm.
+writes_corners() { echo '28 corners, twice the area is 2195051227153'; }
+
+writes_alarms() {
+    seq 0 9999 | awk '{ value = $1 * $1 % 9973 } value > 9966 { print "second " $1 ": " value }'
+    echo '10000 samples'
+}
+
+sums_of_digits() {
+    seq 0 9999 | awk '{ sum = 0; for (at = 1; at <= length($1); at++) sum += substr($1, at, 1); print sum, $1 }'
+}
+
+writes_buckets() {
+    sums_of_digits | awk '{ ++count[$1] } END { for (sum = 0; sum <= 36; sum++) print sum ": " count[sum] " numbers" }'
+}
+
+# In memory alone; in a file, read by addresses that last; and many small ones, each of which gets a file.
+programs_for_onetbb_are_ported_by_few_lines() (
+    has_cpp || exit $is_skipped
+    make_cpp
+    is_ported_by 0 hull
+    writes_corners | cmp - "$out"
+    [ -z "$(find "$work" -name '*.cv')" ]
+    is_ported_by 2 alarms
+    writes_alarms | cmp - "$out"
+    "$top/cvec" list pair "$work/alarms.cv" | sort -n >"$work/found"
+    seq 0 9999 | awk '{ print $1 ":" $1 * $1 % 9973 }' | cmp - "$work/found"
+    is_ported_by 4 buckets
+    writes_buckets | cmp - "$out"
+    "$top/cvec" list u64 "$work/bucket7.cv" | sort -n >"$work/found"
+    sums_of_digits | sed -n 's/^7 //p' | cmp - "$work/found"
+    [ "$(find "$work" -name 'bucket*.cv' | wc -l)" -eq 37 ]
+)
+
+the_programs_for_onetbb_print_the_same() (
     has_cpp && has_tbb || exit $is_skipped
     # Its headers have warnings of their own.
-    compile_cpp -w -o "$work/primes_tbb" "$cpp/primes_tbb.cc" -ltbb -lpthread
-    [ "$(timeout 60 "$work/primes_tbb")" = '9592 primes, whose sum is 454396537' ]
+    for name in primes hull alarms buckets; do
+        compile_cpp -w -o "$work/${name}_tbb" "$cpp/${name}_tbb.cc" -ltbb -lpthread
+        timeout 60 "$work/${name}_tbb" >"$work/$name.out"
+    done
+    [ "$(cat "$work/primes.out")" = '9592 primes, whose sum is 454396537' ]
+    writes_corners | cmp - "$work/hull.out"
+    writes_alarms | cmp - "$work/alarms.out"
+    writes_buckets | cmp - "$work/buckets.out"
+)
+
+behaviours_of_onetbb='types constructors deduction assignment swapping growing addresses threads access iterators ranges storage comparisons
+    what_is_missing'
+
+each_member_of_onetbb_is_here() (
+    has_cpp || exit $is_skipped
+    make_cpp
+    link_cpp -std=c++20 -o "$work/onetbb" "$cpp_tests/onetbb.cc"
+    # shellcheck disable=SC2086 # each is a word
+    each_behaves "$work/onetbb" $behaviours_of_onetbb
+)
+
+# What is tested above is what oneTBB does.
+each_member_of_onetbb_is_so_there() (
+    has_cpp && has_tbb || exit $is_skipped
+    compile_cpp -w -std=c++20 -DFOR_ONETBB -o "$work/onetbb" "$cpp_tests/onetbb.cc" -ltbb -lpthread
+    # shellcheck disable=SC2086 # each is a word
+    each_behaves "$work/onetbb" $behaviours_of_onetbb
 )
 
 ranges_are_for_the_algorithms_of_onetbb() (
