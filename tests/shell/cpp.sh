@@ -193,8 +193,16 @@ rows_in_cpp_have_any_size() (
     printf '%s\n' 4294967295 5 2147483648 4294967294 4294967294 4294967292 4294967293 4294967294 4294967295 | cmp - "$out"
     run list u64 "$work/t.cv.u64"
     printf '%s\n' 4294967295 5 2147483648 18446744069414584327 | cmp - "$out"
-    run list u64 "$work/t.cv.char"
+    run list u8 "$work/t.cv.char"
     did '65\n'
+    run list u16 "$work/t.cv.2"
+    did '513\n'
+    run list bytes24 "$work/t.cv.24"
+    did '010000000000000002000000000000000300000000000000\n'
+    run list bytes32 "$work/t.cv.32"
+    did '0100000000000000020000000000000003000000000000000400000000000000\n'
+    run list bytes64 "$work/t.cv.64"
+    did "$(printf '%02x00000000000000' 1 2 3 4 5 6 7 8)\n"
     run list u32 "$work/t.cv.float"
     did '1065353216\n'
     run list pair "$work/t.cv.pair"

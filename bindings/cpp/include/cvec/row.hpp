@@ -29,11 +29,19 @@ template <class Word, cvec_type Type, std::size_t Width> struct kept_by {
 
 using by_u64 = kept_by<std::uint64_t, CVEC_U64, 8>;
 
+// A row of one of these sizes is one record; of another it is whole records of u64.
+template <std::size_t Size> struct record_of_size { using kept = by_u64; };
+template <> struct record_of_size<1> { using kept = kept_by<std::uint8_t, CVEC_U8, 1>; };
+template <> struct record_of_size<2> { using kept = kept_by<std::uint16_t, CVEC_U16, 2>; };
+template <> struct record_of_size<4> { using kept = kept_by<std::uint32_t, CVEC_U32, 4>; };
+template <> struct record_of_size<16> { using kept = kept_by<cvec_pair, CVEC_PAIR, 16>; };
+template <> struct record_of_size<24> { using kept = kept_by<cvec_bytes24, CVEC_BYTES24, 24>; };
+template <> struct record_of_size<32> { using kept = kept_by<cvec_bytes32, CVEC_BYTES32, 32>; };
+template <> struct record_of_size<64> { using kept = kept_by<cvec_bytes64, CVEC_BYTES64, 64>; };
+
 template <class T>
-using by_record = std::conditional_t<
-    std::is_same_v<T, cvec_flagged>, kept_by<cvec_flagged, CVEC_FLAGGED, 9>,
-    std::conditional_t<sizeof(T) == 4, kept_by<std::uint32_t, CVEC_U32, 4>,
-                       std::conditional_t<sizeof(T) == 16, kept_by<cvec_pair, CVEC_PAIR, 16>, by_u64>>>;
+using by_record = std::conditional_t<std::is_same_v<T, cvec_flagged>, kept_by<cvec_flagged, CVEC_FLAGGED, 9>,
+                                     typename record_of_size<sizeof(T)>::kept>;
 
 template <class T, class Layout> using keeping = std::conditional_t<std::is_same_v<Layout, rows_of_u64>, by_u64, by_record<T>>;
 
