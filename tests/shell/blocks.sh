@@ -1,4 +1,4 @@
-# The blocks of commands, and of C and Python, that the pages show.
+# The blocks of commands, and of Python on the README, that the pages show.
 
 # ---- the pages as they stand
 
@@ -16,23 +16,6 @@ no_page_makes_a_file_of_another() (
     if has_c; then make_c_library; fi
     export TMPDIR="$work"
     "$top/tests/blocks" --together >"$out" || { cat "$out"; exit 1; }
-)
-
-# The README shows what stands in a function.
-the_readme_appends_in_c() (
-    has_c || exit $is_skipped
-    make_c_library
-    {
-        printf '#include "cvec.h"\n\nint main(void) {\n'
-        shown_in ../README.md c
-        printf 'return status == CVEC_DONE && count == 3 && records[2] == 11 ? 0 : 1;\n}\n'
-    } >"$work/shown.c"
-    cc -std=c99 -O2 -Wall -Wextra -Werror -pedantic "-I$c_headers" -o "$work/shown" "$work/shown.c" "$work/file.o" \
-        "$c_library" "$kit_library"
-    cd "$work"
-    ./shown
-    run list u64 numbers.cv
-    did '5\n7\n11\n'
 )
 
 the_readme_appends_in_python() (

@@ -298,6 +298,13 @@ each_check_of_a_test_can_fail() (
     [ ! -s "$out" ]
 )
 
+# An iterator of the toolchain steps over each item where a slice jumps: a loop that skips to its place each time is quadratic.
+no_list_is_stepped_over_to_jump() (
+    grep -rnE '\.(skip|nth|step_by)\(' "$top"/crates/*/src | grep -v 'env::args(' >"$work/steps" || :
+    head -n 5 "$work/steps" >&2
+    [ ! -s "$work/steps" ]
+)
+
 each_test_has_a_name_of_its_own() (
     [ -z "$("$top/tests/run" --list | sed 's/^ *//' | sort | uniq -d)" ]
 )

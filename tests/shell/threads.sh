@@ -560,8 +560,8 @@ a_seat_in_c_counts_and_finds_beside_growers() (
 
 a_block_in_c_is_grown_in_place() (
     lends_in_c blocks
-    run check flagged "$work/t.cv"
-    [ "$(cut -d ' ' -f -7 "$out")" = 'ok version 2 width 9 size 15' ]
+    run check bytes64 "$work/t.cv"
+    [ "$(cut -d ' ' -f -7 "$out")" = 'ok version 2 width 64 size 15' ]
 )
 
 a_block_in_c_that_is_refused_stays() (

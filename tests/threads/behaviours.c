@@ -1210,8 +1210,8 @@ static void reads_typed(cvec_type type, const uint64_t *numbers, uint64_t len) {
 static void has_typed(const char *path, cvec_type type, const uint64_t *numbers, uint64_t len) {
     reads_typed(type, numbers, len);
     HOLDS(cvec_vector_close(&vector) == CVEC_DONE);
-    for (int k = 0; k < VECTOR_TYPES; k++) {
-        const cvec_type other = vector_types[k];
+    for (int k = 0; k < CVEC_TYPE_COUNT; k++) {
+        const cvec_type other = (cvec_type)k;
         if (width_of(other) != width_of(type)) HOLDS(cvec_vector_open(&vector, path, other, &(cvec_options){.seats = 2}) == CVEC_WIDTH && vector == NULL);
     }
     HOLDS(cvec_vector_open(&vector, path, type, &(cvec_options){.seats = 2}) == CVEC_DONE);
@@ -1288,8 +1288,9 @@ static void typed_of(const char *path, cvec_type type, uint8_t version) {
     HOLDS(cvec_vector_close(&vector) == CVEC_DONE);
 }
 
-/* No vector is made or opened by a type that files alone have, nor by a number that is none. */
-static void refuses_type(const char *path, cvec_type type) {
+/* No vector is made or opened by a number of no type. */
+static void refuses_type(const char *path) {
+    const cvec_type type = CVEC_TYPE_COUNT;
     remove(path);
     HOLDS(cvec_vector_create(&vector, path, type, &(cvec_options){.version = 1, .seats = 1}) == CVEC_NOT_SO && vector == NULL && access(path, F_OK) != 0);
     HOLDS(cvec_vector_create(&vector, path, CVEC_PAIR, &(cvec_options){.version = 1, .seats = 1}) == CVEC_DONE && cvec_vector_close(&vector) == CVEC_DONE);
@@ -1297,11 +1298,9 @@ static void refuses_type(const char *path, cvec_type type) {
 }
 
 static void typed(const char *path) {
-    static const cvec_type of_files[] = {CVEC_U8,      CVEC_U16,     CVEC_I32,     CVEC_F32,     CVEC_F64,
-                                         CVEC_BYTES16, CVEC_BYTES24, CVEC_BYTES32, CVEC_BYTES64, CVEC_TYPE_COUNT};
-    for (int k = 0; k < VECTOR_TYPES; k++)
-        for (uint8_t version = 1; version <= 2; version++) typed_of(path, vector_types[k], version);
-    for (size_t k = 0; k < sizeof of_files / sizeof *of_files; k++) refuses_type(path, of_files[k]);
+    for (int k = 0; k < CVEC_TYPE_COUNT; k++)
+        for (uint8_t version = 1; version <= 2; version++) typed_of(path, (cvec_type)k, version);
+    refuses_type(path);
 }
 
 /* A flag is 0 or 1: no call takes another byte for one, and nothing is grown or changed then. */
@@ -1692,8 +1691,8 @@ static void pushes_of(const char *path, cvec_type type, uint8_t version) {
 }
 
 static void pushes_typed(const char *path) {
-    for (int k = 0; k < VECTOR_TYPES; k++)
-        for (uint8_t version = 1; version <= 2; version++) pushes_of(path, vector_types[k], version);
+    for (int k = 0; k < CVEC_TYPE_COUNT; k++)
+        for (uint8_t version = 1; version <= 2; version++) pushes_of(path, (cvec_type)k, version);
 }
 
 /* The record of this number stands at that position, and what follows it in memory stays. */
@@ -1740,7 +1739,7 @@ static void at_of(const char *path, cvec_type type) {
 }
 
 static void at(const char *path) {
-    for (int k = 0; k < VECTOR_TYPES; k++) at_of(path, vector_types[k]);
+    for (int k = 0; k < CVEC_TYPE_COUNT; k++) at_of(path, (cvec_type)k);
 }
 
 /* ---- renewals: a phase that is full ends beside seats, and the next one begins */

@@ -181,7 +181,7 @@ static void tells_of(const char *path, cvec_type type) {
 }
 
 static void pieces(const char *path) {
-    for (int k = 0; k < VECTOR_TYPES && !is_wrong(); k++) tells_of(path, vector_types[k]);
+    for (int k = 0; k < CVEC_TYPE_COUNT && !is_wrong(); k++) tells_of(path, (cvec_type)k);
 }
 
 /* ---- beside growers */
@@ -427,11 +427,13 @@ static void blocks_of(const char *path, cvec_type type) {
 }
 
 static void blocks(const char *path) {
-    for (int k = 0; k < VECTOR_TYPES && !is_wrong(); k++) blocks_of(path, vector_types[k]);
+    for (int k = 0; k < CVEC_TYPE_COUNT && !is_wrong(); k++) blocks_of(path, (cvec_type)k);
 }
 
 /* The bytes of a record in a file, as docs/file/format.md says. */
-static const size_t widths[] = {[CVEC_U32] = 4, [CVEC_U64] = 8, [CVEC_I64] = 8, [CVEC_PAIR] = 16, [CVEC_FLAGGED] = 9};
+static const size_t widths[CVEC_TYPE_COUNT] = {
+    [CVEC_U8] = 1, [CVEC_U16] = 2, [CVEC_U32] = 4, [CVEC_U64] = 8, [CVEC_I32] = 4, [CVEC_I64] = 8, [CVEC_F32] = 4, [CVEC_F64] = 8,
+    [CVEC_PAIR] = 16, [CVEC_FLAGGED] = 9, [CVEC_BYTES16] = 16, [CVEC_BYTES24] = 24, [CVEC_BYTES32] = 32, [CVEC_BYTES64] = 64};
 
 /* As many records as one growth may have, and no more; a block that isn't lent leaves the seat without one. */
 static void has_blocks_of_lengths(const char *path, cvec_type type) {
@@ -465,7 +467,7 @@ static void keeps_a_flag_out(const char *path) {
 }
 
 static void blocks_refused(const char *path) {
-    for (int k = 0; k < VECTOR_TYPES && !is_wrong(); k++) has_blocks_of_lengths(path, vector_types[k]);
+    for (int k = 0; k < CVEC_TYPE_COUNT && !is_wrong(); k++) has_blocks_of_lengths(path, (cvec_type)k);
     keeps_a_flag_out(path);
 }
 
@@ -632,7 +634,7 @@ static void options(const char *path) {
         vector = (cvec_vector *)&vector;
         HOLDS(cvec_vector_open(&vector, path, CVEC_U64, &none[k].options) == none[k].answer && vector == NULL);
     }
-    HOLDS(cvec_vector_create(&vector, path, CVEC_BYTES24, NULL) == CVEC_NOT_SO && vector == NULL && access(path, F_OK) != 0);
+    HOLDS(cvec_vector_create(&vector, path, CVEC_TYPE_COUNT, NULL) == CVEC_NOT_SO && vector == NULL && access(path, F_OK) != 0);
     for (size_t k = 0; k < sizeof some / sizeof *some && !is_wrong(); k++) {
         remove(path);
         HOLDS(cvec_vector_create(&vector, path, CVEC_U64, &some[k].options) == CVEC_DONE);

@@ -275,15 +275,16 @@ typedef struct cvec_options {
 /* Makes a file, or opens one that is there. The file is locked (flock) until the vector is closed; a lock that readers share is waited
  * for, 10 seconds. It is the one that has the name then. Any other number than CVEC_DONE leaves *vector NULL. CVEC_EXISTS: what is
  * there stays; a file is made over nothing but what a stopped creation of that version and type leaves. CVEC_WIDTH: its records have
- * another width. A file has no name for their type: one of u64 is opened as i64 too.
+ * another width. A file has no name for their type: one of u64 is opened as i64 or f64 too.
  *
  * A creation whose path is NULL makes a vector in memory alone, which ends with its close. It has no file and no descriptor, and nothing
  * of it is durable: none of its growths is settled, and to settle or flush it, or to ask which file it is, is CVEC_NOT_SO. What else there
  * is does as it says.
  *
- * A vector's records are of u32, u64, i64, pair or flagged (else CVEC_NOT_SO). A call that names records takes their type, and is
- * CVEC_WIDTH where the vector's have another width; it takes them, or writes them, by a pointer to them as C has them. A flag that is
- * neither 0 nor 1 is CVEC_NO_RECORD, and nothing is done then. The typed functions at the end are the same calls.
+ * A vector's records are of a type of CVEC_TYPES (else CVEC_NOT_SO). A call that names records takes their type, and is CVEC_WIDTH where
+ * the vector's have another width; it takes them, or writes them, by a pointer to them as C has them. Records are equal, to count and
+ * find, where their bytes are: of floats too. A flag that is neither 0 nor 1 is CVEC_NO_RECORD, and nothing is done then. The typed
+ * functions at the end are the same calls.
  *
  * Options may be NULL. What is refused by them is so before a file is made. A phase is what is grown between two pauses (cvec_seat_grow).
  * With room for more than 1,048,568 growths each seat and who commits reserve 4 bytes of addresses for each growth of it, of which memory

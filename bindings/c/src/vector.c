@@ -27,11 +27,6 @@ static uint64_t default_growths(uint16_t seats) {
 #endif
 }
 
-/* Whether the library has vectors of these. */
-static bool is_of_vectors(cvec_type type) {
-    return type == CVEC_U32 || type == CVEC_U64 || type == CVEC_I64 || type == CVEC_PAIR || type == CVEC_FLAGGED;
-}
-
 /* ---- what a vector has */
 
 static pthread_cond_t *condition_of(cvec_vector *vector, int number) {
@@ -149,7 +144,7 @@ static cvec_options all_options(const cvec_options *said) {
 
 /* What is refused before a file is made. */
 static uint32_t check_options(cvec_type type, const cvec_options *options) {
-    if (!is_of_vectors(type) || options->version > 2) return CVEC_NOT_SO;
+    if (width_of(type) == 0 || options->version > 2) return CVEC_NOT_SO;
     if (options->pushes > (size_t)LARGEST_GROWTH / width_of(type)) return CVEC_TOO_LARGE;
     return options->seats > MOST_SEATS || options->growths > MOST_GROWTHS ? CVEC_TOO_LARGE : CVEC_DONE;
 }

@@ -1,5 +1,6 @@
 mod Begins
 pub mod BlockEnds
+pub mod Dividing
 pub mod MarkMoves
 pub mod Owns
 pub mod PieceLists

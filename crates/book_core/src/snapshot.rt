@@ -14,6 +14,7 @@ use directory_core::Pass;
 use record_core::Record;
 use std::marker::Model;
 
+mod dividing;
 mod hints;
 mod records;
 mod slices;
@@ -22,7 +23,7 @@ pub use records::Records;
 use slices::Slices;
 
 /// The records that a seat knew, from before the phase and of the phase's growths, in slices with a row of their
-/// starts: a read at random takes a division, where all slices but the last have one length, and else a short search in
+/// starts: a read at random takes a multiplication, where all slices but the last have one length, and else a short search in
 /// that row from a hint on, and nothing else. Many threads may read one snapshot, and what
 /// it lends lives as long as the phase, whatever becomes of the snapshot. Contracts see it as the phase that it is of
 /// and the records of each growth that it has; its list is `list_in`.

@@ -33,8 +33,13 @@ lost_of (roles.Grower grower) (roles.Phase old) (roles.Phase new) seats = inr (r
 lost_of seat old new seats = absurd seats
 
 pub seat_lost : (seat old new : End) → AllAt (λ _ _ _. Seats) seat old new → AtAny (λ _ _ _. RefusesSeat Memory) old new
+seat_lost (ends.U8 seat) (ends.U8 old) (ends.U8 new) seats = lost_of seat old new seats
+seat_lost (ends.U16 seat) (ends.U16 old) (ends.U16 new) seats = lost_of seat old new seats
 seat_lost (ends.U32 seat) (ends.U32 old) (ends.U32 new) seats = lost_of seat old new seats
 seat_lost (ends.U64 seat) (ends.U64 old) (ends.U64 new) seats = lost_of seat old new seats
 seat_lost (ends.Pair seat) (ends.Pair old) (ends.Pair new) seats = lost_of seat old new seats
 seat_lost (ends.Flagged seat) (ends.Flagged old) (ends.Flagged new) seats = lost_of seat old new seats
+seat_lost (ends.Bytes24 seat) (ends.Bytes24 old) (ends.Bytes24 new) seats = lost_of seat old new seats
+seat_lost (ends.Bytes32 seat) (ends.Bytes32 old) (ends.Bytes32 new) seats = lost_of seat old new seats
+seat_lost (ends.Bytes64 seat) (ends.Bytes64 old) (ends.Bytes64 new) seats = lost_of seat old new seats
 seat_lost seat old new seats = absurd seats

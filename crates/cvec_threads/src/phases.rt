@@ -16,7 +16,7 @@ use handle_core::{End, Handle};
 use segment_core::Format;
 use std::alloc::Global;
 
-/// A file whose records have so many bytes, 4, 8, 9 or 16, with memory for `len` bytes of its own: `cvec_phase_feed` puts these
+/// A file whose records have so many bytes, 1, 2, 4, 8, 9, 16, 24, 32 or 64, with memory for `len` bytes of its own: `cvec_phase_feed` puts these
 /// there, as they are read. What the handle had is given up.
 #[unsafe(no_mangle)]
 pub extern "C" fn cvec_phase_file(alloc: Global, len: u64, width: u16, file: &mut Handle) -> u32

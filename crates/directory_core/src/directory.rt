@@ -208,11 +208,13 @@ impl<R: Record> Directory<R> {
         ensures all { KnowsAll pass.old → pass.new.entries ≡ pass.old.entries }
     {
         pass.find_nothing();
+        let known = pass.known();
         for _ in 0..self.room {
             if !self.learn(pass)? {
                 break;
             }
         }
+        pass.lay_ratio(known);
         Ok(pass.known())
     }
 

@@ -14,7 +14,7 @@ use crate::address::{PLACE_LIMIT, spot};
 use crate::bucket::Bucket;
 use crate::ending::Ends;
 use crate::fault::DirFault;
-use crate::finding::last_start;
+use crate::finding::last_start_by;
 use block_core::Entry;
 use once_cell::race::Note;
 use record_core::Record;
@@ -31,6 +31,8 @@ pub struct Pass<R: Record> {
     notes: Vec<Note<Entry<R>>>,
     starts: Vec<u32>,
     size: u64,
+    /// How many growths there were for each record when it last looked, in parts of 2^32. A guess by it takes no division.
+    ratio: u64,
     room: u64,
     limit: u64,
     /// Whether the end stands behind the growths that it knows, and the note of the cell that holds it: none where
@@ -89,6 +91,7 @@ impl<R: Record> Pass<R> {
             notes,
             starts,
             size: 0,
+            ratio: 0,
             room,
             limit,
             ended: false,
@@ -204,6 +207,16 @@ impl<R: Record> Pass<R> {
         self.end = end;
         self.ended = true;
         self.strayed = false;
+    }
+
+    /// Notes how many growths there are for each record, where it knows more of them than these.
+    pub(crate) fn lay_ratio(&mut self, known: u64)
+        ensures { self.new ≡ self.old }
+    {
+        let more = self.starts.len() as u64;
+        if more > known {
+            self.ratio = (more << 32).checked_div(self.size).unwrap_or(0);
+        }
     }
 
     /// Nothing was found behind the growths that it knows.
@@ -392,7 +405,7 @@ impl<R: Record> Pass<R> {
             return None;
         }
         let starts = self.starts.as_slice();
-        let number = last_start(starts, self.size, i);
+        let number = last_start_by(starts, self.size, i, self.ratio);
         Some((number as u64, (i - starts[number] as u64) as usize))
     }
 }

@@ -1,6 +1,8 @@
 -- Worked examples: what a call makes of a handle.
 use Rattle.std.proofs.Common.{◌≡◌, ℕ, None, Some, refl}
 use Rattle.std.specs.declared.cmp.PartialEq as PartialEq
+use Rattle.std.specs.contracts.prelude.U8PartialEq.TheImpl as u8_eq
+use Rattle.std.specs.contracts.prelude.U16PartialEq.TheImpl as u16_eq
 use Rattle.std.specs.contracts.prelude.U32PartialEq.TheImpl as u32_eq
 use Rattle.std.specs.contracts.prelude.U64PartialEq.TheImpl as u64_eq
 use Rattle.record_core.specs.declared.record.Record as Record
@@ -10,7 +12,18 @@ use Rattle.record_core.specs.contracts.key_value.PairPartialEq.TheImpl as pair_e
 use Rattle.record_core.specs.contracts.key_value.PairRecord.TheImpl as pair_record
 use Rattle.record_core.specs.contracts.key_flag.FlaggedPartialEq.TheImpl as flagged_eq
 use Rattle.record_core.specs.contracts.key_flag.FlaggedRecord.TheImpl as flagged_record
+use Rattle.record_core.specs.contracts.number.U8Record.TheImpl as u8_record
+use Rattle.record_core.specs.contracts.number.U16Record.TheImpl as u16_record
 use Rattle.record_core.specs.contracts.number.U32Record.TheImpl as u32_record
+use Rattle.record_core.specs.declared.byte_records.Bytes24.{Bytes24}
+use Rattle.record_core.specs.contracts.byte_records.Bytes24PartialEq.TheImpl as bytes24_eq
+use Rattle.record_core.specs.contracts.byte_records.Bytes24Record.TheImpl as bytes24_record
+use Rattle.record_core.specs.declared.byte_records.Bytes32.{Bytes32}
+use Rattle.record_core.specs.contracts.byte_records.Bytes32PartialEq.TheImpl as bytes32_eq
+use Rattle.record_core.specs.contracts.byte_records.Bytes32Record.TheImpl as bytes32_record
+use Rattle.record_core.specs.declared.byte_records.Bytes64.{Bytes64}
+use Rattle.record_core.specs.contracts.byte_records.Bytes64PartialEq.TheImpl as bytes64_eq
+use Rattle.record_core.specs.contracts.byte_records.Bytes64Record.TheImpl as bytes64_record
 use Rattle.record_core.specs.contracts.number.U64Record.TheImpl as u64_record
 use Rattle.c_core.specs.declared.refusal.Refusal.{Refusal}
 use Rattle.handle_core.specs.declared.end.Role.{Role}
@@ -27,6 +40,12 @@ stays end = refl
 gone : (P : End → End → Type 0) (end : End) → Becomes P (Some end) None → ⊥
 gone P end becomes = becomes
 
+abbrev U8Role : Type 0
+U8Role = Role ℕ u8_record.ghosts u8_eq.ghosts
+
+abbrev U16Role : Type 0
+U16Role = Role ℕ u16_record.ghosts u16_eq.ghosts
+
 abbrev U32Role : Type 0
 U32Role = Role ℕ u32_record.ghosts u32_eq.ghosts
 
@@ -39,10 +58,24 @@ PairRole = Role Pair pair_record.ghosts pair_eq.ghosts
 abbrev FlaggedRole : Type 0
 FlaggedRole = Role Flagged flagged_record.ghosts flagged_eq.ghosts
 
--- the bytes of a record of each width
-widths : (a : U32Role) (b : U64Role) (c : PairRole) (d : FlaggedRole)
-    → (width_of (ends.U32 a) ≡ 4) × (width_of (ends.U64 b) ≡ 8) × (width_of (ends.Pair c) ≡ 16) × (width_of (ends.Flagged d) ≡ 9)
-widths a b c d = (refl, refl, refl, refl)
+abbrev Bytes24Role : Type 0
+Bytes24Role = Role Bytes24 bytes24_record.ghosts bytes24_eq.ghosts
+
+abbrev Bytes32Role : Type 0
+Bytes32Role = Role Bytes32 bytes32_record.ghosts bytes32_eq.ghosts
+
+abbrev Bytes64Role : Type 0
+Bytes64Role = Role Bytes64 bytes64_record.ghosts bytes64_eq.ghosts
+
+-- the bytes of a record of each width: what a file of C's types is asked for
+widths : (a : U8Role) (b : U16Role) (c : U32Role) (d : U64Role) (e : PairRole) (f : FlaggedRole)
+    → (width_of (ends.U8 a) ≡ 1) × (width_of (ends.U16 b) ≡ 2) × (width_of (ends.U32 c) ≡ 4)
+    × (width_of (ends.U64 d) ≡ 8) × (width_of (ends.Pair e) ≡ 16) × (width_of (ends.Flagged f) ≡ 9)
+widths a b c d e f = (refl, refl, refl, refl, refl, refl)
+
+widths_of_bytes : (a : Bytes24Role) (b : Bytes32Role) (c : Bytes64Role)
+    → (width_of (ends.Bytes24 a) ≡ 24) × (width_of (ends.Bytes32 b) ≡ 32) × (width_of (ends.Bytes64 c) ≡ 64)
+widths_of_bytes a b c = (refl, refl, refl)
 
 -- what is said of any records is said of those that the ends have, whichever these are
 abbrev Any : Type 1
@@ -56,6 +89,21 @@ any_pair P old new made = made
 
 any_flagged : (P : Any) (old new : FlaggedRole) → AtAny P (ends.Flagged old) (ends.Flagged new) → P _ _ _ old new
 any_flagged P old new made = made
+
+any_bytes24 : (P : Any) (old new : Bytes24Role) → AtAny P (ends.Bytes24 old) (ends.Bytes24 new) → P _ _ _ old new
+any_bytes24 P old new made = made
+
+any_bytes32 : (P : Any) (old new : Bytes32Role) → AtAny P (ends.Bytes32 old) (ends.Bytes32 new) → P _ _ _ old new
+any_bytes32 P old new made = made
+
+any_bytes64 : (P : Any) (old new : Bytes64Role) → AtAny P (ends.Bytes64 old) (ends.Bytes64 new) → P _ _ _ old new
+any_bytes64 P old new made = made
+
+any_u8 : (P : Any) (old new : U8Role) → AtAny P (ends.U8 old) (ends.U8 new) → P _ _ _ old new
+any_u8 P old new made = made
+
+any_u16 : (P : Any) (old new : U16Role) → AtAny P (ends.U16 old) (ends.U16 new) → P _ _ _ old new
+any_u16 P old new made = made
 
 -- no call makes an end of one width of an end of another
 any_other : (P : Any) (old : U64Role) (new : FlaggedRole) → AtAny P (ends.U64 old) (ends.Flagged new) → ⊥

@@ -4,7 +4,7 @@ ghost use Rattle.std.specs.Prelude.{◌≡◌};
 
 use block_core::Fresh;
 use phase_core::{Committer, Grower, HostDisk, HostVault, Phase};
-use record_core::{Flagged, Pair, Record};
+use record_core::{Bytes24, Bytes32, Bytes64, Flagged, Pair, Record};
 use std::mem;
 
 /// Which end it is.
@@ -29,11 +29,18 @@ pub enum Role<R: Record> {
 /// An end, by what records its vector has.
 #[derive(Drop)]
 pub enum End {
+    U8(Role<u8>),
+    U16(Role<u16>),
+    /// Of each type of 4 bytes: records are equal where their bytes are.
     U32(Role<u32>),
-    /// Of `i64` too, whose bytes and whose equality are those of `u64`.
+    /// Of each of 8.
     U64(Role<u64>),
+    /// Of each of 16.
     Pair(Role<Pair>),
     Flagged(Role<Flagged>),
+    Bytes24(Role<Bytes24>),
+    Bytes32(Role<Bytes32>),
+    Bytes64(Role<Bytes64>),
 }
 
 impl<R: Record> Role<R> {

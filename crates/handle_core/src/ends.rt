@@ -19,10 +19,15 @@ use std::alloc::Global;
 macro_rules! at_end {
     ($end:expr, $role:ident => $call:expr) => {
         match $end {
+            End::U8($role) => $call,
+            End::U16($role) => $call,
             End::U32($role) => $call,
             End::U64($role) => $call,
             End::Pair($role) => $call,
             End::Flagged($role) => $call,
+            End::Bytes24($role) => $call,
+            End::Bytes32($role) => $call,
+            End::Bytes64($role) => $call,
         }
     };
 }
@@ -31,10 +36,15 @@ macro_rules! at_end {
 macro_rules! end_at {
     ($end:expr, $role:ident => $call:expr) => {
         match $end {
+            End::U8($role) => Ok(End::U8($call?)),
+            End::U16($role) => Ok(End::U16($call?)),
             End::U32($role) => Ok(End::U32($call?)),
             End::U64($role) => Ok(End::U64($call?)),
             End::Pair($role) => Ok(End::Pair($call?)),
             End::Flagged($role) => Ok(End::Flagged($call?)),
+            End::Bytes24($role) => Ok(End::Bytes24($call?)),
+            End::Bytes32($role) => Ok(End::Bytes32($call?)),
+            End::Bytes64($role) => Ok(End::Bytes64($call?)),
         }
     };
 }
@@ -138,6 +148,14 @@ impl End {
         ensures refused { IfErr result (λ refusal. OfAny (λ _ _ _. RefusesBlock count refusal) self.now) }
     {
         match self {
+            End::U8(role) => {
+                let (block, place) = role.block(alloc, count)?;
+                Ok((End::U8(block), place))
+            }
+            End::U16(role) => {
+                let (block, place) = role.block(alloc, count)?;
+                Ok((End::U16(block), place))
+            }
             End::U32(role) => {
                 let (block, place) = role.block(alloc, count)?;
                 Ok((End::U32(block), place))
@@ -154,6 +172,18 @@ impl End {
                 let (block, place) = role.block(alloc, count)?;
                 Ok((End::Flagged(block), place))
             }
+            End::Bytes24(role) => {
+                let (block, place) = role.block(alloc, count)?;
+                Ok((End::Bytes24(block), place))
+            }
+            End::Bytes32(role) => {
+                let (block, place) = role.block(alloc, count)?;
+                Ok((End::Bytes32(block), place))
+            }
+            End::Bytes64(role) => {
+                let (block, place) = role.block(alloc, count)?;
+                Ok((End::Bytes64(block), place))
+            }
         }
     }
 
@@ -164,10 +194,15 @@ impl End {
         ensures refused { IfErr result (λ refusal. RefusedWith (λ refusal _ _ _. RefusesPublishing refusal) refusal block.old self.old self.new × (block.new ≡ block.old)) }
     {
         match (&mut *self, &mut *block) {
+            (End::U8(role), End::U8(block)) => role.publish(block),
+            (End::U16(role), End::U16(block)) => role.publish(block),
             (End::U32(role), End::U32(block)) => role.publish(block),
             (End::U64(role), End::U64(block)) => role.publish(block),
             (End::Pair(role), End::Pair(block)) => role.publish(block),
             (End::Flagged(role), End::Flagged(block)) => role.publish(block),
+            (End::Bytes24(role), End::Bytes24(block)) => role.publish(block),
+            (End::Bytes32(role), End::Bytes32(block)) => role.publish(block),
+            (End::Bytes64(role), End::Bytes64(block)) => role.publish(block),
             _ => Err(Refusal::Width),
         }
     }

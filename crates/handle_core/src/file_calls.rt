@@ -15,16 +15,21 @@ use std::alloc::Global;
 use std::mem;
 
 impl End {
-    /// A file whose records have so many bytes, with memory for its own. `None` where the width is none of 4, 8, 9 and 16.
+    /// A file whose records have so many bytes, with memory for its own. `None` where the width is none of an end's.
     pub fn file(width: u16, room: Vec<u8>) -> Option<End>
         requires { room.items ≡ [] }
         ensures file { MatchOption result (IsWidth width → ⊥) (λ end. (width_of end ≡ width) × OfAny (λ _ _ _. HasRead []) end) }
     {
         match width {
+            1 => Some(End::U8(Role::File(room))),
+            2 => Some(End::U16(Role::File(room))),
             4 => Some(End::U32(Role::File(room))),
             8 => Some(End::U64(Role::File(room))),
             9 => Some(End::Flagged(Role::File(room))),
             16 => Some(End::Pair(Role::File(room))),
+            24 => Some(End::Bytes24(Role::File(room))),
+            32 => Some(End::Bytes32(Role::File(room))),
+            64 => Some(End::Bytes64(Role::File(room))),
             _ => None,
         }
     }

@@ -1,6 +1,6 @@
 //! What C has of a vector.
 
-ghost use Rattle.std.specs.Prelude.{◌≡◌, true, false, None, Some, IsSome, MatchBool, MatchOption};
+ghost use Rattle.std.specs.Prelude.{◌≡◌, true, false, None, Some, IsSome, IfSome, MatchBool, MatchOption};
 
 use crate::end::End;
 use crate::kept::Kept;
@@ -59,12 +59,19 @@ impl Handle {
         ensures { MatchBool result (end_of self.new ≡ Some end) (end_of self.new ≡ None) }
     {
         self.give_up(alloc);
-        match Box::new(alloc, end) {
-            Ok(end) => {
+        match boxed(alloc, end) {
+            Some(end) => {
                 self.put(end);
                 true
             }
-            Err(_) => false,
+            None => false,
         }
     }
+}
+
+/// The end in a box. It stands by itself: with what else `fill` does it is more than the borrow checker covers.
+fn boxed(alloc: Global, end: End) -> Option<Box<End>>
+    ensures { IfSome result (λ kept. kept.value ≡ end) }
+{
+    Box::new(alloc, end).ok()
 }

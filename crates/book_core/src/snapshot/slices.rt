@@ -6,6 +6,7 @@ ghost use Rattle.directory_core.specs.Finding.{IsPieceAt};
 ghost use Rattle.book_core.specs.Lists.{records_of, joined_pieces, IsPlaceIn, IsRestOfPiece};
 ghost use Rattle.book_core.specs.Snapshots.{HasRoomFor, AreFull, IsStepWith, full_of};
 
+use super::dividing::{divided, reciprocal_of};
 use super::hints::Hints;
 use directory_core::last_start_near;
 use record_core::Record;
@@ -13,7 +14,7 @@ use std::alloc::{AllocError, Global};
 use std::marker::Model;
 
 /// Slices one behind another, none of them empty, and the row of their starts. Where all have one length a position is
-/// found by a division, and else by a search in that row, from a hint on. Contracts see it as the list of the slices, and
+/// found by a multiplication in place of a division, and else by a search in that row, from a hint on. Contracts see it as the list of the slices, and
 /// the room that is there for more.
 #[derive(Drop)]
 pub(crate) struct Slices<'a, R: Record> {
@@ -22,6 +23,8 @@ pub(crate) struct Slices<'a, R: Record> {
     size: u64,
     /// How many records each slice but the last has, which has no more; 0 where they have no one length.
     step: u64,
+    /// What a position is multiplied by in place of its division by `step`.
+    reciprocal: u64,
     hints: Hints,
 }
 
@@ -66,6 +69,7 @@ impl<'a, R: Record> Slices<'a, R> {
             starts: Vec::new(alloc),
             size: 0,
             step: 0,
+            reciprocal: 0,
             hints: Hints::new(alloc),
         }
     }
@@ -89,7 +93,9 @@ impl<'a, R: Record> Slices<'a, R> {
     {
         let len = slice.len() as u64;
         let starts = self.starts.as_slice();
-        self.step = step_with(starts.len() as u64, self.size, self.step, len);
+        let had = self.step;
+        self.step = step_with(starts.len() as u64, self.size, had, len);
+        self.reciprocal = reciprocal_of(self.step, had, self.reciprocal);
         self.slices.push_reserved(slice);
         self.starts.push_reserved(self.size as u32);
         self.size += len;
@@ -181,7 +187,8 @@ impl<'a, R: Record> Slices<'a, R> {
             return None;
         }
         if self.step != 0 {
-            return Some(((i / self.step) as usize, (i % self.step) as usize));
+            let (number, place) = divided(i, self.step, self.reciprocal);
+            return Some((number as usize, place as usize));
         }
         Some(self.search(i))
     }

@@ -39,16 +39,16 @@ loop-preserved g c = (
 
 pub returns-clause-all : goal.returns-clause-all
 returns-clause-all g c = elim c.loop-test.branch [
-  | else-loop-test w ↦ λ all. ap (λ (v : Known g.row.R.Denot). v.entries) (w.pass-is ∙ c.loop.invariant.3 all)
+  | else-loop-test w ↦ λ all. ap (λ (v : Known g.row.R.Denot). v.entries) (c.lay_ratio.ensures ∙ w.pass-is ∙ c.loop.invariant.3 all)
   | then-loop-test+in_ok-learn+then-not-branch w ↦ λ all.
       let same = c.loop.invariant.3 all in
       let told = w.learn.ensures.all (subst (λ (v : Known g.row.R.Denot). KnowsAll v) (sym same) all) in
-      ap (λ (v : Known g.row.R.Denot). v.entries) w.pass-is ∙ told.1 ∙ ap (λ (v : Known g.row.R.Denot). v.entries) same
+      ap (λ (v : Known g.row.R.Denot). v.entries) (c.lay_ratio.ensures ∙ w.pass-is) ∙ told.1 ∙ ap (λ (v : Known g.row.R.Denot). v.entries) same
 ]
 
 pub returns-clause-longer : goal.returns-clause-longer
 returns-clause-longer g c = elim c.loop-test.branch [
-  | else-loop-test w ↦ subst (λ (p : Known g.row.R.Denot). IsPrefix c.args.pass.now.entries p.entries) (sym w.pass-is) c.loop.invariant.1
-  | then-loop-test+in_ok-learn+then-not-branch w ↦ subst (λ (p : Known g.row.R.Denot). IsPrefix c.args.pass.now.entries p.entries) (sym w.pass-is)
+  | else-loop-test w ↦ subst (λ (p : Known g.row.R.Denot). IsPrefix c.args.pass.now.entries p.entries) (sym (c.lay_ratio.ensures ∙ w.pass-is)) c.loop.invariant.1
+  | then-loop-test+in_ok-learn+then-not-branch w ↦ subst (λ (p : Known g.row.R.Denot). IsPrefix c.args.pass.now.entries p.entries) (sym (c.lay_ratio.ensures ∙ w.pass-is))
       (begun_still c.args.pass.now.entries c.loop.pass.entries w.learn.new.pass.entries c.loop.invariant.1 w.learn.ensures.longer)
 ]

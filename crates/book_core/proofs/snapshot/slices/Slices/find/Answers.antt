@@ -13,7 +13,7 @@ search-requires-after_bounds g c κs within =
     omega (arith, length_is c.self.invariant.0)
 
 pub returns-then-self-ne0 : goal.returns-then-self-ne0
-returns-then-self-ne0 g c = rw (← c.self.view_is) (
+returns-then-self-ne0 g c = rw (← c.self.view_is, c.divided-number.ensures.0, c.divided-number.ensures.1) (
     let inside = c.if-i-self.false in
     let ne = c.if-self-ne0.true in
     let i = c.args.i in
