@@ -44,6 +44,17 @@ static int news_left = -1;
 [[gnu::noinline]] void operator delete(void *memory) noexcept { std::free(memory); }
 [[gnu::noinline]] void operator delete(void *memory, std::size_t) noexcept { std::free(memory); }
 
+// While it is shut a device ends no sync; so many wait for it.
+static std::atomic<bool> is_device_shut{false};
+static std::atomic<int> syncs_held{0};
+
+extern "C" int fdatasync(int fd) {
+    ++syncs_held;
+    while (is_device_shut) std::this_thread::sleep_for(std::chrono::microseconds(100));
+    --syncs_held;
+    return static_cast<int>(::syscall(SYS_fdatasync, fd));
+}
+
 // The number that each process has, or 0: each its own. It stands in place of the system's library's function.
 static pid_t number_of_all = 0;
 
@@ -97,6 +108,10 @@ extern "C" cvec_status asked_settle(cvec_vector *vector, std::uint64_t milliseco
 static int refusals_to_come = 0;
 static std::function<void()> before_change;
 
+// And each change that is asked for: its first record, and how many.
+using changes = std::vector<std::pair<std::uint64_t, std::size_t>>;
+static changes *noted = nullptr;
+
 static bool is_refused_now() {
     if (refusals_to_come == 0) return false;
     --refusals_to_come;
@@ -112,6 +127,7 @@ extern "C" cvec_status cvec_vector_change(cvec_vector *, cvec_type, std::uint64_
 extern "C" cvec_status refused_change(cvec_vector *vector, cvec_type type, std::uint64_t start, const void *records,
                                       std::size_t count) {
     if (before_change) before_change();
+    if (noted != nullptr) noted->emplace_back(start, count);
     return is_refused_now() ? CVEC_MEMORY : cvec_vector_change(vector, type, start, records, count);
 }
 
@@ -505,6 +521,80 @@ static void flushing(const std::string &path) {
     ::setrlimit(RLIMIT_FSIZE, &most);
     again.grow_by(1000, 5);
     HOLDS(status_of([&] { again.run_flusher(std::chrono::hours::max()); }) == CVEC_DISK_WRITE);
+}
+
+// By a thread of the library's own.
+static void own_flusher(const std::string &path) {
+    using namespace std::chrono_literals;
+    numbers vector(path);
+    vector.start_flusher(1ns);
+    vector.start_flusher(std::chrono::hours::max());
+    for (std::uint64_t k = 0; k < 9; ++k) {
+        const cvec::growth made = vector.append(k);
+        while (!vector.is_settled(made)) std::this_thread::sleep_for(1ms);
+    }
+    vector.stop_flusher();
+    std::this_thread::sleep_for(5ms); // a commit that was under way ends
+    vector.push_back(9);
+    vector.start_flusher(1ms); // which is stopped already
+    std::this_thread::sleep_for(20ms);
+    HOLDS(vector.settled() == 9 && vector.size() == 10);
+    vector.close();
+    HOLDS(status_of([&] { vector.start_flusher(1ms); }) == CVEC_NOT_SO);
+    {
+        numbers again(path);
+        again.start_flusher(std::chrono::hours(1));
+        again.push_back(10);
+    }
+    HOLDS(numbers(path).size() == 11);
+}
+
+// Calls that wait for the device have no seat meanwhile: both are lent to others.
+static void settling_lends_seats(const std::string &path) {
+    numbers vector(path, {cvec::opening::create, 1, 2});
+    std::vector<std::thread> threads;
+    std::atomic<int> settling{0};
+    is_device_shut = true;
+    for (std::uint64_t k = 0; k < 2; ++k)
+        threads.emplace_back([&, k] {
+            const cvec::growth made = vector.append(k);
+            ++settling;
+            vector.settle(made);
+        });
+    while (settling < 2 || syncs_held == 0) std::this_thread::yield();
+    std::this_thread::sleep_for(std::chrono::milliseconds(20));
+    std::thread opener([&] {
+        for (int k = 0; k < 5000 && is_device_shut; ++k) std::this_thread::sleep_for(std::chrono::milliseconds(1));
+        is_device_shut = false;
+    });
+    vector.push_back(7);
+    HOLDS(vector.size() == 3 && vector[2] == 7 && vector.copy(2) == 7 && is_device_shut && vector.settled() == 0);
+    is_device_shut = false;
+    opener.join();
+    for (std::thread &thread : threads) thread.join();
+    vector.settle();
+    HOLDS(vector.settled() == 3);
+}
+
+// Single pushes for as long as a phase has room: none of them takes long, and none waits for the device. Of each thousand the time of
+// the processor is taken, so that others on the machine don't count. Its end would make all durable, so it has none.
+static void pushing_long(const std::string &path) {
+    const auto spent = [] {
+        timespec time{};
+        ::clock_gettime(CLOCK_THREAD_CPUTIME_ID, &time);
+        return static_cast<double>(time.tv_sec) * 1e3 + static_cast<double>(time.tv_nsec) / 1e6;
+    };
+    numbers vector(path);
+    double longest = 0;
+    for (std::uint64_t k = 0; k < 4000; ++k) {
+        const double begun = spent();
+        for (std::uint64_t at = 0; at < 1000; ++at) vector.push_back(at);
+        longest = std::max(longest, spent() - begun);
+    }
+    if (longest > 20) std::printf("a thousand took %.1f ms\n", longest);
+    HOLDS(longest <= 20 && vector.settled() == 0);
+    std::fflush(stdout);
+    ::_exit(wrong);
 }
 
 // ---- shortening
@@ -911,6 +1001,132 @@ static void folded(const std::string &path) {
     if (wrong == 0) ::kill(::getpid(), SIGKILL);
 }
 
+// ---- rewriting rows in place
+
+// What differs is changed, from the first row to the last.
+static void rewriting(const std::string &path) {
+    changes made;
+    noted = &made;
+    {
+        numbers vector(path);
+        vector.grow_by({5, 9, 7});
+        vector.grow_by({8, 6, 10});
+        vector.exclusive([](cvec::mutable_rows<std::uint64_t> rows) { std::sort(rows.begin(), rows.end()); });
+        HOLDS(rows_of(vector) == list({5, 6, 7, 8, 9, 10}) && made == changes({{1, 4}}) && vector.settled() == 2);
+        vector.exclusive([](const auto &rows) { rows[5] = 10; });
+        HOLDS(made.size() == 1);
+        try {
+            vector.exclusive([](auto rows) {
+                rows[0] = 99;
+                throw std::runtime_error("not so");
+            });
+            HOLDS(vector.empty());
+        } catch (const std::runtime_error &thrown) {
+            HOLDS(thrown.what() == std::string("not so") && made.size() == 1 && vector[0] == 5);
+        }
+        vector.clear();
+        vector.exclusive([](auto rows) { HOLDS(rows.empty() && rows.begin() == rows.end()); });
+        made.clear();
+        // As many as three growths have.
+        vector.grow_to_at_least(300000, 1);
+        vector.exclusive([](auto rows) { std::fill(rows.begin(), rows.end(), std::uint64_t{2}); });
+        HOLDS(made == changes({{0, 131071}, {131071, 131071}, {262142, 37858}}) && std::count(vector.begin(), vector.end(), 2u) == 300000);
+    }
+    HOLDS(rows_of(numbers(path)) == list(300000, 2));
+    made.clear();
+    // Rows of three records, and with bytes behind each.
+    samples turns(path + ".samples");
+    for (std::uint64_t k = 0; k < 5; ++k) turns.push_back(turned(k));
+    turns.exclusive([](auto rows) { std::reverse(rows.begin() + 1, rows.end()); });
+    HOLDS(turns_of(turns) == list({0, 4, 3, 2, 1}) && made == changes({{3, 12}}));
+    cvec::concurrent_vector<std::array<char, 3>> letters{{'c', 'b', 'a'}, {'a', 'b', 'c'}};
+    letters.exclusive([](auto rows) { std::sort(rows.begin(), rows.end()); });
+    HOLDS(letters[0][0] == 'a' && letters[1][0] == 'c');
+    noted = nullptr;
+}
+
+// Growths and reads go on meanwhile, calls of the whole vector of other threads wait, and those of its own are refused.
+static void rewriting_beside(const std::string &path) {
+    numbers vector(path);
+    vector.grow_by({3, 2, 1});
+    std::atomic<bool> is_changed{false}, is_closed{false};
+    std::vector<std::thread> threads;
+    vector.exclusive([&](auto rows) {
+        std::thread([&] { vector.settle(vector.append({9, 8})); }).join();
+        vector.grow_with(1, [](auto &blank) { blank[0] = 7; });
+        HOLDS(vector.size() == 6 && rows.size() == 3 && vector[4] == 8 && vector.view().size() == 6);
+        for (const std::function<void()> &call : std::initializer_list<std::function<void()>>{
+                 [&] { vector.change(0, 1); }, [&] { vector.compact(); }, [&] { vector.clear(); }, [&] { vector.close(); },
+                 [&] { vector.exclusive([](auto) {}); }})
+            HOLDS(status_of(call) == CVEC_BUSY);
+        threads.emplace_back([&] {
+            vector.change(5, 77);
+            is_changed = true;
+        });
+        std::this_thread::sleep_for(std::chrono::milliseconds(20));
+        HOLDS(!is_changed && vector[5] == 7);
+        std::sort(rows.begin(), rows.end());
+    });
+    threads[0].join();
+    HOLDS(is_changed && rows_of(vector) == list({1, 2, 3, 9, 8, 77}));
+    // Nor does a close come between.
+    vector.exclusive([&](auto rows) {
+        threads.emplace_back([&] {
+            vector.close();
+            is_closed = true;
+        });
+        std::this_thread::sleep_for(std::chrono::milliseconds(20));
+        HOLDS(!is_closed);
+        rows[0] = 11;
+    });
+    threads[1].join();
+    HOLDS(is_closed && status_of([&] { vector.exclusive([](auto) {}); }) == CVEC_NOT_SO && rows_of(numbers(path))[0] == 11);
+}
+
+// Threads that count up in the rows lose nothing of what others did, nor of changes between.
+static void rewriting_by_threads(const std::string &path) {
+    numbers vector(path);
+    vector.grow_by(10);
+    in_threads(4, [&](std::uint64_t k) {
+        for (int turn = 0; turn < 25; ++turn) {
+            vector.exclusive([](auto rows) {
+                for (std::uint64_t &row : rows) ++row;
+            });
+            if (k == 0) vector.compact();
+        }
+    });
+    HOLDS(rows_of(vector) == list(10, 100));
+}
+
+static int ends_in_a_fork(const std::function<bool()> &call);
+
+// By a view that lives it is refused before anything is done, or, where that came meanwhile, behind it.
+static void rewriting_is_refused(const std::string &path) {
+    numbers vector(path);
+    vector.grow_by({2, 1});
+    const auto sort = [](auto rows) { std::sort(rows.begin(), rows.end()); };
+    bool is_called = false;
+    {
+        const auto view = vector.view();
+        HOLDS(status_of([&] { vector.exclusive([&](auto) { is_called = true; }); }) == CVEC_BUSY && !is_called && view[0] == 2);
+    }
+    std::optional<cvec::view<std::uint64_t>> late;
+    HOLDS(status_of([&] {
+              vector.exclusive([&](auto rows) {
+                  sort(rows);
+                  late.emplace(vector.view());
+              });
+          }) == CVEC_BUSY);
+    HOLDS((*late)[0] == 2 && vector[0] == 2);
+    late.reset();
+    refusals_to_come = 1;
+    HOLDS(status_of([&] { vector.exclusive(sort); }) == CVEC_MEMORY && vector[0] == 2);
+    HOLDS(ends_in_a_fork([&] { return status_of([&] { vector.exclusive(sort); }) == CVEC_FORKED; }) == 0);
+    vector.exclusive(sort);
+    HOLDS(rows_of(vector) == list({1, 2}));
+    vector.grow_with(1, [&](auto &) { HOLDS(status_of([&] { vector.exclusive(sort); }) == CVEC_BUSY); });
+}
+
 // ---- algorithms that search
 
 struct triple {
@@ -1043,6 +1259,16 @@ static void moving(const std::string &path) {
         [&] { static_cast<void>(other.settled()); },
         [&] { static_cast<void>(other.is_settled(made)); },
         [&] { other.run_flusher(std::chrono::seconds(1)); },
+        [&] { other.start_flusher(std::chrono::seconds(1)); },
+        [&] { other.exclusive([](auto) {}); },
+        [&] { other.save(path + ".saved"); },
+        [&] { other.assign(1, 1); },
+        [&] { other.assign({1, 2}); },
+        [&] { other = {1, 2}; },
+        [&] { vector = other; },
+        [&] { numbers copy(other); },
+        [&] { other.reserve(1); },
+        [&] { other.shrink_to_fit(); },
         [&] { other.stop_flusher(); },
         [&] { static_cast<void>(other[0]); },
         [&] { static_cast<void>(other.at(0)); },
@@ -1557,6 +1783,9 @@ int main(int argc, char **argv) {
         {"deadlines", deadlines},
         {"deadlines_for_a_seat", deadlines_for_a_seat},
         {"flushing", flushing},
+        {"own_flusher", own_flusher},
+        {"settling_lends_seats", settling_lends_seats},
+        {"pushing_long", pushing_long},
         {"shortening", shortening},
         {"shortened", shortened},
         {"changing", changing},
@@ -1572,6 +1801,10 @@ int main(int argc, char **argv) {
         {"changing_breaks", changing_breaks},
         {"changed", changed},
         {"folded", folded},
+        {"rewriting", rewriting},
+        {"rewriting_beside", rewriting_beside},
+        {"rewriting_by_threads", rewriting_by_threads},
+        {"rewriting_is_refused", rewriting_is_refused},
         {"searching", searching},
         {"appenders", appenders},
         {"closing", closing},

@@ -4,12 +4,16 @@
 
 #include <algorithm>
 #include <array>
+#include <cmath>
 #include <csignal>
 #include <cstring>
+#include <filesystem>
 #include <iterator>
 #include <memory>
 #include <optional>
+#include <sys/resource.h>
 #include <sys/wait.h>
+#include <tuple>
 #include <type_traits>
 #include <unistd.h>
 
@@ -117,6 +121,27 @@ static void texts(const std::string &path) {
     HOLDS(std::strcmp(name, "second") == 0 && &name == &vector[1].name && value == 2 && &value == &vector[1].value);
 }
 
+// ---- rows of several parts
+
+using parts = std::tuple<std::uint32_t, double, char>;
+
+static void tuples(const std::string &path) {
+    const std::vector<parts> some = {{3, 0.75, 'c'}, {4, 1.0, 'd'}};
+    {
+        cvec::concurrent_vector<parts> vector(path);
+        HOLDS(*vector.push_back({1, 0.25, 'a'}) == (parts{1, 0.25, 'a'}) && *vector.emplace_back(2U, 0.5, 'b') == (parts{2, 0.5, 'b'}));
+        vector.grow_by(some.begin(), some.end());
+        vector.change(0, parts{5, 0.125, 'e'});
+        const auto &[number, value, letter] = vector[1];
+        HOLDS(number == 2 && value == 0.5 && letter == 'b' && &letter == &std::get<2>(vector[1]));
+        vector.close();
+    }
+    const cvec::concurrent_vector<parts> vector(path);
+    HOLDS(vector.size() == 4 && vector[0] == (parts{5, 0.125, 'e'}) && vector.copy(3) == some[1] && std::get<1>(vector.back()) == 1.0);
+    cvec::concurrent_vector<std::tuple<std::pair<int, int>, std::tuple<char>>> nested;
+    HOLDS(std::get<0>(*nested.push_back({{1, 2}, {'a'}})).second == 2);
+}
+
 // ---- comparing, inserting, deducing
 
 static void compared(const std::string &path) {
@@ -135,6 +160,65 @@ static void compared(const std::string &path) {
     HOLDS(by_u32 == by_u64 && by_u32 <= by_u64);
 }
 
+#if defined(__cpp_lib_three_way_comparison)
+struct scores {
+    double value;
+    friend bool operator==(const scores &, const scores &) = default;
+    friend auto operator<=>(const scores &, const scores &) = default;
+};
+#endif
+
+// By T's <=>, or, of a T that has none, by its <.
+static void ordered(const std::string &) {
+#if defined(__cpp_lib_three_way_comparison)
+    const numbers a{1, 2}, longer{1, 2, 0};
+    const cvec::concurrent_vector<sample> one{{1, 0.5}}, other{{1, 0.75}}, greater{{2, 0.5}};
+    const cvec::concurrent_vector<scores> none{{std::nan("")}}, some{{0.5}};
+    static_assert(std::is_same_v<decltype(a <=> a), std::strong_ordering> && std::is_same_v<decltype(one <=> one), std::weak_ordering>);
+    static_assert(std::is_same_v<decltype(none <=> none), std::partial_ordering>);
+    HOLDS((a <=> a) == 0 && (a <=> longer) < 0 && (longer <=> a) > 0 && a < longer && longer >= a);
+    HOLDS((one <=> other) == 0 && one != other && (one <=> greater) < 0 && greater > other);
+    HOLDS((none <=> some) == std::partial_ordering::unordered && !(none < some) && !(none >= some));
+    const auto first = a.begin(), last = a.end();
+    HOLDS((first <=> last) == std::strong_ordering::less && (last <=> first) > 0 && (first <=> first) == 0);
+#endif
+}
+
+// Each goes to its own, and the first becomes the second.
+static int which(numbers::iterator) { return 1; }
+static int which(numbers::const_iterator) { return 2; }
+static int which(const numbers::range_type &) { return 3; }
+static int which(const numbers::const_range_type &) { return 4; }
+
+static void two_iterators(const std::string &) {
+    numbers vector{5, 6, 7};
+    const numbers &same = vector;
+    HOLDS(which(vector.begin()) == 1 && which(vector.end()) == 1 && which(same.begin()) == 2 && which(vector.cbegin()) == 2);
+    HOLDS(which(vector.range()) == 3 && which(same.range()) == 4 && which(vector.push_back(8)) == 1 && which(vector.grow_by(0)) == 1);
+    numbers::const_iterator at = vector.begin() + 1;
+    HOLDS(*at == 6 && at[1] == 7 && at == vector.begin() + 1 && vector.begin() + 1 == at && vector.begin() < at && at - vector.begin() == 1);
+    at = vector.end();
+    HOLDS(at == same.end() && *--at == 8 && *vector.rbegin() == 8 && *same.rbegin() == 8);
+    const numbers::const_range_type part = vector.range(2);
+    HOLDS(part.size() == 4 && part.grainsize() == 2 && *part.begin() == 5);
+    const numbers::const_range_type mixed(vector.begin() + 1, same.end());
+    HOLDS(mixed.size() == 3 && std::distance(vector.cbegin(), same.end()) == 4);
+}
+
+// What needs nothing here, or is another's name.
+static void hints(const std::string &path) {
+    numbers vector(path);
+    vector.reserve(1000);
+    vector.reserve(vector.max_size());
+    HOLDS(status_of([&] { vector.reserve(vector.max_size() + 1); }) == CVEC_OUT_OF_RANGE && vector.empty());
+    for (std::uint64_t k = 0; k < 9; ++k) vector.grow_by(2, k);
+    HOLDS(vector.capacity() == vector.max_size() && vector.piece(0).size() < 18);
+    vector.shrink_to_fit();
+    HOLDS(vector.piece(0).size() == 18 && vector.settled() == 9);
+    const auto view = vector.view();
+    HOLDS(status_of([&] { vector.shrink_to_fit(); }) == CVEC_BUSY);
+}
+
 static void inserted(const std::string &path) {
     numbers vector(path);
     const list rows = {5, 6, 7};
@@ -146,13 +230,189 @@ static void inserted(const std::string &path) {
     }
     std::transform(rows.begin(), rows.end(), std::back_inserter(vector), [](std::uint64_t row) { return row * 10; });
     HOLDS(list(vector.begin(), vector.end()) == list({5, 6, 7, 50, 60, 70}));
-    static_assert(std::is_same_v<numbers::iterator, numbers::const_iterator>);
 #if defined(__cpp_lib_ranges)
     static_assert(std::random_access_iterator<numbers::iterator> && std::ranges::random_access_range<const numbers>);
     static_assert(std::random_access_iterator<cvec::concurrent_vector<named>::iterator>);
     static_assert(std::random_access_iterator<std::reverse_iterator<numbers::iterator>>);
     HOLDS(std::ranges::find(vector, std::uint64_t{50}).position() == 3 && std::ranges::equal(vector.view(), vector));
 #endif
+}
+
+// ---- rows that it begins with, and that are assigned
+
+static list rows_of(const numbers &vector) { return list(vector.begin(), vector.end()); }
+
+static void begun(const std::string &path) {
+    const list rows = {5, 6, 7}, many(300000, 4);
+    const char letters[] = "abc";
+    const numbers none, three(3), nines(3, 9), ranged(rows.begin(), rows.end()), listed{5, 6, 7}, long_one(many.begin(), many.end());
+    HOLDS(none.empty() && rows_of(three) == list(3) && rows_of(nines) == list(3, 9) && rows_of(ranged) == rows);
+    HOLDS(rows_of(listed) == rows && rows_of(long_one) == many && rows_of(numbers(300000, 4)) == many);
+    const cvec::concurrent_vector deduced(rows.begin(), rows.end()), of_own(listed.begin() + 1, listed.end());
+    const cvec::concurrent_vector repeated(2, 0.5);
+    const cvec::concurrent_vector braced{'x', 'y'};
+    static_assert(std::is_same_v<decltype(deduced), const numbers> && std::is_same_v<decltype(of_own), const numbers>);
+    static_assert(std::is_same_v<decltype(repeated), const cvec::concurrent_vector<double>>);
+    static_assert(std::is_same_v<decltype(braced), const cvec::concurrent_vector<char>>);
+    HOLDS(rows_of(deduced) == rows && rows_of(of_own) == list({6, 7}) && repeated.size() == 2 && repeated[1] == 0.5 && braced[1] == 'y');
+    // Text is a path, whatever stands behind it.
+    HOLDS(cvec::concurrent_vector<char>(path.c_str(), {}).empty() && ::access(path.c_str(), F_OK) == 0);
+    cvec::concurrent_vector<char> text;
+    text.assign(letters, letters + 3);
+    HOLDS(text.size() == 3 && text[2] == 'c');
+}
+
+// A copy has no file, and what it grows isn't in the one that was copied. It is made where it is asked for, not where one is passed.
+static void copied(const std::string &path) {
+    static_assert(std::is_copy_constructible_v<numbers> && !std::is_convertible_v<const numbers &, numbers>);
+    static_assert(std::is_convertible_v<numbers, numbers> && std::is_nothrow_move_constructible_v<numbers>);
+    numbers vector(path);
+    vector.grow_by({1, 2});
+    numbers copy(vector), again(copy);
+    copy.push_back(3);
+    HOLDS(rows_of(vector) == list({1, 2}) && rows_of(copy) == list({1, 2, 3}) && rows_of(again) == list({1, 2}));
+    HOLDS(status_of([&] { copy.settle(); }) == CVEC_NOT_SO && status_of([&] { vector.settle(); }) == CVEC_DONE);
+    vector.close();
+    HOLDS(status_of([&] { numbers of_closed(vector); }) == CVEC_NOT_SO);
+    const std::vector<numbers> several(3, copy);
+    HOLDS(several[2].size() == 3 && several[1][2] == 3);
+}
+
+// The file keeps what is assigned to it.
+static void assigned(const std::string &path) {
+    const list many(300000, 4);
+    const numbers other{8, 9};
+    {
+        numbers vector(path);
+        vector = {5, 6, 7};
+        HOLDS(rows_of(vector) == list({5, 6, 7}));
+        vector.assign(vector.begin() + 1, vector.end());
+        HOLDS(rows_of(vector) == list({6, 7}));
+        vector.assign(3, vector[1]);
+        HOLDS(rows_of(vector) == list({7, 7, 7}));
+        const numbers &itself = vector;
+        vector = itself;
+        HOLDS(rows_of(vector) == list({7, 7, 7}) && rows_of(numbers(vector = other)) == list({8, 9}));
+        vector.assign(many.begin(), many.end());
+        HOLDS(rows_of(vector) == many);
+        vector.assign(2, 3);
+        const auto view = vector.view();
+        HOLDS(status_of([&] { vector.assign({1}); }) == CVEC_BUSY && rows_of(vector) == list({3, 3}));
+    }
+    HOLDS(rows_of(numbers(path)) == list({3, 3}));
+    numbers vector(path);
+    vector = {};
+    vector.close();
+    HOLDS(numbers(path).empty() && rows_of(other) == list({8, 9}));
+}
+
+// ---- in memory alone
+
+static std::ptrdiff_t descriptors() {
+    const std::filesystem::directory_iterator all("/proc/self/fd");
+    return std::distance(begin(all), end(all));
+}
+
+static std::string words_of(const std::function<void()> &refused) {
+    try {
+        refused();
+        return "none";
+    } catch (const cvec::error &refusal) {
+        return std::to_string(refusal.status()) + ' ' + refusal.what();
+    }
+}
+
+// What says that growths are durable is refused, and says so.
+static void nothing_is_durable(numbers &vector) {
+    const cvec::growth made = vector.append(std::uint64_t{9});
+    const auto time = std::chrono::seconds(0);
+    cvec::appender<std::uint64_t> some(vector);
+    const std::function<void()> calls[] = {[&] { vector.settle(); },
+                                           [&] { vector.settle(made); },
+                                           [&] { static_cast<void>(vector.settle_for(time)); },
+                                           [&] { static_cast<void>(vector.settle_for(made, time)); },
+                                           [&] { vector.run_flusher(time); },
+                                           [&] { vector.start_flusher(time); },
+                                           [&] { vector.stop_flusher(); },
+                                           [&] {
+                                               some.push_back(10);
+                                               some.settle();
+                                           }};
+    const std::string refusal = " cvec: a vector in memory: nothing of it is durable: `save` gives it a file";
+    for (const auto &call : calls) HOLDS(words_of(call) == std::to_string(CVEC_NOT_SO) + refusal);
+    HOLDS(vector.settled() == 0 && !vector.is_settled(made) && vector.back() == 10);
+}
+
+static void in_memory(const std::string &) {
+    const std::ptrdiff_t files = descriptors();
+    numbers vector;
+    vector.grow_by({1, 2, 3});
+    vector.change(1, 7);
+    vector.fold();
+    vector.compact();
+    vector.grow_with(1, [](auto &rows) { rows[0] = 4; });
+    HOLDS(rows_of(vector) == list({1, 7, 3, 4}) && vector.view().size() == 4 && vector.copy(1) == 7);
+    vector.resize(2);
+    nothing_is_durable(vector);
+    HOLDS(rows_of(vector) == list({1, 7, 9, 10}));
+    in_threads(4, [&](std::uint64_t k) {
+        for (int turn = 0; turn < 100; ++turn) vector.push_back(k);
+    });
+    HOLDS(vector.size() == 404);
+    vector.clear();
+    vector.close();
+    HOLDS(words_of([&] { vector.push_back(1); }) == std::to_string(CVEC_NOT_SO) + " cvec: a vector in memory: it was closed");
+    const std::vector<numbers> many(50);
+    HOLDS(std::all_of(many.begin(), many.end(), [](const numbers &it) { return it.empty(); }) && descriptors() == files);
+    // By phases that have room for few, and by one seat.
+    numbers narrow(cvec::options{cvec::opening::open, 1, 1, 100});
+    in_threads(2, [&](std::uint64_t k) {
+        for (int turn = 0; turn < 1000; ++turn) narrow.push_back(k);
+    });
+    HOLDS(narrow.size() == 2000 && std::count(narrow.begin(), narrow.end(), std::uint64_t{1}) == 1000 && narrow.settled() == 0);
+    HOLDS(status_of([&] { numbers none(cvec::options{cvec::opening::open, 1, 0}); }) == CVEC_NOT_SO);
+}
+
+static void saved(const std::string &path) {
+    numbers vector{5, 6};
+    vector.push_back(7);
+    const auto before = vector.view();
+    HOLDS(::access(path.c_str(), F_OK) != 0);
+    vector.save(path);
+    HOLDS(rows_of(vector) == list({5, 6, 7}) && vector.settled() == 1 && before[2] == 7);
+    vector.settle(vector.append(std::uint64_t{8}));
+    HOLDS(vector.settled() == 2 && rows_of(vector) == list({5, 6, 7, 8}));
+    HOLDS(words_of([&] { vector.save(path + ".other"); }) == std::to_string(CVEC_NOT_SO) + " cvec: " + path + ": it has a file");
+    // What is there stays, and the other one in memory.
+    numbers other(300000, 3);
+    HOLDS(status_of([&] { other.save(path); }) == CVEC_IN_USE);
+    vector.close();
+    HOLDS(status_of([&] { other.save(path); }) == CVEC_EXISTS && status_of([&] { other.settle(); }) == CVEC_NOT_SO);
+    HOLDS(rows_of(numbers(path)) == list({5, 6, 7, 8}) && other.size() == 300000);
+    other.save(path + ".other", {cvec::opening::open, 2});
+    HOLDS(other.settled() == 3 && other.size() == 300000);
+    other.close();
+    const numbers again(path + ".other");
+    HOLDS(again.size() == 300000 && std::count(again.begin(), again.end(), std::uint64_t{3}) == 300000);
+    cvec::concurrent_vector<named> texts{{"first", 1}, {"second", 2}};
+    texts.save(path + ".texts");
+    texts.close();
+    HOLDS(std::strcmp(cvec::concurrent_vector<named>(path + ".texts")[1].name, "second") == 0);
+    numbers empty;
+    empty.save(path + ".empty");
+    empty.close();
+    HOLDS(numbers(path + ".empty", {cvec::opening::open}).empty());
+}
+
+// Past the greatest size of a file: it goes on in memory, and the file has what came before.
+static void a_save_is_refused(const std::string &path) {
+    numbers vector(140000, 3);
+    const rlimit most{1100000, 1100000};
+    ::setrlimit(RLIMIT_FSIZE, &most);
+    HOLDS(status_of([&] { vector.save(path); }) == CVEC_DISK_WRITE);
+    vector.push_back(4);
+    HOLDS(vector.size() == 140001 && vector.back() == 4 && status_of([&] { vector.settle(); }) == CVEC_NOT_SO);
+    HOLDS(numbers(path).size() % 131071 == 0);
 }
 
 // ---- paths
@@ -175,15 +435,6 @@ static void zero_bytes(const std::string &path) {
 // ---- what is used behind the end of its vector
 
 using appended = cvec::appender<std::uint64_t>;
-
-static std::string words_of(const std::function<void()> &refused) {
-    try {
-        refused();
-        return "none";
-    } catch (const cvec::error &refusal) {
-        return std::to_string(refusal.status()) + ' ' + refusal.what();
-    }
-}
 
 static void is_refused(appended &orphan, std::size_t gathered) {
     const std::string refusal = std::to_string(CVEC_NOT_SO) + " cvec: an appender: its vector has gone";
@@ -317,6 +568,16 @@ int main(int argc, char **argv) {
         {"texts", texts},
         {"compared", compared},
         {"inserted", inserted},
+        {"tuples", tuples},
+        {"ordered", ordered},
+        {"two_iterators", two_iterators},
+        {"hints", hints},
+        {"begun", begun},
+        {"copied", copied},
+        {"assigned", assigned},
+        {"in_memory", in_memory},
+        {"saved", saved},
+        {"a_save_is_refused", a_save_is_refused},
         {"zero_bytes", zero_bytes},
         {"an_appender_is_left", an_appender_is_left},
         {"a_view_keeps_others", a_view_keeps_others},

@@ -68,7 +68,7 @@ compiles_without_a_warning() {
     for name in behaviours lent views in_place idioms; do
         compile_cpp -O2 -Wshadow -Wnon-virtual-dtor -fsyntax-only "$cpp_tests/$name.cc"
     done
-    for name in lent in_place idioms; do
+    for name in lent in_place idioms onetbb; do
         compile_cpp -std=c++20 -Wshadow -Wnon-virtual-dtor -fsyntax-only "$cpp_tests/$name.cc"
         compile_cpp -DCVEC_CHECKED -Wshadow -Wnon-virtual-dtor -fsyntax-only "$cpp_tests/$name.cc"
     done
@@ -131,7 +131,7 @@ a_type_without_rows_is_refused_with_its_reason() (
         is_refused_as 'T has 256 bytes at most' "$type"
     done
     for type in std::string 'std::vector<int>' 'const int' 'volatile double' 'std::unique_ptr<int>' \
-        'std::pair<int, std::string>' 'std::pair<int &, int>'; do
+        'std::pair<int, std::string>' 'std::pair<int &, int>' 'std::tuple<int, std::string>'; do
         is_refused_as 'T is copied to a file byte by byte' "$type"
     done
     printf '#include "cvec/concurrent_vector.hpp"\nstruct bytes { char all[256]; };\n%s\n' \
@@ -193,8 +193,16 @@ rows_in_cpp_have_any_size() (
     printf '%s\n' 4294967295 5 2147483648 4294967294 4294967294 4294967292 4294967293 4294967294 4294967295 | cmp - "$out"
     run list u64 "$work/t.cv.u64"
     printf '%s\n' 4294967295 5 2147483648 18446744069414584327 | cmp - "$out"
-    run list u64 "$work/t.cv.char"
+    run list u8 "$work/t.cv.char"
     did '65\n'
+    run list u16 "$work/t.cv.2"
+    did '513\n'
+    run list bytes24 "$work/t.cv.24"
+    did '010000000000000002000000000000000300000000000000\n'
+    run list bytes32 "$work/t.cv.32"
+    did '0100000000000000020000000000000003000000000000000400000000000000\n'
+    run list bytes64 "$work/t.cv.64"
+    did "$(printf '%02x00000000000000' 1 2 3 4 5 6 7 8)\n"
     run list u32 "$work/t.cv.float"
     did '1065353216\n'
     run list pair "$work/t.cv.pair"
@@ -239,6 +247,10 @@ rows_are_changed_in_cpp() (
     lists 3 0 '5\n8\n9\n'
 )
 
+rows_are_rewritten_in_place_in_cpp() (
+    behaves rewriting rewriting_beside rewriting_by_threads rewriting_is_refused
+)
+
 rows_are_read_in_cpp() (
     behaves reading iterators pieces shared_iterator ranges searching
 )
@@ -252,9 +264,19 @@ growths_have_receipts_in_cpp() (
 )
 
 programs_use_a_vector_as_one_in_memory_in_cpp() (
-    behaves_by idioms own_addresses fields texts compared inserted
+    behaves_by idioms own_addresses fields texts compared inserted two_iterators hints tuples
     link_cpp -std=c++20 -o "$work/idioms" "$cpp_tests/idioms.cc"
-    each_behaves "$work/idioms" fields compared inserted
+    each_behaves "$work/idioms" fields compared inserted ordered begun copied
+)
+
+a_vector_begins_with_rows_in_cpp() (
+    behaves_by idioms begun copied assigned
+)
+
+a_vector_stands_in_memory_alone_in_cpp() (
+    behaves_by idioms in_memory
+    [ ! -e "$work/t.cv" ]
+    behaves_by idioms saved a_save_is_refused
 )
 
 a_path_with_a_zero_byte_is_refused_in_cpp() (
@@ -278,7 +300,15 @@ a_wait_has_a_deadline_in_cpp() (
 )
 
 a_flusher_in_cpp_commits_what_nobody_settles() (
-    behaves flushing
+    behaves flushing own_flusher
+)
+
+a_wait_for_the_device_keeps_no_seat_from_others_in_cpp() (
+    behaves settling_lends_seats
+)
+
+a_push_takes_no_long_time_in_cpp() (
+    behaves pushing_long
 )
 
 an_appender_gathers_rows_in_cpp() (
@@ -445,7 +475,8 @@ memory_is_used_rightly_in_cpp() (
     no_complaint_of_threads 2
     no_complaint_by behaviours growing greatest_growth structs other_types reading iterators shared_iterator ranges changing \
         changing_counts_on changing_has_seats_again changing_ends changing_beside changing_breaks appenders closing \
-        closing_meanwhile moving opening_without_memory refusals breaking few_seats many_threads renewing
+        closing_meanwhile moving opening_without_memory refusals breaking few_seats many_threads renewing own_flusher \
+        settling_lends_seats rewriting rewriting_beside rewriting_by_threads rewriting_is_refused
     rm -f "$work"/t.cv*
     sanitized sizes
     timeout 60 "$work/sizes" "$work/t.cv"
@@ -455,7 +486,8 @@ memory_that_is_lent_is_used_rightly_in_cpp() (
     has_cpp_under address,undefined
     no_complaint_by lent each_type many_growths a_part_is_kept a_member_is_kept the_greater_one_is_kept spans early_references \
         lent_anew room_for_eight forked
-    no_complaint_by idioms own_addresses texts inserted an_appender_is_left a_view_keeps_others
+    no_complaint_by idioms own_addresses texts inserted an_appender_is_left a_view_keeps_others two_iterators hints tuples begun \
+        copied assigned in_memory saved a_save_is_refused
     no_complaint_by views each_call copies a_call_waits calls_come_soon it_outlives_the_vector it_outlives_an_assignment \
         what_was_grown_is_kept a_child_has_its_own
     no_complaint_by in_place each_type what_it_gives what_it_throws refusals calls_within_it one_within_another \
@@ -470,7 +502,8 @@ threads_are_in_order_in_cpp() (
     has_cpp_under thread
     no_complaint_of_threads 2
     no_complaint_by behaviours deadlines_for_a_seat flushing shortening shared_iterator changing_beside closing_meanwhile \
-        few_seats many_threads turns reading_beside_reads renewing
+        few_seats many_threads turns reading_beside_reads renewing own_flusher settling_lends_seats rewriting_beside \
+        rewriting_by_threads
     no_complaint_by lent early_references
     no_complaint_by views a_call_waits calls_come_soon
     # As in a program whose C isn't built for it either.
@@ -552,13 +585,17 @@ has_tbb() {
     c++ -std=c++17 -o "$work/empty" "$work/empty.cc" -ltbb 2>/dev/null || lacks 'there is no oneTBB (libtbb-dev)'
 }
 
+# The program of this name for oneTBB, with the include and the types that are here.
+with_types_of_ours() {
+    sed -e 's|<oneapi/tbb/concurrent_vector\.h>|<cvec/concurrent_vector.hpp>|' -e 's|tbb::concurrent_vector|cvec::concurrent_vector|' \
+        "$cpp/$1_tbb.cc"
+}
+
 # But for its include, its type and its constructor the program is the one that is written for oneTBB.
 a_program_for_onetbb_is_made_durable() (
     has_cpp || exit $is_skipped
     make_cpp
-    sed -e 's|<oneapi/tbb/concurrent_vector\.h>|<cvec/concurrent_vector.hpp>|' \
-        -e 's|tbb::concurrent_vector|cvec::concurrent_vector|' -e 's|> primes;|> primes("primes.cv");|' "$cpp/primes_tbb.cc" |
-        cmp - "$cpp/primes.cc"
+    with_types_of_ours primes | sed 's|> primes;|> primes("primes.cv");|' | cmp - "$cpp/primes.cc"
     link_cpp -o "$work/primes" "$cpp/primes.cc"
     cd "$work"
     timeout 60 ./primes >"$out"
@@ -567,11 +604,78 @@ a_program_for_onetbb_is_made_durable() (
     seq 99999 | factor | awk 'NF == 2 { print $2 }' | cmp - "$work/found"
 )
 
-the_program_for_onetbb_prints_the_same() (
+# Of this example so many lines differ, added and taken away, but for those. What it prints stands in the file $out.
+is_ported_by() {
+    with_types_of_ours "$2" | diff - "$cpp/$2.cc" >"$work/lines" || :
+    [ "$(grep -c '^[<>]' "$work/lines")" -eq "$1" ]
+    link_cpp -o "$work/$2" "$cpp/$2.cc"
+    (cd "$work" && timeout 60 "./$2") >"$out"
+}
+
+# The first by another algorithm.
+writes_corners() { echo '28 corners, twice the area is 2195051227153'; }
+
+writes_alarms() {
+    seq 0 9999 | awk '{ value = $1 * $1 % 9973 } value > 9966 { print "second " $1 ": " value }'
+    echo '10000 samples'
+}
+
+sums_of_digits() {
+    seq 0 9999 | awk '{ sum = 0; for (at = 1; at <= length($1); at++) sum += substr($1, at, 1); print sum, $1 }'
+}
+
+writes_buckets() {
+    sums_of_digits | awk '{ ++count[$1] } END { for (sum = 0; sum <= 36; sum++) print sum ": " count[sum] " numbers" }'
+}
+
+# In memory alone; in a file, read by addresses that last; and many small ones, each of which gets a file.
+programs_for_onetbb_are_ported_by_few_lines() (
+    has_cpp || exit $is_skipped
+    make_cpp
+    is_ported_by 0 hull
+    writes_corners | cmp - "$out"
+    [ -z "$(find "$work" -name '*.cv')" ]
+    is_ported_by 2 alarms
+    writes_alarms | cmp - "$out"
+    "$top/cvec" list pair "$work/alarms.cv" | sort -n >"$work/found"
+    seq 0 9999 | awk '{ print $1 ":" $1 * $1 % 9973 }' | cmp - "$work/found"
+    is_ported_by 4 buckets
+    writes_buckets | cmp - "$out"
+    "$top/cvec" list u64 "$work/bucket7.cv" | sort -n >"$work/found"
+    sums_of_digits | sed -n 's/^7 //p' | cmp - "$work/found"
+    [ "$(find "$work" -name 'bucket*.cv' | wc -l)" -eq 37 ]
+)
+
+the_programs_for_onetbb_print_the_same() (
     has_cpp && has_tbb || exit $is_skipped
     # Its headers have warnings of their own.
-    compile_cpp -w -o "$work/primes_tbb" "$cpp/primes_tbb.cc" -ltbb -lpthread
-    [ "$(timeout 60 "$work/primes_tbb")" = '9592 primes, whose sum is 454396537' ]
+    for name in primes hull alarms buckets; do
+        compile_cpp -w -o "$work/${name}_tbb" "$cpp/${name}_tbb.cc" -ltbb -lpthread
+        timeout 60 "$work/${name}_tbb" >"$work/$name.out"
+    done
+    [ "$(cat "$work/primes.out")" = '9592 primes, whose sum is 454396537' ]
+    writes_corners | cmp - "$work/hull.out"
+    writes_alarms | cmp - "$work/alarms.out"
+    writes_buckets | cmp - "$work/buckets.out"
+)
+
+behaviours_of_onetbb='types constructors deduction assignment swapping growing addresses threads access iterators ranges storage comparisons
+    what_is_missing'
+
+each_member_of_onetbb_is_here() (
+    has_cpp || exit $is_skipped
+    make_cpp
+    link_cpp -std=c++20 -o "$work/onetbb" "$cpp_tests/onetbb.cc"
+    # shellcheck disable=SC2086 # each is a word
+    each_behaves "$work/onetbb" $behaviours_of_onetbb
+)
+
+# What is tested above is what oneTBB does.
+each_member_of_onetbb_is_so_there() (
+    has_cpp && has_tbb || exit $is_skipped
+    compile_cpp -w -std=c++20 -DFOR_ONETBB -o "$work/onetbb" "$cpp_tests/onetbb.cc" -ltbb -lpthread
+    # shellcheck disable=SC2086 # each is a word
+    each_behaves "$work/onetbb" $behaviours_of_onetbb
 )
 
 ranges_are_for_the_algorithms_of_onetbb() (

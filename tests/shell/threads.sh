@@ -188,6 +188,11 @@ a_vector_in_c_is_open_once() (
     a_behaviour_of_a_vector_in_c readers
 )
 
+a_vector_in_c_stands_in_memory_alone() (
+    a_behaviour_of_a_vector_in_c in_memory
+    [ ! -e "$work/t.cv" ]
+)
+
 a_vector_in_c_is_that_of_its_name() (
     a_behaviour_of_a_vector_in_c replaced
 )

@@ -1755,6 +1755,37 @@ static void make_renewing(const char *path, uint64_t grown_before) {
     for (uint64_t k = 0; k < grown_before; k++) HOLDS(grow(k, &number) == CVEC_DONE && number == k);
 }
 
+/* What says that something is durable, or makes it so, is refused. */
+static void nothing_is_durable(void) {
+    uint64_t count = 9, other = 9;
+    HOLDS(cvec_seat_settle(seat, 0, CVEC_NO_LIMIT) == CVEC_NOT_SO && cvec_seat_settle(seat, UINT64_MAX, 0) == CVEC_NOT_SO);
+    HOLDS(cvec_vector_settle(vector, CVEC_NO_LIMIT) == CVEC_NOT_SO && cvec_vector_flush(vector) == CVEC_NOT_SO);
+    HOLDS(cvec_vector_run_flusher(vector, 1) == CVEC_NOT_SO && cvec_vector_start_flusher(vector, 1) == CVEC_NOT_SO);
+    HOLDS(cvec_vector_stop_flusher(vector) == CVEC_NOT_SO);
+    HOLDS(cvec_vector_settled(vector, &count) == CVEC_DONE && count == 0 && cvec_seat_settled(seat, &other) == CVEC_DONE && other == 0);
+}
+
+/* Without a path a vector is in memory alone, through phases and calls of the whole vector: it opens and writes no file. */
+static void in_memory(const char *path) {
+    const uint64_t changed = 9;
+    const struct rlimit none = {0, 0};
+    uint64_t number = 0, record = 0;
+    (void)path;
+    HOLDS(setrlimit(RLIMIT_NOFILE, &none) == 0);
+    make_narrow(NULL, 1, 3);
+    HOLDS(cvec_vector_identity(vector, &number, &record) == CVEC_NOT_SO);
+    for (uint64_t k = 0; k < 10; k++) HOLDS(grow(k, &number) == CVEC_DONE && number == k);
+    are_positions(seat, 10);
+    nothing_is_durable();
+    HOLDS(cvec_vector_change_u64(vector, 3, &changed, 1) == CVEC_DONE && cvec_seat_at_u64(seat, 3, &record) == CVEC_DONE && record == 9);
+    HOLDS(cvec_vector_fold(vector) == CVEC_DONE && cvec_vector_resize_u64(vector, 5, 0) == CVEC_DONE);
+    nothing_is_durable();
+    HOLDS(grow(7, &number) == CVEC_DONE && number == 10 && cvec_seat_at_u64(seat, 5, &record) == CVEC_DONE && record == 7);
+    HOLDS(cvec_seat_close(&seat) == CVEC_DONE && cvec_vector_close(&vector) == CVEC_DONE && writes == 0 && syncs == 0);
+    HOLDS(cvec_vector_open(&vector, NULL, CVEC_U64, NULL) == CVEC_NOT_SO && vector == NULL);
+    HOLDS(cvec_vector_open_or_create(&vector, NULL, CVEC_U64, NULL) == CVEC_NOT_SO && vector == NULL);
+}
+
 /* Each call of the file that the renewal makes fails: the growth says so, and what stands is read. */
 static void renewal_fails_at(const char *path, int call) {
     uint64_t number = 9, count = 9;
@@ -2480,6 +2511,7 @@ int main(int argc, char **argv) {
                       {"push_broken", push_broken},
                       {"pushes_typed", pushes_typed},
                       {"at", at},
+                      {"in_memory", in_memory},
                       {"renewal_fails", renewal_fails},
                       {"renewal_memory", renewal_memory},
                       {"renewal_is_killed", renewal_is_killed},

@@ -277,6 +277,10 @@ typedef struct cvec_options {
  * there stays; a file is made over nothing but what a stopped creation of that version and type leaves. CVEC_WIDTH: its records have
  * another width. A file has no name for their type: one of u64 is opened as i64 or f64 too.
  *
+ * A creation whose path is NULL makes a vector in memory alone, which ends with its close. It has no file and no descriptor, and nothing
+ * of it is durable: none of its growths is settled, and to settle or flush it, or to ask which file it is, is CVEC_NOT_SO. What else there
+ * is does as it says.
+ *
  * A vector's records are of a type of CVEC_TYPES (else CVEC_NOT_SO). A call that names records takes their type, and is CVEC_WIDTH where
  * the vector's have another width; it takes them, or writes them, by a pointer to them as C has them. Records are equal, to count and
  * find, where their bytes are: of floats too. A flag that is neither 0 nor 1 is CVEC_NO_RECORD, and nothing is done then. The typed

@@ -386,7 +386,7 @@ cvec_status cvec_seat_settled(cvec_seat *seat, uint64_t *count) {
     uint32_t answer = enter(seat);
     if (answer != CVEC_DONE) return answer;
     answer = cvec_phase_settled(&seat->grower, count, &state);
-    if (answer == CVEC_DONE) *count += seat->vector->base;
+    if (answer == CVEC_DONE) *count = seat->vector->in_memory ? 0 : *count + seat->vector->base;
     leave_seat(seat);
     return answer;
 }

@@ -58,7 +58,8 @@ cvec_status cvec_seat_settle(cvec_seat *seat, uint64_t number, uint64_t millisec
     uint32_t answer = enter_so(seat, ASIDE);
     if (answer != CVEC_DONE) return answer;
     pthread_mutex_lock(&seat->vector->mutex);
-    answer = number == UINT64_MAX ? CVEC_OUT_OF_RANGE : await_beside_others(seat, number + 1, until);
+    answer = refusal_to_settle(seat->vector);
+    if (answer == CVEC_DONE) answer = number == UINT64_MAX ? CVEC_OUT_OF_RANGE : await_beside_others(seat, number + 1, until);
     pthread_mutex_unlock(&seat->vector->mutex);
     leave_seat(seat);
     return answer;
@@ -83,7 +84,7 @@ static uint32_t settle_all(cvec_vector *vector, const struct timespec *until) {
 cvec_status cvec_vector_settle(cvec_vector *vector, uint64_t milliseconds) {
     struct timespec moment;
     const struct timespec *until = deadline(milliseconds, &moment);
-    if (refusal_of(vector) != CVEC_DONE) return refusal_of(vector);
+    if (refusal_to_settle(vector) != CVEC_DONE) return refusal_to_settle(vector);
     pthread_mutex_lock(&vector->mutex);
     vector->asking++;
     uint32_t answer = settle_all(vector, until);
@@ -96,7 +97,7 @@ cvec_status cvec_vector_settled(cvec_vector *vector, uint64_t *count) {
     if (refusal_of(vector) != CVEC_DONE) return refusal_of(vector);
     pthread_mutex_lock(&vector->mutex);
     const uint32_t answer = vector->over ? CVEC_NOT_SO : CVEC_DONE;
-    if (answer == CVEC_DONE) *count = vector->durable;
+    if (answer == CVEC_DONE) *count = vector->in_memory ? 0 : vector->durable;
     pthread_mutex_unlock(&vector->mutex);
     return answer;
 }
@@ -137,7 +138,7 @@ static void rest(cvec_vector *vector, struct timespec until) {
 
 /* A close waits until it has left. It has the mutex where it answers CVEC_DONE. */
 static uint32_t enter_flushers(cvec_vector *vector) {
-    if (refusal_of(vector) != CVEC_DONE) return refusal_of(vector);
+    if (refusal_to_settle(vector) != CVEC_DONE) return refusal_to_settle(vector);
     pthread_mutex_lock(&vector->mutex);
     if (!vector->over) {
         vector->flushers++;
@@ -240,7 +241,7 @@ static uint32_t start_own(cvec_vector *vector, uint64_t every_milliseconds) {
 }
 
 cvec_status cvec_vector_start_flusher(cvec_vector *vector, uint64_t every_milliseconds) {
-    if (refusal_of(vector) != CVEC_DONE) return refusal_of(vector);
+    if (refusal_to_settle(vector) != CVEC_DONE) return refusal_to_settle(vector);
     pthread_mutex_lock(&vector->mutex);
     uint32_t answer = vector->over ? CVEC_NOT_SO : is_broken(vector) ? CVEC_BROKEN : start_own(vector, every_milliseconds);
     pthread_mutex_unlock(&vector->mutex);

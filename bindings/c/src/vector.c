@@ -90,6 +90,8 @@ static uint32_t open_alone(cvec_vector *vector, const char *path, int flags) {
 /* How many bytes the file has. Where one of this version is made, they are those that a stopped creation leaves: over others, which
  * are somebody's, it would write. */
 static uint32_t ask_length(const cvec_vector *vector, uint8_t version, uint64_t *len) {
+    *len = 0;
+    if (vector->in_memory) return CVEC_DONE;
     const uint8_t empty[CVEC_EMPTY_LEN] = {1, 'C', 'V', 'E', 'C', 'S', 'E', 'G', version, (uint8_t)width_of(vector->type), 0, 0};
     return version == 0 ? cvec_system_length(vector->fd, len) : cvec_system_vacant(vector->fd, empty, len);
 }
@@ -112,7 +114,7 @@ static uint32_t feed(cvec_handle *file, int fd, uint64_t len) {
 static uint32_t begin(cvec_vector *vector, uint8_t version) {
     const uint16_t width = width_of(vector->type);
     cvec_handle *file = &vector->committer; /* which it becomes */
-    uint64_t len = 0;
+    uint64_t len;
     uint32_t answer = ask_length(vector, version, &len);
     if (answer == CVEC_DONE) answer = cvec_phase_file(len, width, file);
     if (answer == CVEC_DONE) answer = feed(file, vector->fd, len);
@@ -123,7 +125,8 @@ static uint32_t begin(cvec_vector *vector, uint8_t version) {
 /* Opens the file and begins its vector; a version of 0 opens one that is there. */
 static uint32_t begin_at(cvec_vector *vector, const char *path, uint8_t version) {
     uint64_t growths = 0;
-    uint32_t answer = open_alone(vector, path, version == 0 ? 0 : O_CREAT);
+    vector->in_memory = path == NULL;
+    uint32_t answer = vector->in_memory ? CVEC_DONE : open_alone(vector, path, version == 0 ? 0 : O_CREAT);
     if (answer == CVEC_DONE) answer = begin(vector, version);
     return answer == CVEC_DONE ? cvec_commit(vector, &growths) : answer;
 }
@@ -146,9 +149,10 @@ static uint32_t check_options(cvec_type type, const cvec_options *options) {
     return options->seats > MOST_SEATS || options->growths > MOST_GROWTHS ? CVEC_TOO_LARGE : CVEC_DONE;
 }
 
+/* Where there is no path, nothing is there to be opened. */
 static uint32_t begin_with(cvec_vector **begun, const char *path, cvec_type type, bool is_new, const cvec_options *said) {
     const cvec_options options = all_options(said);
-    uint32_t answer = check_options(type, &options);
+    uint32_t answer = path == NULL && !is_new ? CVEC_NOT_SO : check_options(type, &options);
     *begun = NULL;
     if (answer != CVEC_DONE) return answer;
     cvec_vector *vector = vector_of();
@@ -184,7 +188,7 @@ cvec_status cvec_vector_open_or_create(cvec_vector **vector, const char *path, c
 
 cvec_status cvec_vector_identity(const cvec_vector *vector, uint64_t *device, uint64_t *file) {
     if (refusal_of(vector) != CVEC_DONE) return refusal_of(vector);
-    return vector->over ? CVEC_NOT_SO : cvec_system_identity(vector->fd, device, file);
+    return vector->over || vector->in_memory ? CVEC_NOT_SO : cvec_system_identity(vector->fd, device, file);
 }
 
 /* ---- ending */
@@ -205,7 +209,7 @@ static uint32_t commit_all(cvec_vector *vector) {
 /* A forked process has copies of the handles, and of a mutex that any thread may have had: it closes the file alone, and leaves its
  * parent the lock. */
 static uint32_t leave(cvec_vector *vector) {
-    cvec_system_close(vector->fd);
+    if (vector->fd >= 0) cvec_system_close(vector->fd);
     vector->fd = -1;
     return CVEC_FORKED;
 }
@@ -220,11 +224,11 @@ static bool is_idle(cvec_vector *vector) {
     return false;
 }
 
-/* With the mutex, and nobody beside: what isn't durable is committed. */
+/* With the mutex, and nobody beside: what isn't durable is committed, or lost where nothing is. */
 static uint32_t finish(cvec_vector *vector) {
     cvec_end_flushers(vector);
     cvec_drop_slots(vector);
-    return commit_all(vector);
+    return vector->in_memory ? CVEC_DONE : commit_all(vector);
 }
 
 /* Of one that was ended there is nothing more to commit. */

@@ -16,6 +16,7 @@ struct own_flusher;
 
 struct cvec_vector {
     int fd;
+    bool in_memory;   /* it has no file, so nothing of it is durable: `fd` is none, and no call of its commits is made */
     uint64_t process; /* in which it was begun */
     pthread_mutex_t mutex;   /* guards all below but what who commits has, and who has all handles */
     pthread_cond_t settled;  /* a commit has ended */
@@ -174,6 +175,12 @@ static inline bool is_of_this_process(const cvec_vector *vector) { return vector
 static inline uint32_t refusal_of(const cvec_vector *vector) {
     if (vector == NULL) return CVEC_NOT_SO;
     return is_of_this_process(vector) ? CVEC_DONE : CVEC_FORKED;
+}
+
+/* Why nothing of it is made durable. */
+static inline uint32_t refusal_to_settle(const cvec_vector *vector) {
+    const uint32_t refusal = refusal_of(vector);
+    return refusal == CVEC_DONE && vector->in_memory ? CVEC_NOT_SO : refusal;
 }
 
 /* Whether what names records of this type is for the vector. */

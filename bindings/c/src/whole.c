@@ -60,6 +60,7 @@ static uint32_t make_call(cvec_vector *vector, uint64_t number) {
     uint32_t answer = cvec_phase_call(&vector->committer, number, &call);
     if (answer != CVEC_DONE) return answer;
     vector->written += call.len;
+    if (vector->in_memory) return CVEC_DONE; /* nobody would read it */
     return call.kind == 1 ? cvec_system_sync(vector->fd) : cvec_system_write_at(vector->fd, call.at, call.bytes, (size_t)call.len);
 }
 

@@ -12,6 +12,13 @@
 #define CVEC_ASK(place) static_cast<void>(place)
 #endif
 
+#if __has_include(<compare>)
+#include <compare>
+#endif
+#if defined(__cpp_lib_three_way_comparison) && defined(__cpp_impl_three_way_comparison)
+#define CVEC_THREE_WAY
+#endif
+
 #if defined(__has_feature)
 #if __has_feature(thread_sanitizer)
 #define CVEC_UNDER_THREAD_SANITIZER

@@ -20,6 +20,7 @@
 #include <chrono>
 #include <cstddef>
 #include <cstdint>
+#include <cstring>
 #include <initializer_list>
 #include <iterator>
 #include <memory>
@@ -47,11 +48,11 @@ template <class T, class Layout = one_record> class concurrent_vector {
     using pointer = const T *;
     using const_pointer = const T *;
     using const_iterator = detail::iterator<T, Layout>;
-    using iterator = const_iterator;
+    using iterator = detail::iterator<T, Layout, false>; // as that one: it becomes it
     using const_reverse_iterator = std::reverse_iterator<const_iterator>;
-    using reverse_iterator = const_reverse_iterator;
+    using reverse_iterator = std::reverse_iterator<iterator>;
     using const_range_type = detail::range<T, Layout>;
-    using range_type = const_range_type;
+    using range_type = detail::range<T, Layout, false>;
 
     // Opens the file, and makes it where there is none; or as wanted.how asks.
     explicit concurrent_vector(const std::string &path, const options &wanted = {})
@@ -59,9 +60,53 @@ template <class T, class Layout = one_record> class concurrent_vector {
         if (file_->size() % row::words != 0) refuse_length();
     }
 
+    // In memory alone: nothing stands on a disk before `save`, and what waits for growths to be durable is refused (CVEC_NOT_SO). Each
+    // seat takes 5 KB: where nothing is said there are twice as many as processors. What options say of a file means nothing.
+    concurrent_vector() : concurrent_vector(detail::options_in_memory()) {}
+    explicit concurrent_vector(const options &wanted)
+        : file_(std::make_shared<detail::word_file>(std::nullopt, row::kept::type, row::words, row::bytes, wanted)) {}
+
+    // The same, of these rows: by as many growths as they take.
+    explicit concurrent_vector(size_type count) : concurrent_vector() { grow_to_at_least(count); }
+    concurrent_vector(size_type count, const T &value) : concurrent_vector() { grow_to_at_least(count, value); }
+    template <class Iterator, class = detail::value_of_iterator<Iterator>>
+    concurrent_vector(Iterator first, Iterator last) : concurrent_vector() {
+        row::grow_all(file(), first, last);
+    }
+    concurrent_vector(std::initializer_list<T> rows) : concurrent_vector() { row::grow_all(file(), rows.begin(), rows.end()); }
+
+    // A copy is in memory alone, also of a vector that has a file. So none is made by passing it.
+    explicit concurrent_vector(const concurrent_vector &other) : concurrent_vector() {
+        const cvec::view<T, Layout> rows = other.view();
+        row::grow_all(file(), rows.begin(), rows.end());
+    }
+
     // One that was moved from refuses each member (CVEC_NOT_SO) but the destructor, assignment, swap, max_size and max_growth.
     concurrent_vector(concurrent_vector &&) noexcept = default;
     concurrent_vector &operator=(concurrent_vector &&) noexcept = default;
+
+    // Its own file keeps the rows that are assigned, as by `assign`.
+    concurrent_vector &operator=(const concurrent_vector &other) {
+        if (this != std::addressof(other)) assign(other.begin(), other.end());
+        return *this;
+    }
+    concurrent_vector &operator=(std::initializer_list<T> rows) {
+        assign(rows);
+        return *this;
+    }
+
+    // Makes a file of a vector in memory, which has it from then on: by growths of max_growth() rows, the last of which is durable when
+    // it returns, and its receipts count from there. CVEC_EXISTS: there is a file; CVEC_NOT_SO: it has one. What is refused leaves it in
+    // memory, and the first of these growths in the file. What was lent is lost, as by an assignment, and as there no other call of
+    // the vector may be under way.
+    void save(const std::string &path, options wanted = {}) {
+        if (!file().is_in_memory()) file().refuse(CVEC_NOT_SO, "it has a file");
+        wanted.how = opening::create;
+        concurrent_vector saved(path, wanted);
+        row::grow_all(saved.file(), begin(), end());
+        saved.settle();
+        swap(saved);
+    }
 
     // Commits what was grown, and closes the file. After it all calls are refused. The destructor does so too, but can't report
     // what fails; nor can an assignment, of the file that the vector had. Where a view lives both leave the file to the last one. In a
@@ -115,6 +160,12 @@ template <class T, class Layout = one_record> class concurrent_vector {
         return row::growth_of(made.publish(), count);
     }
 
+    // Nothing: rows aren't moved to make room for more, however many come. More than max_size() are refused (CVEC_OUT_OF_RANGE).
+    void reserve(size_type count) const {
+        const detail::word_file &all = file();
+        if (count > max_size()) all.refuse(CVEC_OUT_OF_RANGE);
+    }
+
     // -- having the vector alone, also close: each waits until the calls under way have ended, and later ones wait for it. It is
     // durable when it returns. What was lent before, references and iterators, is lost. While a view lives it is CVEC_BUSY, at once
     // or behind options::wait_for_views, and nothing is done. After CVEC_MEMORY nothing has changed. After a write or a sync that
@@ -140,6 +191,30 @@ template <class T, class Layout = one_record> class concurrent_vector {
         change(first, rows.begin(), rows.end());
     }
 
+    // Calls use(rows) with a mutable_rows<T>, a copy of all rows that there are, and then writes it over them, from the first row that
+    // differs to the last: by changes of max_growth() rows, each of which is whole or not at all after a crash. Meanwhile other calls
+    // that want the vector alone wait, or are CVEC_BUSY in its own thread; all others go on, and what they grow stands behind. What
+    // `use` throws changes nothing.
+    template <class Use> void exclusive(Use &&use) {
+        detail::word_file::exclusion others(file());
+        const size_type count = size();
+        const std::unique_ptr<unsigned char[]> copy(new unsigned char[count * row::bytes]);
+        for_each_piece(0, count, [&](const cvec::rows<T, Layout> &piece) {
+            std::memcpy(copy.get() + piece.first() * row::bytes, std::addressof(piece[0]), piece.size() * row::bytes);
+        });
+        std::forward<Use>(use)(mutable_rows<T, Layout>(copy.get(), count));
+        const auto differs = [&](size_type at) {
+            return std::memcmp(copy.get() + at * row::bytes, std::addressof((*this)[at]), row::bytes) != 0;
+        };
+        size_type first = 0, last = count;
+        while (first < last && !differs(first)) ++first;
+        while (first < last && !differs(last - 1)) --last;
+        for (size_type some = 0; first < last; first += some) {
+            some = std::min(last - first, max_growth());
+            others.write(std::uint64_t{first} * row::words, copy.get() + first * row::bytes, some * row::words);
+        }
+    }
+
     // Writes what was changed to its place in the file, which costs a write for each changed record. Without it the file
     // keeps each change besides.
     void fold() { file().fold(); }
@@ -147,8 +222,22 @@ template <class T, class Layout = one_record> class concurrent_vector {
     // Puts the rows of the growths since the last such call, or one of change and the like, behind one another: they take no more
     // memory than themselves then, and as many growths as ever may follow.
     void compact() { file().compact(); }
+    void shrink_to_fit() { compact(); }
 
     void clear() { file().cut(0); }
+
+    // In place of all rows these: by a `clear`, and growths behind it, of which a crash may leave the first ones or none.
+    void assign(size_type count, const T &value) {
+        const T kept = value; // which may be a row of its own
+        clear();
+        grow_to_at_least(count, kept);
+    }
+    template <class Iterator, class = detail::category_of<Iterator>> void assign(Iterator first, Iterator last) {
+        const std::vector<T> all(first, last); // which may be its own
+        clear();
+        row::grow_all(file(), all.begin(), all.end());
+    }
+    void assign(std::initializer_list<T> rows) { assign(rows.begin(), rows.end()); }
 
     // Rows that are missing are grown, as by grow_to_at_least.
     void resize(size_type count, const T &value = T()) {
@@ -194,6 +283,11 @@ template <class T, class Layout = one_record> class concurrent_vector {
     // stop_flusher or close is called. It throws where a commit is refused.
     template <class Rep, class Period> void run_flusher(const std::chrono::duration<Rep, Period> &every) {
         file().run_flusher(detail::milliseconds_of(every));
+    }
+
+    // The same by a thread of the library's own, which stop_flusher or close ends, or a commit that is refused for good: nobody is told.
+    template <class Rep, class Period> void start_flusher(const std::chrono::duration<Rep, Period> &every) {
+        file().start_flusher(detail::milliseconds_of(every));
     }
 
     // Ends the loops of flushers, each that is begun later too. It doesn't wait for them.
@@ -252,19 +346,27 @@ template <class T, class Layout = one_record> class concurrent_vector {
         return static_cast<size_type>(detail::most_records / row::words);
     }
 
+    // So many rows come without one being moved.
+    [[nodiscard]] static constexpr size_type capacity() noexcept { return max_size(); }
+
     // So many rows one growth may have.
     [[nodiscard]] static constexpr size_type max_growth() noexcept { return row::most_in_growth; }
 
+    [[nodiscard]] iterator begin() { return iterator(std::addressof(file()), 0); }
     [[nodiscard]] const_iterator begin() const { return const_iterator(std::addressof(file()), 0); }
     // What stands before it an iterator finds without a call.
+    [[nodiscard]] iterator end() { return iterator(file_.get(), file().learned()); }
     [[nodiscard]] const_iterator end() const { return const_iterator(file_.get(), file().learned()); }
     [[nodiscard]] const_iterator cbegin() const { return begin(); }
     [[nodiscard]] const_iterator cend() const { return end(); }
+    [[nodiscard]] reverse_iterator rbegin() { return reverse_iterator(end()); }
     [[nodiscard]] const_reverse_iterator rbegin() const { return const_reverse_iterator(end()); }
+    [[nodiscard]] reverse_iterator rend() { return reverse_iterator(begin()); }
     [[nodiscard]] const_reverse_iterator rend() const { return const_reverse_iterator(begin()); }
     [[nodiscard]] const_reverse_iterator crbegin() const { return rbegin(); }
     [[nodiscard]] const_reverse_iterator crend() const { return rend(); }
 
+    [[nodiscard]] range_type range(size_type grainsize = 1) { return range_type(file_.get(), 0, file().learned(), grainsize); }
     [[nodiscard]] const_range_type range(size_type grainsize = 1) const {
         return const_range_type(file_.get(), 0, file().learned(), grainsize);
     }
@@ -300,6 +402,8 @@ template <class T, class Layout = one_record> class concurrent_vector {
     std::shared_ptr<detail::word_file> file_; // with its views
 };
 
+template <class Iterator> concurrent_vector(Iterator, Iterator) -> concurrent_vector<detail::value_of_iterator<Iterator>>;
+
 // ---- comparing, row by row, as T's operators do
 
 template <class T, class One, class Other>
@@ -307,6 +411,24 @@ template <class T, class One, class Other>
     return std::equal(a.begin(), a.end(), b.begin(), b.end());
 }
 
+#if defined(CVEC_THREE_WAY)
+namespace detail {
+
+// As the standard library's containers compare what they hold: a T that has no <=> by its <.
+template <class T> [[nodiscard]] auto compared(const T &a, const T &b) {
+    if constexpr (std::three_way_comparable<T>)
+        return a <=> b;
+    else
+        return a < b ? std::weak_ordering::less : b < a ? std::weak_ordering::greater : std::weak_ordering::equivalent;
+}
+
+} // namespace detail
+
+template <class T, class One, class Other>
+[[nodiscard]] auto operator<=>(const concurrent_vector<T, One> &a, const concurrent_vector<T, Other> &b) {
+    return std::lexicographical_compare_three_way(a.begin(), a.end(), b.begin(), b.end(), detail::compared<T>);
+}
+#else
 template <class T, class One, class Other>
 [[nodiscard]] bool operator<(const concurrent_vector<T, One> &a, const concurrent_vector<T, Other> &b) {
     return std::lexicographical_compare(a.begin(), a.end(), b.begin(), b.end());
@@ -331,6 +453,7 @@ template <class T, class One, class Other>
 [[nodiscard]] bool operator>=(const concurrent_vector<T, One> &a, const concurrent_vector<T, Other> &b) {
     return !(a < b);
 }
+#endif
 
 // ---- rows gathered into blocks
 

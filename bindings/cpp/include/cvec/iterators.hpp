@@ -64,8 +64,9 @@ using file_of_iterator = word_file *;
 #endif
 
 // Goes through the rows of a vector where they stand. Within what it knows of them it makes no call and takes no lock, and it
-// goes from piece to piece by itself where these are of one length, and else by the vector's index.
-template <class T, class Layout = one_record> class iterator {
+// goes from piece to piece by itself where these are of one length, and else by the vector's index. The two types of a vector do
+// the same: rows are written by neither.
+template <class T, class Layout = one_record, bool IsConst = true> class iterator {
     using row = detail::row<T, Layout>;
 
   public:
@@ -77,6 +78,12 @@ template <class T, class Layout = one_record> class iterator {
 
     iterator() = default;
     iterator(word_file *file, std::size_t position) noexcept : file_(file), position_(position) { locate(); }
+
+    // An iterator becomes a const_iterator.
+    template <bool IsOther, class = std::enable_if_t<IsConst && !IsOther>>
+    iterator(const iterator<T, Layout, IsOther> &from) noexcept
+        : file_(from.file_), position_(from.position_), at_(from.at_), last_(from.last_), each_(from.each_), end_(from.end_),
+          gap_(from.gap_) {}
 
     // What it didn't know of when it was moved is looked for.
     [[nodiscard]] reference operator*() const {
@@ -139,6 +146,9 @@ template <class T, class Layout = one_record> class iterator {
     friend bool operator>(const iterator &a, const iterator &b) noexcept { return a.position_ > b.position_; }
     friend bool operator<=(const iterator &a, const iterator &b) noexcept { return a.position_ <= b.position_; }
     friend bool operator>=(const iterator &a, const iterator &b) noexcept { return a.position_ >= b.position_; }
+#if defined(CVEC_THREE_WAY)
+    friend std::strong_ordering operator<=>(const iterator &a, const iterator &b) noexcept { return a.position_ <=> b.position_; }
+#endif
 
     // The row at a position, which is looked for where the index doesn't cover it yet.
     CVEC_APART static reference look(word_file *file, std::size_t position) {
@@ -151,7 +161,8 @@ template <class T, class Layout = one_record> class iterator {
     }
 
   private:
-    template <class, class> friend class range;
+    template <class, class, bool> friend class iterator;
+    template <class, class, bool> friend class range;
 
     // By a value: an iterator whose address is taken is kept in memory, where a loop would write to it at each step.
     static stretch stretch_at(const word_file *file, std::size_t position) noexcept {
@@ -176,10 +187,10 @@ template <class T, class Layout = one_record> class iterator {
 };
 
 // Positions from one to another, which can be split in two: what oneTBB calls a Range, without its headers.
-template <class T, class Layout = one_record> class range {
+template <class T, class Layout = one_record, bool IsConst = true> class range {
   public:
+    using iterator = detail::iterator<T, Layout, IsConst>;
     using const_iterator = detail::iterator<T, Layout>;
-    using iterator = const_iterator;
     using value_type = T;
     using reference = const T &;
     using const_reference = reference;
@@ -189,8 +200,12 @@ template <class T, class Layout = one_record> class range {
     range(word_file *file, size_type first, size_type last, size_type grainsize) noexcept
         : file_(file), first_(first), last_(last), grainsize_(std::max<size_type>(grainsize, 1)) {}
 
-    range(const const_iterator &first, const const_iterator &last, size_type grainsize = 1) noexcept
+    range(const iterator &first, const iterator &last, size_type grainsize = 1) noexcept
         : range(first.file_, first.position_, last.position_, grainsize) {}
+
+    // A range becomes a range of const_iterators.
+    template <bool IsOther, class = std::enable_if_t<IsConst && !IsOther>>
+    range(const range<T, Layout, IsOther> &from) noexcept : range(from.file_, from.first_, from.last_, from.grainsize_) {}
 
     // Takes the second half of the other one. A tag is oneTBB's split or proportional_split, or any class.
     template <class Tag, class = std::enable_if_t<std::is_class_v<Tag>>>
@@ -202,10 +217,12 @@ template <class T, class Layout = one_record> class range {
     [[nodiscard]] size_type size() const noexcept { return last_ - first_; }
     [[nodiscard]] size_type grainsize() const noexcept { return grainsize_; }
     [[nodiscard]] bool is_divisible() const noexcept { return size() > grainsize_; }
-    [[nodiscard]] const_iterator begin() const noexcept { return const_iterator(file_, first_); }
-    [[nodiscard]] const_iterator end() const noexcept { return const_iterator(file_, last_); }
+    [[nodiscard]] iterator begin() const noexcept { return iterator(file_, first_); }
+    [[nodiscard]] iterator end() const noexcept { return iterator(file_, last_); }
 
   private:
+    template <class, class, bool> friend class range;
+
     [[nodiscard]] size_type middle() const noexcept { return first_ + (last_ - first_) / 2; }
 
     file_of_iterator file_;

@@ -8,6 +8,7 @@
 #include <atomic>
 #include <cerrno>
 #include <cstdint>
+#include <optional>
 #include <string>
 
 namespace cvec {
@@ -27,7 +28,8 @@ class open_file {
     [[noreturn]] void refuse(std::uint32_t status) const { refuse(status, cvec_status_text(status)); }
 
     [[noreturn]] void refuse(std::uint32_t status, const std::string &text) const {
-        throw error(status, path_, text, is_of_the_system(status) ? errno : 0);
+        const int why = is_of_the_system(status) ? errno : 0;
+        throw error(status, path_ ? *path_ : "a vector in memory", text, why);
     }
 
     // Of the calls of a vector by this header it is that refusal alone: that it was closed.
@@ -43,10 +45,18 @@ class open_file {
         return is_closed() ? CVEC_NOT_SO : cvec_seat_borrow(vector_, milliseconds, seat);
     }
 
+    // It has no file: nothing of it is durable.
+    [[nodiscard]] bool is_in_memory() const noexcept { return !path_; }
+
+    void refuse_in_memory() const {
+        if (is_in_memory()) refuse(CVEC_NOT_SO, "nothing of it is durable: `save` gives it a file");
+    }
+
   protected:
-    open_file(const std::string &path, cvec_type type, const options &wanted)
+    // By no path in memory alone.
+    open_file(const std::optional<std::string> &path, cvec_type type, const options &wanted)
         : type_(type), limit_(wanted.seats), process_(cvec_process()), path_(path) {
-        if (path_.find('\0') != std::string::npos) refuse_path();
+        if (path_ && path_->find('\0') != std::string::npos) refuse_path();
         if (limit_ == 0 || limit_ > most_seats) refuse(CVEC_NOT_SO, "a vector has 1 to 64 seats");
         if (wanted.version == 0) refuse(CVEC_NOT_SO);
         begin(wanted.how, {wanted.version, limit_, 0, wanted.growths});
@@ -79,14 +89,14 @@ class open_file {
     // To the system a path ends there: it would open the file of that name.
     [[noreturn]] void refuse_path() const {
         const std::string text = cvec_status_text(CVEC_DISK_OPEN);
-        throw error(CVEC_DISK_OPEN, path_.c_str(), text + ": its path goes on behind a zero byte", 0);
+        throw error(CVEC_DISK_OPEN, path_->c_str(), text + ": its path goes on behind a zero byte", 0);
     }
 
     void begin(opening how, const cvec_options &wanted) {
-        const auto call = how == opening::open     ? cvec_vector_open
-                          : how == opening::create ? cvec_vector_create
-                                                   : cvec_vector_open_or_create;
-        const std::uint32_t status = call(&vector_, path_.c_str(), type_, &wanted);
+        const auto call = is_in_memory() || how == opening::create ? cvec_vector_create
+                          : how == opening::open                   ? cvec_vector_open
+                                                                   : cvec_vector_open_or_create;
+        const std::uint32_t status = call(&vector_, path_ ? path_->c_str() : nullptr, type_, &wanted);
         if (status == CVEC_WIDTH && type_ != CVEC_U64)
             refuse(status, "its records have another width; one of rows_of_u64 is opened as such");
         if (status != CVEC_DONE) refuse(status);
@@ -94,7 +104,7 @@ class open_file {
 
     [[noreturn]] void refuse_closed() const { refuse(CVEC_NOT_SO, "it was closed"); }
 
-    const std::string path_;
+    const std::optional<std::string> path_;
     std::atomic<bool> closed_{false};
 };
 

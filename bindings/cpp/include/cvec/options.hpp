@@ -2,9 +2,11 @@
 #ifndef CVEC_OPTIONS_HPP
 #define CVEC_OPTIONS_HPP
 
+#include <algorithm>
 #include <chrono>
 #include <cstddef>
 #include <cstdint>
+#include <thread>
 
 namespace cvec {
 
@@ -19,6 +21,17 @@ struct options {
     // So long calls that want the vector alone wait for views that live. Then they are refused (CVEC_BUSY): by 0 at once.
     std::chrono::milliseconds wait_for_views{0};
 };
+
+namespace detail {
+
+// Calls in memory wait for no device: as many threads as run at once have a seat, and as many more as may be paused within one.
+inline options options_in_memory() {
+    options made;
+    made.seats = static_cast<std::uint16_t>(std::clamp(2 * std::thread::hardware_concurrency(), 4U, 64U));
+    return made;
+}
+
+} // namespace detail
 
 // Where a growth stands.
 struct growth {

@@ -9,6 +9,8 @@
 #ifndef CVEC_PIECE_INDEX_HPP
 #define CVEC_PIECE_INDEX_HPP
 
+#include "compiler.hpp"
+
 #include <algorithm>
 #include <array>
 #include <atomic>
@@ -18,16 +20,6 @@
 #include <memory>
 #include <new>
 #include <vector>
-
-#if defined(__GNUC__)
-#define CVEC_APART __attribute__((noinline))
-#define CVEC_MOSTLY(condition) __builtin_expect((condition), true)
-#define CVEC_ASK(place) __builtin_prefetch(place)
-#else
-#define CVEC_ASK(place) static_cast<void>(place)
-#define CVEC_APART
-#define CVEC_MOSTLY(condition) (condition)
-#endif
 
 namespace cvec {
 namespace detail {

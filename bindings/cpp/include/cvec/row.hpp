@@ -12,6 +12,7 @@
 #include <memory>
 #include <new>
 #include <optional>
+#include <tuple>
 #include <type_traits>
 #include <utility>
 #include <vector>
@@ -28,11 +29,19 @@ template <class Word, cvec_type Type, std::size_t Width> struct kept_by {
 
 using by_u64 = kept_by<std::uint64_t, CVEC_U64, 8>;
 
+// A row of one of these sizes is one record; of another it is whole records of u64.
+template <std::size_t Size> struct record_of_size { using kept = by_u64; };
+template <> struct record_of_size<1> { using kept = kept_by<std::uint8_t, CVEC_U8, 1>; };
+template <> struct record_of_size<2> { using kept = kept_by<std::uint16_t, CVEC_U16, 2>; };
+template <> struct record_of_size<4> { using kept = kept_by<std::uint32_t, CVEC_U32, 4>; };
+template <> struct record_of_size<16> { using kept = kept_by<cvec_pair, CVEC_PAIR, 16>; };
+template <> struct record_of_size<24> { using kept = kept_by<cvec_bytes24, CVEC_BYTES24, 24>; };
+template <> struct record_of_size<32> { using kept = kept_by<cvec_bytes32, CVEC_BYTES32, 32>; };
+template <> struct record_of_size<64> { using kept = kept_by<cvec_bytes64, CVEC_BYTES64, 64>; };
+
 template <class T>
-using by_record = std::conditional_t<
-    std::is_same_v<T, cvec_flagged>, kept_by<cvec_flagged, CVEC_FLAGGED, 9>,
-    std::conditional_t<sizeof(T) == 4, kept_by<std::uint32_t, CVEC_U32, 4>,
-                       std::conditional_t<sizeof(T) == 16, kept_by<cvec_pair, CVEC_PAIR, 16>, by_u64>>>;
+using by_record = std::conditional_t<std::is_same_v<T, cvec_flagged>, kept_by<cvec_flagged, CVEC_FLAGGED, 9>,
+                                     typename record_of_size<sizeof(T)>::kept>;
 
 template <class T, class Layout> using keeping = std::conditional_t<std::is_same_v<Layout, rows_of_u64>, by_u64, by_record<T>>;
 
@@ -41,10 +50,16 @@ inline constexpr std::size_t most_bytes = (std::size_t{1} << 20) - 8;
 
 template <class Iterator> using category_of = typename std::iterator_traits<Iterator>::iterator_category;
 
-// Types whose bytes are all that there is of a value. A pair isn't trivially copyable, but only since it is assigned to part by
-// part, which nothing here does.
+// An iterator that is no path: of two pointers to char one may be meant as that.
+template <class Iterator>
+using value_of_iterator = std::enable_if_t<!std::is_convertible_v<Iterator, std::string> && !std::is_same_v<category_of<Iterator>, void>,
+                                           typename std::iterator_traits<Iterator>::value_type>;
+
+// Types whose bytes are all that there is of a value. A pair and a tuple aren't trivially copyable, but only since they are assigned to
+// part by part, which nothing here does.
 template <class T> struct is_its_bytes : std::is_trivially_copyable<T> {};
 template <class A, class B> struct is_its_bytes<std::pair<A, B>> : std::conjunction<is_its_bytes<A>, is_its_bytes<B>> {};
+template <class... Parts> struct is_its_bytes<std::tuple<Parts...>> : std::conjunction<is_its_bytes<Parts>...> {};
 
 template <class T, class Layout = one_record> struct row {
     using kept = keeping<T, Layout>;
@@ -117,6 +132,14 @@ template <class T, class Layout = one_record> struct row {
 
     static growth grow(word_file &file, const std::vector<word> &all) {
         return grow(file, all.data(), all.size() / words);
+    }
+
+    // Any number of rows, by as many growths as they take.
+    template <class Iterator> static void grow_all(word_file &file, Iterator first, Iterator last) {
+        for (std::vector<word> some; first != last; some.clear()) {
+            for (; first != last && some.size() < most_in_growth * words; ++first) add(some, *first);
+            grow(file, some);
+        }
     }
 
     // Of rows that lie in memory as they will in the file, without a copy on the way.

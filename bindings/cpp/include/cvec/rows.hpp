@@ -118,10 +118,16 @@ template <class T, class Layout = one_record> class rows : public detail::span_o
     std::size_t first_;
 };
 
-// Rows that are to be written, of bytes that are 0.
-template <class T, class Layout = one_record> class new_rows : public detail::span_of_rows<T, detail::row<T, Layout>::bytes> {
+// Rows that may be written.
+template <class T, class Layout = one_record> class mutable_rows : public detail::span_of_rows<T, detail::row<T, Layout>::bytes> {
   public:
-    new_rows(void *at, std::size_t count) noexcept : new_rows::span_of_rows(static_cast<unsigned char *>(at), count) {}
+    mutable_rows(void *at, std::size_t count) noexcept : mutable_rows::span_of_rows(static_cast<unsigned char *>(at), count) {}
+};
+
+// Rows that are to be written, of bytes that are 0.
+template <class T, class Layout = one_record> class new_rows : public mutable_rows<T, Layout> {
+  public:
+    using mutable_rows<T, Layout>::mutable_rows;
 };
 
 } // namespace cvec
@@ -129,6 +135,7 @@ template <class T, class Layout = one_record> class new_rows : public detail::sp
 #if defined(__cpp_lib_span)
 // What is lent doesn't go with the object that tells of it.
 template <class T, class Layout> inline constexpr bool std::ranges::enable_borrowed_range<cvec::rows<T, Layout>> = true;
+template <class T, class Layout> inline constexpr bool std::ranges::enable_borrowed_range<cvec::mutable_rows<T, Layout>> = true;
 template <class T, class Layout> inline constexpr bool std::ranges::enable_borrowed_range<cvec::new_rows<T, Layout>> = true;
 #endif
 

@@ -14,6 +14,7 @@
 #include <cstdint>
 #include <memory>
 #include <mutex>
+#include <optional>
 #include <string>
 #include <utility>
 
@@ -41,7 +42,7 @@ class lease {
 class word_file final : public open_file, public std::enable_shared_from_this<word_file> {
   public:
     // A row is so many words, which have so many bytes together.
-    word_file(const std::string &path, cvec_type type, std::size_t words, std::size_t bytes, const options &wanted)
+    word_file(const std::optional<std::string> &path, cvec_type type, std::size_t words, std::size_t bytes, const options &wanted)
         : open_file(path, type, wanted), row_words_(words), index_(bytes), wait_for_views_(wanted.wait_for_views) {}
 
     // A destructor reports nothing: who wants to know calls close.
@@ -66,12 +67,14 @@ class word_file final : public open_file, public std::enable_shared_from_this<wo
 
     // Waits until the growth of this number, and each before it, is durable.
     void await(std::uint64_t number) {
+        refuse_in_memory();
         const lease lent(*this);
         require(cvec_seat_settle(lent.seat(), number, CVEC_NO_LIMIT));
     }
 
     // The same, for others, also for a seat, so many milliseconds at most: then false.
     bool await_for(std::uint64_t number, std::uint64_t milliseconds) {
+        refuse_in_memory();
         const auto begun = waiting_clock::now();
         cvec_seat *borrowed = nullptr;
         if (!is_in_time(borrow(milliseconds, &borrowed))) return false;
@@ -88,11 +91,20 @@ class word_file final : public open_file, public std::enable_shared_from_this<wo
     // Commits what was grown, and so again and again behind such a pause, until stop_flusher or the close.
     void run_flusher(std::uint64_t milliseconds) {
         refuse_forked();
+        refuse_in_memory();
         require_unless_closed(cvec_vector_run_flusher(vector_, milliseconds));
+    }
+
+    // The same by a thread of the library's.
+    void start_flusher(std::uint64_t milliseconds) {
+        refuse_ended();
+        refuse_in_memory();
+        require(cvec_vector_start_flusher(vector_, milliseconds));
     }
 
     void stop_flusher() {
         refuse_forked();
+        refuse_in_memory();
         require_unless_closed(cvec_vector_stop_flusher(vector_));
     }
 
@@ -215,6 +227,34 @@ class word_file final : public open_file, public std::enable_shared_from_this<wo
 
     // ---- having the file alone
 
+    // As long as it lives nobody has the file alone, and what stands changes by `write` alone. Words are grown and read meanwhile. Threads
+    // that begin one wait for one another, and for views as calls that want the file alone.
+    class exclusion {
+      public:
+        explicit exclusion(word_file &file) : file_(file), turn_(file.take_exclusion()), mine_(&file) {
+            file.holds_.give_way();
+            const holds::want now(file.holds_, file.wait_for_views_);
+            if (!now.await_none()) file.refuse_held();
+            const std::lock_guard<std::mutex> lock(file.learning_); // behind a call that has the file alone
+            file.holds_.begin_exclusion();
+        }
+        exclusion(const exclusion &) = delete;
+        exclusion &operator=(const exclusion &) = delete;
+        ~exclusion() { file_.holds_.end_exclusion(); }
+
+        // Writes some words over those from this place on, which are there, as one frame.
+        void write(std::uint64_t from, const void *words, std::size_t count) {
+            file_.act_alone(holds::excluding, [&](bool &) {
+                return cvec_vector_change(file_.vector_, file_.type_, from, words, count);
+            });
+        }
+
+      private:
+        word_file &file_;
+        const std::unique_lock<std::mutex> turn_;
+        const filling mine_;
+    };
+
     // Takes the words behind so many away, if there are some.
     void cut(std::uint64_t length) {
         run_alone([this, length](bool &has_begun) {
@@ -252,8 +292,15 @@ class word_file final : public open_file, public std::enable_shared_from_this<wo
     }
 
   private:
+    std::unique_lock<std::mutex> take_exclusion() {
+        refuse_ended();
+        if (filling::is_of(this)) refuse_held();
+        return std::unique_lock<std::mutex>(excluding_);
+    }
+
     [[nodiscard]] std::uint32_t settle(std::uint64_t milliseconds) const {
         refuse_ended();
+        refuse_in_memory();
         return cvec_vector_settle(vector_, milliseconds);
     }
 
@@ -285,11 +332,16 @@ class word_file final : public open_file, public std::enable_shared_from_this<wo
     template <class Action> void run_alone(const Action &act) {
         refuse_ended();
         if (filling::is_of(this)) refuse_held();
-        const holds::want mine(holds_, wait_for_views_);
+        act_alone(holds::any, act);
+    }
+
+    template <class Action> void act_alone(holds::caller who, const Action &act) {
+        const holds::want mine(holds_, wait_for_views_, who);
         for (;;) {
             if (!mine.await_none()) refuse_held();
-            await_all();
+            if (!is_in_memory()) await_all();
             const std::lock_guard<std::mutex> lock(learning_);
+            if (mine.is_excluded()) continue;
             bool has_begun = true;
             const std::uint32_t status = act(has_begun);
             if (status == CVEC_BUSY) continue;
@@ -324,6 +376,7 @@ class word_file final : public open_file, public std::enable_shared_from_this<wo
         for (;;) {
             if (!mine.await_none()) return CVEC_BUSY;
             const std::lock_guard<std::mutex> lock(learning_);
+            if (mine.is_excluded()) continue;
             const std::uint32_t status = end();
             if (status == CVEC_BUSY) continue;
             index_.clear();
@@ -336,7 +389,7 @@ class word_file final : public open_file, public std::enable_shared_from_this<wo
     std::mutex learning_;
     holds holds_;
     const std::chrono::milliseconds wait_for_views_;
-    std::mutex turn_;
+    std::mutex turn_, excluding_;
 };
 
 } // namespace detail
