@@ -61,6 +61,35 @@ a_part_of_the_records_is_listed() (
     was_refused word '--count'
 )
 
+the_last_records_are_listed() (
+    t=$work/t.cv
+    run create u64 "$t"
+    given '1 2\n3\n4 5\n'
+    run load u64 "$t"
+    run set u64 "$t" 4 --records=6
+    while IFS='=' read -r last answer; do
+        run list u64 "$t" --last "$last"
+        did "$answer"
+    done <<'ROWS'
+2=4\n6\n
+1=6\n
+0=
+5=1\n2\n3\n4\n6\n
+6=1\n2\n3\n4\n6\n
+18446744073709551615=1\n2\n3\n4\n6\n
+ROWS
+    for value in x -1 01 18446744073709551616; do
+        run list u64 "$t" "--last=$value"
+        ends_with_usage 'error: the value of --last is a number of records'
+    done
+    for words in --from=1 --count=1; do
+        run list u64 "$t" --last=1 "$words"
+        ends_with_usage 'cannot be used with'
+    done
+    run list u32 "$t" --last=1
+    was_refused 'width 8' 'its records have 8 bytes'
+)
+
 # Of 2,400,000 bytes of records only those of the part are read: fewer than 20 reads are made.
 a_part_is_listed_without_the_other_records() (
     has_calls || exit $is_skipped
@@ -72,6 +101,8 @@ a_part_is_listed_without_the_other_records() (
     run set u64 "$t" 200001 --records=7
     run_with CALLS_FAIL=pread:20 list u64 "$t" --from=200000 --count=3
     did '200001\n7\n200003\n'
+    run_with CALLS_FAIL=pread:20 list u64 "$t" --last=3
+    did '299998\n299999\n300000\n'
     run list u64 "$t" --from=1
     seq 2 300000 | sed 's/^200002$/7/' | cmp - "$out"
 )

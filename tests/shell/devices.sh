@@ -24,7 +24,7 @@ what_the_program_prints_of_itself_may_be_cut() (
         run $words
         [ "$status" -eq 2 ]
         [ "$(head -n 1 "$err")" = 'usage: cvec COMMAND TYPE ..' ]
-        if tells 'standard output'; then return 1; fi
+        if tells 'cvec: standard output'; then return 1; fi
     done
 )
 

@@ -190,6 +190,64 @@ a_name_that_leads_elsewhere_ends_it() (
     done
 )
 
+# With --reopen it goes on with the file that has the name then, from its first record on, whatever --from was. What came to the
+# file before is written first.
+a_name_is_followed_to_the_next_file() (
+    three_records
+    run create u64 "$work/other.cv"
+    given '10\n11\n'
+    run load u64 "$work/other.cv"
+    follows --reopen --poll=20 --from=1
+    until_followed 2
+    given '8\n'
+    run append u64 "$work/t.cv"
+    mv -f "$work/other.cv" "$work/t.cv"
+    until_followed 5
+    given '12\n'
+    run append u64 "$work/t.cv"
+    until_followed 6
+    run create u64 "$work/t.cv" --over
+    run append u64 "$work/t.cv"
+    until_followed 7
+    has_followed '6\n7\n8\n10\n11\n12\n12\n'
+)
+
+# Where no file has the name, one is waited for, also while its creation isn't whole.
+a_name_without_a_file_is_waited_for() (
+    three_records
+    follows --reopen --poll=20
+    until_followed 3
+    mv "$work/t.cv" "$work/old.cv"
+    sleep 0.3
+    : >"$work/t.cv"
+    sleep 0.2
+    run create u64 "$work/t.cv"
+    did 'created\n'
+    given '9\n'
+    run append u64 "$work/t.cv"
+    until_followed 4
+    has_followed '5\n6\n7\n9\n'
+)
+
+# All else ends it as without the option.
+a_followed_name_ends_where_its_file_is_refused() (
+    three_records
+    follows --reopen --poll=5
+    until_followed 3
+    run set u64 "$work/t.cv" 1 --records=9
+    has_ended 'changed 1' '5\n6\n7\n' 'the record at position 1 was replaced after it was read here'
+    follows --reopen --poll=5
+    until_followed 3
+    run create u32 "$work/other.cv"
+    mv -f "$work/other.cv" "$work/t.cv"
+    has_ended 'width 4' '5\n9\n7\n' 'its records have 4 bytes'
+    for words in --once --events '--events --after=1:2:3:4'; do
+        # shellcheck disable=SC2086 # each word is one
+        run follow u64 "$work/t.cv" --reopen $words
+        ends_with_usage 'cannot be used with'
+    done
+)
+
 # Below the name of a plain file there is none.
 a_folder_that_becomes_a_file_ends_it() (
     three_records

@@ -69,6 +69,63 @@ each_command_has_a_manual_page() (
     done
 )
 
+# What bash offers for the last of these words, one a line. An empty last word stands for none.
+offered_in_bash() {
+    bash -c '
+        complete() { :; }
+        compopt() { :; }
+        . "$1"
+        shift
+        COMP_WORDS=("$@") COMP_CWORD=$(($# - 1)) COMPREPLY=()
+        _cvec
+        printf "%s\n" "${COMPREPLY[@]}"
+    ' bash "$prefix/share/bash-completion/completions/cvec" "$@"
+}
+
+# It offers just these words.
+offers() {
+    sort -u "$out" >"$work/offered"
+    printf '%s\n' "$@" | sort -u | cmp - "$work/offered"
+}
+
+bash_completes_the_words() (
+    can_install && has bash 'completion' || exit $is_skipped
+    installs_once
+    offered_in_bash cvec co >"$out"
+    offers copy count
+    offered_in_bash cvec help f >"$out"
+    offers follow find fold
+    offered_in_bash cvec list u6 >"$out"
+    offers u64
+    offered_in_bash cvec list '' >"$out"
+    offers u8 u16 u32 u64 i32 i64 f32 f64 pair flagged bytes16 bytes24 bytes32 bytes64
+    offered_in_bash cvec list u64 t.cv --l >"$out"
+    offers --last=
+    offered_in_bash cvec create u64 t.cv --f >"$out"
+    offers --format=1 --format=2
+    offered_in_bash cvec follow u64 t.cv - >"$out"
+    offers --from= --once --reopen --poll= --events --after= --quiet --refusals=stderr
+    offered_in_bash cvec list u64 '' >"$out"
+    offers ''
+)
+
+# What each shell is given names every command and its options, and no option of another one.
+each_command_is_completed() (
+    can_install || exit $is_skipped
+    installs_once
+    for command in $(commands); do
+        for option in $(grep -o "^ *$command) options='[^']*'" "$prefix/share/zsh/site-functions/_cvec" | sed "s/.*options='//; s/'//"); do
+            run "$command" "${option%%=*}"
+            if tells 'unexpected argument'; then return 1; fi
+            grep -q "__fish_seen_subcommand_from $command' -l $(echo "${option#--}" | sed 's/=.*//')\( \|$\)" \
+                "$prefix/share/fish/vendor_completions.d/cvec.fish"
+        done
+        grep -q -- "-a $command -d " "$prefix/share/fish/vendor_completions.d/cvec.fish"
+    done
+    if has zsh 'its completion'; then zsh -n "$prefix/share/zsh/site-functions/_cvec"; fi
+    if has fish 'its completion'; then fish -n "$prefix/share/fish/vendor_completions.d/cvec.fish"; fi
+)
+
 # A program that only seems one writes what roff takes for something else.
 a_manual_page_has_any_character() (
     has man 'the manual' || exit $is_skipped

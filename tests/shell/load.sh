@@ -515,6 +515,22 @@ lines_after_a_short_block_are_gone_on_with() (
     seq 5 12 | cmp - "$out"
 )
 
+# While lines come that are no whole block yet, nothing more is durable, and no line tells it again.
+what_is_durable_is_told_once() (
+    is_fed_by_a_pipe --progress --block=3 --every=10
+    printf '5\n6\n7\n' >&8
+    copy_comes_to_have '5\n6\n7\n'
+    for line in 8 9; do
+        sleep 1.1
+        printf '%s\n' "$line" >&8
+    done
+    sleep 0.3
+    [ "$(cat "$work/first_err")" = 'cvec: 1 growths of the first 3 lines are durable, size 3' ]
+    exec 8>&-
+    wait "$!"
+    echo 'appended 2 growths, size 5' | cmp - "$work/first_out"
+)
+
 # Of a growth whose commit fails, whichever of its calls, no line tells. The one before it is durable.
 a_line_tells_of_no_growth_whose_commit_fails() (
     has_calls || exit $is_skipped

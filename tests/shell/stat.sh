@@ -36,8 +36,12 @@ a_file_that_cannot_be_told_of_is_refused() (
     run load u64 "$work/u.cv"
     printf '\011' | dd of="$work/u.cv" bs=1 seek=12 conv=notrunc 2>/dev/null
     before=$(cksum <"$work/u.cv")
-    run stat "$work/u.cv" --json
+    run stat "$work/u.cv"
     was_refused 'damaged at 12: kind 9' 'the frames before that leave 0 records'
+    run stat "$work/u.cv" --json
+    [ "$status" -eq 1 ]
+    echo '{"refused":"damaged at 12: kind 9"}' | cmp - "$out"
+    tells 'the frames before that leave 0 records'
     [ "$before" = "$(cksum <"$work/u.cv")" ]
     run create u64 "$work/v.cv"
     head -c 11 "$work/v.cv" >"$work/w.cv"

@@ -1,6 +1,6 @@
 -- A command over a file never ends with usage.
 use Rattle.std.proofs.Common.{◌≡◌, ℕ, List, sym, subst, ◌∙◌, inl, inr, Result, Ok, Err}
-use Rattle.std.specs.Prelude.{Option}
+use Rattle.std.specs.Prelude.{Option, Bool, true, false}
 use Rattle.std.specs.declared.num.NonZeroU32.{NonZeroU32}
 use Rattle.record_core.specs.Bytes.{Encoding}
 use Rattle.text_core.specs.Text.{Spelling}
@@ -26,7 +26,7 @@ use Rattle.filing_core.specs.Complaints.{Disk, IsLeftAlone, IsStatusOf}
 use Rattle.filing_core.specs.declared.polling.Looks.{Looks}
 use Rattle.filing_core.specs.Beside.{Foreign, IsFollowStatus, IsLookStatus, looks_asked}
 use Rattle.filing_core.specs.Commands.{IsCommandRun, IsEngineDone, IsFollowRun, IsNewRun, IsOverFile, IsReadingRun, IsServedAs}
-use Rattle.cvec.specs.Runs.{IsComplaintRun, IsToldRun, IsTypedCommandRun}
+use Rattle.cvec.specs.Runs.{IsRefusedTo, IsToldRun, IsTypedCommandRun}
 
 -- a command doesn't end so
 abbrev IsNoUsage : Result Status Complaint → Type 0
@@ -130,12 +130,17 @@ no_usage_of_file Bytes24 task input old new filed run = no_usage_of_task _ old n
 no_usage_of_file Bytes32 task input old new filed run = no_usage_of_task _ old new filed _ task input run
 no_usage_of_file Bytes64 task input old new filed run = no_usage_of_task _ old new filed _ task input run
 
-told_no_usage : (filed : Result Status Complaint) (mid new : Option (List ℕ)) (status : Status) (complaint : Option Complaint) → IsNoUsage filed
-    → IsToldRun filed mid new status complaint → status ≡ statuses.Usage → ⊥
-told_no_usage (Ok ended) mid new status complaint none told is = subst (λ (s : Status). IsNoUsage (Ok s)) (sym told.1 ∙ is) none
-told_no_usage (Err why) mid new status complaint none told is = subst (IsComplaintRun mid new why) is told.1
+refused_no_usage : (aside : Bool) (mid new before behind : Option (List ℕ)) (why : Complaint) → IsRefusedTo aside mid new before behind why statuses.Usage → ⊥
+refused_no_usage false mid new before behind why refused = refused.0
+refused_no_usage true mid new before behind why refused = refused.0
 
-pub file_tells_no_usage : (record_type : RecordType) (task : FileTask) (input old mid new : Option (List ℕ)) (filed : Result Status Complaint) (status : Status) (complaint : Option Complaint)
-    → IsTypedCommandRun record_type task input old mid filed → IsToldRun filed mid new status complaint → status ≡ statuses.Usage → ⊥
-file_tells_no_usage record_type task input old mid new filed status complaint run told =
-    told_no_usage filed mid new status complaint (no_usage_of_file record_type task input old mid filed run) told
+told_no_usage : (aside : Bool) (filed : Result Status Complaint) (mid new before behind : Option (List ℕ)) (status : Status) (complaint : Option Complaint) → IsNoUsage filed
+    → IsToldRun aside filed mid new before behind status complaint → status ≡ statuses.Usage → ⊥
+told_no_usage aside (Ok ended) mid new before behind status complaint none told is = subst (λ (s : Status). IsNoUsage (Ok s)) (sym told.2 ∙ is) none
+told_no_usage aside (Err why) mid new before behind status complaint none told is =
+    refused_no_usage aside mid new before behind why (subst (IsRefusedTo aside mid new before behind why) is told.1)
+
+pub file_tells_no_usage : (record_type : RecordType) (task : FileTask) (aside : Bool) (input old mid new before behind : Option (List ℕ)) (filed : Result Status Complaint) (status : Status) (complaint : Option Complaint)
+    → IsTypedCommandRun record_type task input old mid filed → IsToldRun aside filed mid new before behind status complaint → status ≡ statuses.Usage → ⊥
+file_tells_no_usage record_type task aside input old mid new before behind filed status complaint run told =
+    told_no_usage aside filed mid new before behind status complaint (no_usage_of_file record_type task input old mid filed run) told

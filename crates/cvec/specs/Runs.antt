@@ -1,5 +1,5 @@
 -- The runs that the program makes: a task on records of one of its types.
-use Rattle.std.specs.Prelude.{◌≡◌, ℕ, List, Option, Some, None, IfSome, ◌++◌, codes, Result, Ok, Err}
+use Rattle.std.specs.Prelude.{◌≡◌, ℕ, Bool, true, false, List, Option, Some, None, IfSome, ◌++◌, codes, Result, Ok, Err}
 use Rattle.std.specs.Io.KnownBytes.{Appends, Keeps}
 use Rattle.std.specs.Int.{w8, w16, w32, w64}
 use Rattle.record_core.specs.Bytes.{Encoding, unsigned, signed, pair, flagged}
@@ -76,17 +76,22 @@ IsComplaintRun old new complaint statuses.Refused = Appends old new (complaint_l
 IsComplaintRun old new complaint statuses.OutputFailed = Unit {0}
 IsComplaintRun old new complaint statuses.Usage = ⊥
 
+-- the same to the output, or aside where the words ask for that; the other one gets nothing
+abbrev pub IsRefusedTo : Bool → Option (List ℕ) → Option (List ℕ) → Option (List ℕ) → Option (List ℕ) → Complaint → Status → Type 0
+IsRefusedTo false mid new before behind complaint status = IsComplaintRun mid new complaint status × (behind ≡ before)
+IsRefusedTo true mid new before behind complaint status = IsComplaintRun before behind complaint status × (new ≡ mid)
+
 -- A command over a file ended so when that was written, and it is told: its status, or its complaint and the line of that.
-abbrev pub IsToldRun : Result Status Complaint → Option (List ℕ) → Option (List ℕ) → Status → Option Complaint → Type 0
-IsToldRun (Ok ended) mid new status complaint = (new ≡ mid) × (status ≡ ended) × (complaint ≡ None)
-IsToldRun (Err why) mid new status complaint = (complaint ≡ Some why) × IsComplaintRun mid new why status
+abbrev pub IsToldRun : Bool → Result Status Complaint → Option (List ℕ) → Option (List ℕ) → Option (List ℕ) → Option (List ℕ) → Status → Option Complaint → Type 0
+IsToldRun aside (Ok ended) mid new before behind status complaint = (new ≡ mid) × (behind ≡ before) × (status ≡ ended) × (complaint ≡ None)
+IsToldRun aside (Err why) mid new before behind status complaint = (complaint ≡ Some why) × IsRefusedTo aside mid new before behind why status
 
 -- the command was run that is so, and it was told how it ended
-pub record IsFileRun (IsRun : Option (List ℕ) → Result Status Complaint → Type 0) (new : Option (List ℕ)) (status : Status) (complaint : Option Complaint) : Type 0 where
+pub record IsFileRun (IsRun : Option (List ℕ) → Result Status Complaint → Type 0) (aside : Bool) (new before behind : Option (List ℕ)) (status : Status) (complaint : Option Complaint) : Type 0 where
   pub mid : Option (List ℕ)
   pub filed : Result Status Complaint
   pub run : IsRun mid filed
-  pub told : IsToldRun filed mid new status complaint
+  pub told : IsToldRun aside filed mid new before behind status complaint
 
 -- the program gave no engine its work: memory was refused, or the words ask for nothing
 abbrev pub IsIdleRun : Option (List ℕ) → Option (List ℕ) → Status → Type 0
@@ -102,10 +107,13 @@ IsTellRun text old new statuses.Refused = ⊥
 IsTellRun text old new statuses.OutputFailed = Unit {0}
 IsTellRun text old new statuses.Usage = ⊥
 
--- the program did what it was asked for, or answered that it was asked for nothing
-abbrev pub IsAskedRun : Option Request → Option (List ℕ) → Option (List ℕ) → Option (List ℕ) → Status → Option Complaint → Type 0
-IsAskedRun None input old new status complaint = IsIdleRun old new status × (complaint ≡ None)
-IsAskedRun (Some (Input task record_type)) input old new status complaint = IfSome input (λ bytes. IsProgramRun task record_type bytes old new status) × (complaint ≡ None)
-IsAskedRun (Some (File words)) input old new status complaint = IsFileRun (IsTypedCommandRun words.record_type words.task input old) new status complaint
-IsAskedRun (Some (Stat words)) input old new status complaint = IsFileRun (IsStatRun words.form old) new status complaint
-IsAskedRun (Some (Tell text)) input old new status complaint = IsTellRun text.now old new status × (complaint ≡ None)
+-- The program did what it was asked for, or answered that it was asked for nothing. Aside stands what did before, and the line of a
+-- refusal where the words ask for that.
+abbrev pub IsAskedRun : Option Request → Option (List ℕ) → Option (List ℕ) → Option (List ℕ) → Option (List ℕ) → Option (List ℕ) → Status → Option Complaint → Type 0
+IsAskedRun None input old new before behind status complaint = IsIdleRun old new status × (complaint ≡ None) × (behind ≡ before)
+IsAskedRun (Some (Input task record_type)) input old new before behind status complaint =
+    IfSome input (λ bytes. IsProgramRun task record_type bytes old new status) × (complaint ≡ None) × (behind ≡ before)
+IsAskedRun (Some (File words)) input old new before behind status complaint =
+    IsFileRun (IsTypedCommandRun words.record_type words.task input old) words.refused_aside new before behind status complaint
+IsAskedRun (Some (Stat words)) input old new before behind status complaint = IsFileRun (IsStatRun words.form old) words.refused_aside new before behind status complaint
+IsAskedRun (Some (Tell text)) input old new before behind status complaint = IsTellRun text.now old new status × (complaint ≡ None) × (behind ≡ before)

@@ -1,27 +1,36 @@
 //! `cvec`: a durable vector in a file, from a shell; and segment files as hex.
 #![tactic(auto)]
 
+mod courses;
 mod floats;
 mod program;
+mod row;
+mod telling;
 
+use crate::courses::Host;
 use crate::floats::{floats_read, floats_written, with_bits, words_in_bits};
-use crate::program::{Outcome, System, read_request, run};
-use filing_core::{RefusalNote, standing_in};
+use crate::program::{System, read_request, run};
+use crate::telling::tell_refusal;
+use filing_core::RefusalNote;
 use float_core::FloatType;
-use sentences::{RefusedCall, Sentence, Standing};
+use stat_core::Form;
 use std::alloc::Global;
 use std::env;
 use std::fs::{File, OpenOptions};
 use std::io::{self, BufWriter, ErrorKind, IsTerminal, Read, Write};
+use std::num::NonZeroU32;
 use std::os::fd::{AsRawFd, RawFd};
 use std::process::ExitCode;
 use std::sync::Wait;
 use std::thread::Threads;
 use std::time::Clock;
-use streams::{Behind, Decoded, Meter, Noting, Paced, Turn, Turned};
+use streams::{
+    Behind, Decoded, InJson, Meter, Noting, Paced, Parted, RecordText, Told, Turn, Turned,
+};
 use text_core::{Refusal, Status, refuse};
 use words_core::{
-    FileTask, HELP, Look, Request, Usage, WordsFault, usage_of, write_usage, write_wrong,
+    Course, FileTask, FileWords, HELP, Look, RecordType, Request, Usage, WordsFault, usage_of,
+    write_usage, write_wrong,
 };
 
 const OUTPUT_BUFFER_LEN: usize = 65_536;
@@ -100,12 +109,25 @@ fn run_words<E: Threads + Wait + Clock + Sync + Copy + Send + 'static>(
     let Ok(buffer) = BufWriter::with_capacity(rt.alloc(), OUTPUT_BUFFER_LEN, behind) else {
         return refuse_memory(rt);
     };
-    let mut output = Noting::new(Decoded::new(buffer, manner.floats));
+    let in_json = InJson::new(rt.alloc(), buffer, manner.told);
+    let mut output = Noting::new(Decoded::new(in_json, manner.floats));
+    let mut aside = InJson::new(rt.alloc(), rt.stderr(), manner.told);
     let paced = Paced::new(threads, rt, manner.pause);
-    let Ok(mut input) = Turned::new(rt.alloc(), paced, manner.turn) else {
+    let Ok(turned) = Turned::new(rt.alloc(), paced, manner.turn) else {
         return refuse_memory(rt);
     };
-    answer(rt, threads, words, &meter, &mut input, &mut output)
+    let mut input = Parted::new(rt.alloc(), turned, manner.block);
+    let note = RefusalNote::new();
+    let host = Host {
+        rt,
+        threads,
+        meter: &meter,
+        note: &note,
+    };
+    let status = answer(&host, words, &mut input, &mut output, &mut aside);
+    meter.end();
+    tell_ended(rt, words, status, output.error());
+    status
 }
 
 /// What of the words has to be known before they are run.
@@ -119,6 +141,10 @@ struct Manner {
     turn: Turn,
     /// The floats that the output has.
     floats: Option<FloatType>,
+    /// What the lines of the output tell, where they become JSON.
+    told: Option<Told>,
+    /// The lines of a growth, where the input is taken in parts.
+    block: Option<NonZeroU32>,
 }
 
 /// The manner of words whose input and output are taken as they come.
@@ -130,11 +156,49 @@ const PLAIN: Manner = Manner {
         floats: None,
     },
     floats: None,
+    told: None,
+    block: None,
 };
 
-/// Whether the input or the output of the words isn't taken as it comes: lines that are waited for or lenient, and floats.
+/// Whether the input or the output of the words isn't taken as it comes: lines that are waited for or lenient, floats, and JSON.
 fn may_be_turned(words: &[String]) -> bool {
-    words.iter().any(|word| matches!(word.as_str(), "load" | "append" | "set" | "f32" | "f64"))
+    words.iter().any(|word| matches!(
+        word.as_str(),
+        "load" | "append" | "set" | "f32" | "f64" | "--json"
+    ))
+}
+
+/// What the text of a record of a type is in JSON.
+fn record_text(record_type: RecordType) -> RecordText {
+    match record_type {
+        RecordType::F32 | RecordType::F64 => RecordText::Float,
+        RecordType::Pair | RecordType::Flagged => RecordText::Keyed,
+        RecordType::Bytes16 | RecordType::Bytes24 | RecordType::Bytes32 | RecordType::Bytes64 => {
+            RecordText::Hex
+        }
+        _ => RecordText::Number,
+    }
+}
+
+/// What the lines tell that a command over a file answers with.
+fn told_by(words: &FileWords<'_>) -> Told {
+    match words.task {
+        FileTask::Check => Told::Measures,
+        FileTask::Count(_) => Told::Count,
+        FileTask::Find(_) => Told::Position,
+        _ => Told::Record(record_text(words.record_type)),
+    }
+}
+
+/// What the lines of an answer tell, where they become JSON. `stat` writes an object itself.
+fn told_in_json(request: Request<'_>) -> Option<Told> {
+    match request {
+        Request::File(words) if matches!(words.form, Form::Json) => Some(told_by(&words)),
+        Request::Stat(words) if matches!(words.form, Form::Json) => {
+            Some(Told::Record(RecordText::Number))
+        }
+        _ => None,
+    }
 }
 
 /// The manner of the words. `None`: memory was refused, so it isn't known whether floats are to be turned.
@@ -154,17 +218,20 @@ fn manner_of(alloc: Global, words: &[String]) -> Option<Manner> {
             floats: floats_read(request),
         },
         floats: floats_written(request),
+        told: told_in_json(request),
         ..PLAIN
     };
     let Request::File(words) = request else {
         return Some(manner);
     };
-    let pause = match words.task {
-        FileTask::Append { every, .. } => Some(every),
-        _ => None,
+    let (pause, block) = match (words.task, words.course) {
+        (FileTask::Append { every, block }, Course::Rotating(_)) => (Some(every), Some(block)),
+        (FileTask::Append { every, .. }, _) => (Some(every), None),
+        _ => (None, None),
     };
     Some(Manner {
         pause,
+        block,
         progress: words.progress && !words.quiet,
         turn: Turn {
             lenient: words.lenient,
@@ -174,60 +241,38 @@ fn manner_of(alloc: Global, words: &[String]) -> Option<Manner> {
     })
 }
 
-/// Answers the words on this output.
-fn answer<I: Read, W: Write, E: Threads + Wait + Clock + Sync + Copy + Send + 'static>(
-    rt: &HostRuntime,
-    threads: &E,
+/// Answers the words on this output, and tells standard error why they were refused.
+fn answer<I: Read, W: Write, A: Write, E: Threads + Wait + Clock + Sync + Copy + Send + 'static>(
+    host: &Host<'_, E>,
     words: &[String],
-    meter: &Meter<'_>,
-    input: &mut I,
-    output: &mut Noting<W>,
+    input: &mut Parted<I>,
+    output: &mut W,
+    aside: &mut A,
 ) -> Status {
-    let note = RefusalNote::new();
-    let system = System {
-        alloc: rt.alloc(),
-        files: rt,
-        progress: meter,
-        note: &note,
+    let alloc = host.rt.alloc();
+    let mut bits = Vec::new(alloc);
+    let asked = match asked_in_bits(alloc, words, &mut bits) {
+        Ok(Request::File(words)) => return host.run_course(words, input, output, aside),
+        asked => asked,
     };
-    let mut bits = Vec::new(rt.alloc());
-    let asked = asked_in_bits(rt.alloc(), words, &mut bits);
-    let ended = run(&system, threads, asked, input, output);
-    meter.end();
-    tell_ended(rt, words, &ended, output.error());
-    tell_refusal(rt, &ended, note.refused());
+    let system = System {
+        alloc,
+        files: host.rt,
+        progress: host.meter,
+        note: host.note,
+    };
+    let ended = run(&system, host.threads, asked, input, output, aside);
+    host.meter.end();
+    tell_refusal(host.rt, &ended, host.note.refused());
     ended.status
 }
 
 /// Tells what standard error has to tell of an output that failed, and of the words.
-fn tell_ended(rt: &HostRuntime, words: &[String], ended: &Outcome<'_>, error: Option<io::Error>) {
-    match ended.status {
+fn tell_ended(rt: &HostRuntime, words: &[String], status: Status, error: Option<io::Error>) {
+    match status {
         Status::OutputFailed => tell_failed_write(rt, error),
         Status::Usage => tell_usage(rt, words),
         Status::Done | Status::Refused => {}
-    }
-}
-
-/// Tells why a command over a file was refused, if it was.
-fn tell_refusal(rt: &HostRuntime, ended: &Outcome<'_>, refused: Option<RefusedCall>) {
-    if let (Some(request), Some(complaint)) = (ended.asked, ended.complaint) {
-        let sentence = Sentence {
-            request,
-            complaint,
-            shown: ended.shown,
-            stands: standing_of(rt, &request),
-            refused,
-        };
-        let _ = eprintln!(rt; "cvec: {sentence}");
-    }
-}
-
-/// What stands in the file that the words name, if they name one.
-fn standing_of(rt: &HostRuntime, request: &Request<'_>) -> Standing {
-    match request {
-        Request::File(words) => standing_in(rt, words.file),
-        Request::Stat(words) => standing_in(rt, words.file),
-        Request::Input(..) | Request::Tell(_) => Standing::Bytes,
     }
 }
 

@@ -7,7 +7,7 @@ ghost use Rattle.text_core.specs.Text.{ended_line};
 ghost use Rattle.sentences.specs.Beside.{beside_name};
 ghost use Rattle.words_core.specs.declared.request.Request.TheVariants as requests;
 ghost use Rattle.filing_core.specs.Commands.{IsStatRun};
-ghost use Rattle.cvec.specs.Runs.{IsTaskRun, IsProgramRun, IsFileRun, IsAskedRun, IsTypedCommandRun, IsIdleRun, IsComplaintRun, IsTellRun, IsToldRun};
+ghost use Rattle.cvec.specs.Runs.{IsTaskRun, IsProgramRun, IsFileRun, IsAskedRun, IsRefusedTo, IsTypedCommandRun, IsIdleRun, IsComplaintRun, IsTellRun, IsToldRun};
 
 use files_core::{Progress, refuse_file};
 use filing_core::{Filing, RefusalNote, tell_stat};
@@ -228,15 +228,33 @@ pub fn read_request<'a, S: AsStr>(alloc: Global, words: &'a [S]) -> Result<Reque
     read_words(alloc, words)
 }
 
+/// Writes the line of a complaint, or has it written aside.
+pub fn refuse_to<W: Write, A: Write>(
+    refused_aside: bool,
+    complaint: &Complaint,
+    writer: &mut W,
+    aside: &mut A,
+) -> Status
+    ensures { IsRefusedTo refused_aside (W.contents writer.old) (W.contents writer.new) (A.contents aside.old) (A.contents aside.new) complaint.now result }
+{
+    if refused_aside {
+        refuse_for(aside, complaint)
+    } else {
+        refuse_for(writer, complaint)
+    }
+}
+
 /// The outcome of a command over a file that was asked for, behind the line of its refusal.
-fn outcome_of<'a, W: Write>(
+fn outcome_of<'a, W: Write, A: Write>(
     request: Request<'a>,
     filed: Result<Status, Complaint>,
     shown: Option<Excerpt>,
+    refused_aside: bool,
     writer: &mut W,
+    aside: &mut A,
 ) -> Outcome<'a>
     ensures asked { result.asked ≡ Some request.entry }
-    ensures told { IsToldRun filed (W.contents writer.old) (W.contents writer.new) result.status result.complaint }
+    ensures told { IsToldRun refused_aside filed (W.contents writer.old) (W.contents writer.new) (A.contents aside.old) (A.contents aside.new) result.status result.complaint }
 {
     match filed {
         Ok(status) => Outcome {
@@ -246,7 +264,7 @@ fn outcome_of<'a, W: Write>(
             shown: None,
         },
         Err(complaint) => Outcome {
-            status: refuse_for(writer, &complaint),
+            status: refuse_to(refused_aside, &complaint, writer, aside),
             asked: Some(request),
             complaint: Some(complaint),
             shown,
@@ -267,7 +285,9 @@ fn answer_fault<'a, W: Write>(fault: WordsFault, writer: &mut W) -> Outcome<'a>
         | WordsFault::Block
         | WordsFault::Every
         | WordsFault::Poll
-        | WordsFault::Wait => Status::Usage,
+        | WordsFault::Wait
+        | WordsFault::Last
+        | WordsFault::Rotate => Status::Usage,
     };
     Outcome {
         status,
@@ -289,11 +309,12 @@ fn outcome_of_input<'a>(request: Request<'a>, status: Status) -> Outcome<'a>
     }
 }
 
-/// Answers words that ask for a command over a file.
+/// Answers words that ask for a command over a file: by one run of its task.
 fn answer_file<
     'a,
     I: Read,
     W: Write,
+    A: Write,
     E: Threads + Wait + Sync,
     F: Files<File = File> + Clock + AllocGlobal,
     P: Progress + Sync,
@@ -303,28 +324,48 @@ fn answer_file<
     words: FileWords<'a>,
     reader: &mut I,
     writer: &mut W,
+    aside: &mut A,
 ) -> Outcome<'a>
     ensures asked { result.asked ≡ Some (requests.File words.entry) }
-    ensures ends { IsFileRun (IsTypedCommandRun words.entry.record_type words.entry.task (I.remaining reader.old) (W.contents writer.old)) (W.contents writer.new) result.status result.complaint }
+    ensures ends { IsFileRun (IsTypedCommandRun words.entry.record_type words.entry.task (I.remaining reader.old) (W.contents writer.old)) words.entry.refused_aside
+        (W.contents writer.new) (A.contents aside.old) (A.contents aside.new) result.status result.complaint }
     ensures no_usage { result.status ≢ Status.Usage }
 {
     let mut shown = None;
     let filed = run_file(system, rt, &words, reader, &mut shown, writer);
-    outcome_of(Request::File(words), filed, shown, writer)
+    let refused_aside = words.refused_aside;
+    outcome_of(
+        Request::File(words),
+        filed,
+        shown,
+        refused_aside,
+        writer,
+        aside,
+    )
 }
 
 /// Answers words that ask what a file has.
-fn answer_stat<'a, W: Write, F: Files<File = File> + Clock + AllocGlobal, P: Progress>(
+fn answer_stat<'a, W: Write, A: Write, F: Files<File = File> + Clock + AllocGlobal, P: Progress>(
     system: &System<'_, F, P>,
     words: StatWords<'a>,
     writer: &mut W,
+    aside: &mut A,
 ) -> Outcome<'a>
     ensures asked { result.asked ≡ Some (requests.Stat words.entry) }
-    ensures ends { IsFileRun (IsStatRun words.entry.form (W.contents writer.old)) (W.contents writer.new) result.status result.complaint }
+    ensures ends { IsFileRun (IsStatRun words.entry.form (W.contents writer.old)) words.entry.refused_aside
+        (W.contents writer.new) (A.contents aside.old) (A.contents aside.new) result.status result.complaint }
     ensures no_usage { result.status ≢ Status.Usage }
 {
     let filed = run_stat(system, &words, writer);
-    outcome_of(Request::Stat(words), filed, None, writer)
+    let refused_aside = words.refused_aside;
+    outcome_of(
+        Request::Stat(words),
+        filed,
+        None,
+        refused_aside,
+        writer,
+        aside,
+    )
 }
 
 /// Answers words that ask for this.
@@ -332,6 +373,7 @@ fn answer<
     'a,
     I: Read,
     W: Write,
+    A: Write,
     E: Threads + Wait + Sync,
     F: Files<File = File> + Clock + AllocGlobal,
     P: Progress + Sync,
@@ -341,9 +383,10 @@ fn answer<
     request: Request<'a>,
     reader: &mut I,
     writer: &mut W,
+    aside: &mut A,
 ) -> Outcome<'a>
     ensures asked { result.asked ≡ Some request.entry }
-    ensures ends { IsAskedRun (Some request.entry) (I.remaining reader.old) (W.contents writer.old) (W.contents writer.new) result.status result.complaint }
+    ensures ends { IsAskedRun (Some request.entry) (I.remaining reader.old) (W.contents writer.old) (W.contents writer.new) (A.contents aside.old) (A.contents aside.new) result.status result.complaint }
     ensures no_usage { result.status ≢ Status.Usage }
 {
     match request {
@@ -351,17 +394,19 @@ fn answer<
             let status = run_task(system.alloc, rt, task, record_type, reader, writer);
             outcome_of_input(request, status)
         }
-        Request::File(words) => answer_file(system, rt, words, reader, writer),
-        Request::Stat(words) => answer_stat(system, words, writer),
+        Request::File(words) => answer_file(system, rt, words, reader, writer, aside),
+        Request::Stat(words) => answer_stat(system, words, writer, aside),
         Request::Tell(text) => outcome_of_input(request, tell(text, writer)),
     }
 }
 
-/// Does what was asked for. Where it is nothing, the answer is `Usage`, or that memory was refused.
+/// Does what was asked for: of a command over a file its task, once. The line of its refusal is written aside, where the words ask
+/// for that. Where nothing was asked for, the answer is `Usage`, or that memory was refused.
 pub fn run<
     'a,
     I: Read,
     W: Write,
+    A: Write,
     E: Threads + Wait + Sync,
     F: Files<File = File> + Clock + AllocGlobal,
     P: Progress + Sync,
@@ -371,13 +416,14 @@ pub fn run<
     asked: Result<Request<'a>, WordsFault>,
     reader: &mut I,
     writer: &mut W,
+    aside: &mut A,
 ) -> Outcome<'a>
     ensures asked { MatchResult asked.entry (λ request. result.asked ≡ Some request) (λ _. result.asked ≡ None) }
-    ensures ends { IsAskedRun result.asked (I.remaining reader.old) (W.contents writer.old) (W.contents writer.new) result.status result.complaint }
+    ensures ends { IsAskedRun result.asked (I.remaining reader.old) (W.contents writer.old) (W.contents writer.new) (A.contents aside.old) (A.contents aside.new) result.status result.complaint }
     ensures usage { result.status ≡ Status.Usage → Keeps (W.contents writer.old) (W.contents writer.new) }
 {
     match asked {
-        Ok(request) => answer(system, rt, request, reader, writer),
+        Ok(request) => answer(system, rt, request, reader, writer, aside),
         Err(fault) => answer_fault(fault, writer),
     }
 }

@@ -25,6 +25,11 @@ pub struct Meter<'a> {
     pass: AtomicU64,
     /// How much of the pass was done when that was last told.
     done: AtomicU64,
+    /// How many growths were last told to be durable, of all files of a row.
+    told: AtomicU64,
+    /// The growths and the lines of the input that the files before this one of a row got.
+    growths_before: AtomicU64,
+    lines_before: AtomicU64,
     /// Nothing is told any more.
     over: AtomicBool,
 }
@@ -41,6 +46,9 @@ impl<'a> Meter<'a> {
             due: AtomicU64::new(if in_lines { 0 } else { PAUSE }),
             pass: AtomicU64::new(0),
             done: AtomicU64::new(0),
+            told: AtomicU64::new(u64::MAX),
+            growths_before: AtomicU64::new(0),
+            lines_before: AtomicU64::new(0),
             over: AtomicBool::new(false),
         }
     }
@@ -62,19 +70,30 @@ impl<'a> Meter<'a> {
         Ok(since.as_secs().saturating_mul(1000).saturating_add(millis))
     }
 
-    /// Writes a line that stays, where one is due.
+    /// What is told from now on stands behind so many growths and lines of the input, which the files before this one of a row got.
+    pub fn goes_on_behind(&self, growths: u64, lines: u64) {
+        self.growths_before.store(growths, Ordering::SeqCst);
+        self.lines_before.store(lines, Ordering::SeqCst);
+    }
+
+    /// Writes a line that stays, where one is due and more is durable than the last one told.
     fn tell_appended(&self, begun: Instant, appended: Appended) -> io::Result<()> {
         let passed = self.passed_since(begun)?;
         if passed < self.due.load(Ordering::SeqCst) {
             return Ok(());
         }
-        self.due
-            .store(passed.saturating_add(LINE_PAUSE), Ordering::SeqCst);
         let Appended {
             growths,
             lines,
             size,
         } = appended;
+        let growths = growths.saturating_add(self.growths_before.load(Ordering::SeqCst));
+        let lines = lines.saturating_add(self.lines_before.load(Ordering::SeqCst));
+        if self.told.swap(growths, Ordering::SeqCst) == growths {
+            return Ok(());
+        }
+        self.due
+            .store(passed.saturating_add(LINE_PAUSE), Ordering::SeqCst);
         eprintln!(self.rt;
             "cvec: {growths} growths of the first {lines} lines are durable, size {size}"
         )

@@ -17,6 +17,9 @@ const TYPES: [&str; 14] = record_types!(words_of_types []);
 /// The words for the versions of a file.
 const FORMATS: [&str; 2] = ["1", "2"];
 
+/// The word for where the line of a refusal goes, where that isn't standard output.
+const ASIDE: [&str; 1] = ["stderr"];
+
 /// The seconds that are waited where `--wait` has no number: for good.
 const FOR_GOOD: &str = "18446744073709551615";
 
@@ -49,6 +52,8 @@ enum Form {
     ValuedWith(&'static str),
     /// A value that is a version of a file.
     Format,
+    /// A value that says where the line of a refusal goes.
+    Aside,
     /// A value that is a number of seconds. Without a number they are for good.
     Seconds,
     /// Records, the first of which may be negative. They have to be there unless this other word is, and never both are.
@@ -70,6 +75,11 @@ const QUIET: Word = Word("quiet", Form::Flag);
 /// For how many seconds another command is waited for.
 const WAIT: Word = Word("wait", Form::Seconds);
 
+/// Where the line of a refusal goes.
+const REFUSALS: Word = Word("refusals", Form::Aside);
+
+const JSON: Word = Word("json", Form::Flag);
+
 const FORMAT: Word = Word("format", Form::Format);
 
 const BLOCK: Word = Word("block", Form::Valued);
@@ -79,16 +89,16 @@ const RECORD: Word = Word("record", Form::Needed);
 const LENIENT: Word = Word("lenient", Form::Flag);
 
 /// The words that most commands have over a file.
-static OVER_FILE: [Word; 4] = [TYPE, FILE, QUIET, WAIT];
+static OVER_FILE: [Word; 5] = [TYPE, FILE, QUIET, WAIT, REFUSALS];
 
 /// Those of a command over the input.
 static OVER_INPUT: [Word; 1] = [TYPE];
 
 /// Those of `follow`, which takes no lock, so it never waits for one.
-static OVER_FOLLOWED: [Word; 3] = [TYPE, FILE, QUIET];
+static OVER_FOLLOWED: [Word; 4] = [TYPE, FILE, QUIET, REFUSALS];
 
 /// Those of `stat`, for which a file has no type.
-static OVER_ANY_FILE: [Word; 3] = [FILE, QUIET, WAIT];
+static OVER_ANY_FILE: [Word; 4] = [FILE, QUIET, WAIT, REFUSALS];
 
 static NO_WORDS: [Word; 0] = [];
 
@@ -96,9 +106,10 @@ static OF_CREATE: [Word; 2] = [FORMAT, Word("over", Form::Flag)];
 
 static OF_LOAD: [Word; 2] = [Word("seats", Form::Valued), LENIENT];
 
-static OF_APPEND: [Word; 4] = [
+static OF_APPEND: [Word; 5] = [
     BLOCK,
     Word("every", Form::Valued),
+    Word("rotate", Form::Valued),
     Word("progress", Form::Flag),
     LENIENT,
 ];
@@ -107,17 +118,25 @@ static OF_SERVE: [Word; 1] = [Word("seats", Form::Needed)];
 
 static OF_UPGRADE: [Word; 1] = [NEW];
 
-static OF_COPY: [Word; 3] = [NEW, FORMAT, BLOCK];
+static OF_COPY: [Word; 4] = [NEW, FORMAT, BLOCK, Word("sound", Form::Flag)];
 
-static OF_LIST: [Word; 2] = [Word("from", Form::Valued), Word("count", Form::Valued)];
+static OF_CHECK: [Word; 1] = [JSON];
 
-static OF_SEARCH: [Word; 1] = [RECORD];
+static OF_LIST: [Word; 4] = [
+    Word("from", Form::ValuedWithout("last")),
+    Word("count", Form::ValuedWithout("last")),
+    Word("last", Form::Valued),
+    JSON,
+];
 
-static OF_STAT: [Word; 1] = [Word("json", Form::Flag)];
+static OF_SEARCH: [Word; 2] = [RECORD, JSON];
 
-static OF_FOLLOW: [Word; 5] = [
+static OF_STAT: [Word; 1] = [JSON];
+
+static OF_FOLLOW: [Word; 6] = [
     Word("from", Form::ValuedWithout("events")),
-    Word("once", Form::Flag),
+    Word("once", Form::FlagWithout("reopen")),
+    Word("reopen", Form::FlagWithout("events")),
     Word("poll", Form::Valued),
     Word("events", Form::Flag),
     Word("after", Form::ValuedWith("events")),
@@ -154,6 +173,7 @@ fn own_words(name: &str) -> &'static [Word] {
         "serve" => &OF_SERVE,
         "upgrade" => &OF_UPGRADE,
         "copy" => &OF_COPY,
+        "check" => &OF_CHECK,
         "list" => &OF_LIST,
         "follow" => &OF_FOLLOW,
         "count" | "find" => &OF_SEARCH,
@@ -234,6 +254,7 @@ fn arg_of<'a>(alloc: Global, word: Word) -> Result<Arg<'a>, AllocError> {
         Form::ValuedWithout(other) => valued(alloc, name).conflicts_with(other),
         Form::ValuedWith(other) => valued(alloc, name).requires_arg(other),
         Form::Format => Ok(valued(alloc, name).value_parser(FORMATS.as_slice())),
+        Form::Aside => Ok(valued(alloc, name).value_parser(ASIDE.as_slice())),
         Form::Seconds => Ok(seconds(alloc, name)),
         Form::RecordsUnless(other) => records_unless(alloc, name, other),
     }

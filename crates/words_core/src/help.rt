@@ -27,6 +27,7 @@ copy TYPE FILE NEW [--format=1|2] [--block=N]  copies a vector to a new file, wi
 
 'cvec help COMMAND' tells of each, 'cvec version' of the program. --quiet: no progress on the terminal.
 --wait[=SECONDS]: where another command has FILE, its end is waited for, so long or for good.
+--refusals=stderr: 'refused: NAME' goes to standard error, so that standard output has records and answers alone.
 TYPE is u8, u16, u32, u64, i32, i64, f32, f64 (as 0.5 or 1e-9), pair (a u64 and an i64, as 7:-3),
 flagged (a u64 and 0 or 1, as 5:1), or bytes16, bytes24, bytes32, bytes64 (so many bytes, as hex digits in lower case).
 A growth has records with a space between each two, and a group line growths with ' | ' between each two.
@@ -156,7 +157,7 @@ full, too long, broken (the device may be full), memory (some growths may stand)
 ";
 
 const APPEND: &[u8] =
-    b"cvec append TYPE FILE [--block=N] [--every=MS] [--lenient] [--progress] [--quiet] < LINES
+    b"cvec append TYPE FILE [--block=N] [--every=MS] [--rotate=RECORDS] [--lenient] [--progress] [--quiet] < LINES
 
 Appends growths of an input of any length, and puts them on the device some lines at a time. The records of N lines, else of
 one, are a growth; the last one may have fewer lines. A growth that has its lines waits for more MS milliseconds (1 to 60000,
@@ -164,13 +165,19 @@ else 200), and no longer than until there are 4 MiB. Where a line is refused, th
 and standard error tells of how many lines they are. --lenient takes lines as 'load' does with it. With --progress a line of
 standard error tells what is on the device, at most each second, also where that is no terminal.
 
+With --rotate a file that has RECORDS records or more is full, and the next growth goes to the next file, which is made: behind
+t.cv that is t-000002.cv, and so on. Growths stay whole. It begins with the last file that is there. A line is written for each.
+
   $ seq 1 1000000 | cvec append u64 t.cv --block=1000
   appended 1000 growths, size 1000000
+  $ seq 1 3 | cvec append u64 t.cv --rotate=1000001
+  t.cv: appended 1 growths, size 1000001
+  t-000002.cv: appended 2 growths, size 2
 
 Refused: as load; input too long is of the lines of one growth.
 ";
 
-const CHECK: &[u8] = b"cvec check TYPE FILE [--quiet]
+const CHECK: &[u8] = b"cvec check TYPE FILE [--json] [--quiet]
 
 Tells the version of a sound file, the bytes of a record, how many records its vector has, how many frames it has, and how
 many changes are live, which `fold` puts into their home bytes.
@@ -182,9 +189,11 @@ Refused: the file's first fault (unborn, not a segment, version V, width W, dama
 (beside a writer), memory, and the disk's faults.
 ";
 
-const LIST: &[u8] = b"cvec list TYPE FILE [--from=I] [--count=N] [--quiet]
+const LIST: &[u8] = b"cvec list TYPE FILE [--from=I] [--count=N] [--json] [--quiet]
+cvec list TYPE FILE --last=N [--json] [--quiet]
 
-Writes the records one a line: all, or those from position I on, N at most.
+Writes the records one a line: all, or those from position I on, N at most; or the last N. With --json each line is JSON: a
+number, a pair of numbers, or a text.
 
   $ cvec list u64 t.cv --from=1 --count=1
   6
@@ -192,12 +201,13 @@ Writes the records one a line: all, or those from position I on, N at most.
 Refused: word, file, the file's first fault, bad record I (beside a writer), memory, and the disk's faults.
 ";
 
-const FOLLOW: &[u8] = b"cvec follow TYPE FILE [--from=I] [--once] [--poll=MS] [--quiet]
+const FOLLOW: &[u8] = b"cvec follow TYPE FILE [--from=I] [--once] [--reopen] [--poll=MS] [--quiet]
 cvec follow TYPE FILE --events [--after=PLACE] [--once] [--poll=MS] [--quiet]
 
 Writes the records from position I on, else from 0, one a line, and then those that come: each once, when it is on the
 device. It takes no lock, so it is used beside a writer. It looks each MS milliseconds (1 to 60000, else 100), or with --once
-one time, and then it ends.
+one time, and then it ends. With --reopen it goes on from position 0 with the file that has the name then, where FILE was
+replaced; where there is none, it waits for one.
 
 With --events its lines are what another process needs to keep an exact copy:
 
@@ -217,7 +227,7 @@ another file now, or to none), cut (the file has become shorter), word, file, th
 memory, and the disk's faults.
 ";
 
-const COUNT: &[u8] = b"cvec count TYPE FILE --record=R [--quiet]
+const COUNT: &[u8] = b"cvec count TYPE FILE --record=R [--json] [--quiet]
 
 Writes how many records equal R.
 
@@ -227,7 +237,7 @@ Writes how many records equal R.
 Refused: word, file, the file's first fault, bad record I (beside a writer), memory, and the disk's faults.
 ";
 
-const FIND: &[u8] = b"cvec find TYPE FILE --record=R [--quiet]
+const FIND: &[u8] = b"cvec find TYPE FILE --record=R [--json] [--quiet]
 
 Writes the least position whose record equals R, or none.
 
@@ -298,12 +308,15 @@ Refused: file, old and FILE's first fault, not version 1, new exists (remove NEW
 faults of a write.
 ";
 
-const COPY: &[u8] = b"cvec copy TYPE FILE NEW [--format=1|2] [--block=N] [--quiet]
+const COPY: &[u8] = b"cvec copy TYPE FILE NEW [--format=1|2] [--block=N] [--sound] [--quiet]
 
 Copies the vector of a file to a new file, without the frames that changes, folds and shrinks have left. NEW has the version
 of FILE, or the one that is given, and its growths have N records, or as many as a frame takes. FILE stays as it is; with
 'mv NEW FILE', while no command has one of them, NEW takes its place. One that was stopped is begun again, on another new
 file.
+
+With --sound the frames of a damaged FILE that stand whole before the damage are copied, and standard error tells what of it
+wasn't. Their bytes are put into the file NEW.front meanwhile.
 
   $ cvec copy u64 t.cv n.cv
   copied size 3

@@ -9,7 +9,7 @@ mod words;
 mod wrong;
 
 pub use help::HELP;
-pub use request::{FileTask, FileWords, Following, RecordType, Request, StatWords, Task};
+pub use request::{Course, FileTask, FileWords, Following, RecordType, Request, StatWords, Task};
 pub use usage::{Look, Usage, write_usage, write_wrong};
 pub use words::{WordsFault, read_words};
 pub use wrong::usage_of;

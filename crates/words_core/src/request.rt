@@ -197,10 +197,26 @@ impl<'a> FileTask<'a> {
     }
 }
 
+/// The runs of its task that a command makes.
+#[derive(Clone, Copy)]
+pub enum Course {
+    /// One.
+    Once,
+    /// Of `list`: it is asked how many records there are, and then so many of them are listed, the last ones.
+    Last(u64),
+    /// Of `append`: again over the next file of the row, where one has so many records.
+    Rotating(u64),
+    /// Of `follow`: again over the file that has the name then, where it was replaced.
+    Reopening,
+    /// Of `copy`: of a damaged file what its whole frames hold before the damage.
+    Sound,
+}
+
 /// A command over a file.
 #[derive(Clone, Copy)]
 pub struct FileWords<'a> {
     pub task: FileTask<'a>,
+    pub course: Course,
     pub record_type: RecordType,
     /// The file's name.
     pub file: &'a str,
@@ -210,6 +226,10 @@ pub struct FileWords<'a> {
     pub progress: bool,
     /// `load`, `append` and `set` take lines leniently.
     pub lenient: bool,
+    /// How `check`, `list`, `count` and `find` answer, and are refused.
+    pub form: Form,
+    /// The line of a refusal goes to standard error.
+    pub refused_aside: bool,
     /// For how many seconds another command is waited for that has the file.
     pub wait: u64,
 }
@@ -219,8 +239,10 @@ pub struct FileWords<'a> {
 pub struct StatWords<'a> {
     /// The file's name.
     pub file: &'a str,
-    /// How it is told.
+    /// How it is told, and refused.
     pub form: Form,
+    /// The line of a refusal goes to standard error.
+    pub refused_aside: bool,
     /// Nothing is told of how far the work is.
     pub quiet: bool,
     /// For how many seconds another command is waited for that has the file.

@@ -1,6 +1,6 @@
 //! The words that the program takes, read by `clap`.
 
-ghost use Rattle.std.specs.Prelude.{◌≡◌, ◌≢◌, ◌↔◌, ◌<◌, ◌≤◌, IfSome, IfNone, IfOk, Ok, decimal};
+ghost use Rattle.std.specs.Prelude.{◌≡◌, ◌≢◌, ◌↔◌, ◌<◌, ◌≤◌, IfSome, IfNone, IfOk, Ok, None, decimal};
 ghost use Rattle.clap.specs.Values.{kind_of};
 ghost use Rattle.clap.specs.declared.error.kind.ErrorKind.TheVariants as kinds;
 ghost use Rattle.words_core.specs.declared.words.WordsFault.TheVariants as faults;
@@ -9,7 +9,9 @@ ghost use Rattle.words_core.specs.Words.{task_word, type_word};
 use crate::commands::all_commands;
 use crate::help::{VERSION, help_text};
 use crate::record_types;
-use crate::request::{FileTask, FileWords, Following, RecordType, Request, StatWords, Task};
+use crate::request::{
+    Course, FileTask, FileWords, Following, RecordType, Request, StatWords, Task,
+};
 use clap::error::ErrorKind;
 use clap::{ArgMatches, Error};
 use segment_core::Format;
@@ -47,6 +49,10 @@ pub enum WordsFault {
     Poll,
     /// The time to wait is no number.
     Wait,
+    /// How many records are to be listed, the last ones, is no number.
+    Last,
+    /// How many records a file is to get before the next one is none from 1 on.
+    Rotate,
     /// A growth of memory was refused.
     Memory,
 }
@@ -170,6 +176,49 @@ fn wait_of(word: Option<&str>) -> Result<u64, WordsFault>
     }
 }
 
+/// How many records a word asks for, the last ones, if there is one.
+fn last_of(word: Option<&str>) -> Result<Option<u64>, WordsFault>
+    ensures none { IfNone word.entry (result ≡ Ok None) }
+    ensures number { IfSome word.entry (λ text. IfOk result (λ last. IfSome last (λ count. text.now ≡ decimal count))) }
+{
+    match word {
+        Some(word) => Ok(Some(u64::parse(word.as_bytes()).ok_or(WordsFault::Last)?)),
+        None => Ok(None),
+    }
+}
+
+/// With how many records a file is full by a word, if there is one: a number from 1 on.
+fn full_of(word: Option<&str>) -> Result<Option<u64>, WordsFault>
+    ensures none { IfNone word.entry (result ≡ Ok None) }
+    ensures number { IfSome word.entry (λ text. IfOk result (λ full. IfSome full (λ records. text.now ≡ decimal records))) }
+    ensures within { IfOk result (λ full. IfSome full (λ records. 0 < records)) }
+{
+    let Some(word) = word else {
+        return Ok(None);
+    };
+    match u64::parse(word.as_bytes()) {
+        Some(records) if 1 <= records => Ok(Some(records)),
+        _ => Err(WordsFault::Rotate),
+    }
+}
+
+/// The runs of its task that the words of a command ask for.
+fn course_of(name: &str, words: &ArgMatches<'_>) -> Result<Course, WordsFault> {
+    match name {
+        "list" => match last_of(words.get_str("last"))? {
+            Some(count) => Ok(Course::Last(count)),
+            None => Ok(Course::Once),
+        },
+        "append" => match full_of(words.get_str("rotate"))? {
+            Some(records) => Ok(Course::Rotating(records)),
+            None => Ok(Course::Once),
+        },
+        "follow" if words.get_flag("reopen") => Ok(Course::Reopening),
+        "copy" if words.get_flag("sound") => Ok(Course::Sound),
+        _ => Ok(Course::Once),
+    }
+}
+
 /// The version of a file that a word asks for, if there is one.
 fn format_of(word: Option<&str>) -> Option<Format> {
     match word {
@@ -286,15 +335,26 @@ fn file_task<'a>(name: &str, words: &ArgMatches<'a>) -> Result<FileTask<'a>, Wor
     }
 }
 
+/// How an answer is told, by the words of a command that has such a word.
+fn form_in(words: &ArgMatches<'_>) -> Form {
+    if words.get_flag("json") {
+        Form::Json
+    } else {
+        Form::Lines
+    }
+}
+
+/// Whether the words have the line of a refusal go to standard error.
+fn are_refused_aside(words: &ArgMatches<'_>) -> bool {
+    words.get_str("refusals").is_some()
+}
+
 /// What the words of `stat` ask for.
 fn stat_words<'a>(words: &ArgMatches<'a>) -> Result<StatWords<'a>, WordsFault> {
     Ok(StatWords {
         file: words.get_str("FILE").ok_or(WordsFault::Usage)?,
-        form: if words.get_flag("json") {
-            Form::Json
-        } else {
-            Form::Lines
-        },
+        form: form_in(words),
+        refused_aside: are_refused_aside(words),
         quiet: words.get_flag("quiet"),
         wait: wait_of(words.get_str("wait"))?,
     })
@@ -313,6 +373,11 @@ fn takes_lines(name: &str) -> bool {
     name == "load" || name == "append" || name == "set"
 }
 
+/// Whether the command answers as JSON too.
+fn may_be_json(name: &str) -> bool {
+    matches!(name, "check" | "list" | "count" | "find")
+}
+
 /// What the words of a command over a file ask for.
 fn file_words<'a>(
     name: &str,
@@ -321,11 +386,18 @@ fn file_words<'a>(
 ) -> Result<FileWords<'a>, WordsFault> {
     Ok(FileWords {
         task: file_task(name, words)?,
+        course: course_of(name, words)?,
         record_type,
         file: words.get_str("FILE").ok_or(WordsFault::Usage)?,
         quiet: words.get_flag("quiet"),
         progress: name == "append" && words.get_flag("progress"),
         lenient: takes_lines(name) && words.get_flag("lenient"),
+        form: if may_be_json(name) {
+            form_in(words)
+        } else {
+            Form::Lines
+        },
+        refused_aside: are_refused_aside(words),
         wait: wait_in(name, words)?,
     })
 }

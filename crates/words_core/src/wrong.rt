@@ -41,6 +41,8 @@ fn fault_of_words<S: AsStr>(alloc: Global, words: &[S]) -> Result<Option<String>
         Err(WordsFault::Poll) =>
             "error: the value of --poll is a number of milliseconds from 1 to 60000",
         Err(WordsFault::Wait) => "error: the value of --wait is a number of seconds",
+        Err(WordsFault::Last) => "error: the value of --last is a number of records",
+        Err(WordsFault::Rotate) => "error: the value of --rotate is a number of records from 1 on",
         _ => return Ok(None),
     };
     Ok(Some(String::from_str(alloc, sentence)?))
