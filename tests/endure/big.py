@@ -17,7 +17,7 @@ LARGE = (1 << 32) // 8 + 1000
 GROWN = '''
 import sys
 sys.modules["numpy"] = None
-from cvec_vector import Vector
+from cvec import Vector
 with Vector.create(sys.argv[1]) as vector:
     for number in range(int(sys.argv[2])):
         receipt = vector.grow([number])

@@ -15,7 +15,7 @@ from vector_steps import STEPS
 # Where tests/endure/programs puts what it builds.
 BUILT = os.environ.get('ENDURE_BUILT', '')
 PYTHON = {'PYTHONPATH': os.pathsep.join(os.path.join(TOP, it) for it in ('bindings/python', 'tests/bindings')),
-          'CVEC_VECTOR_LIBRARY': os.path.join(BUILT, 'libcvec_vector.so'), 'PYTHONDONTWRITEBYTECODE': '1'}
+          'CVEC_LIB': BUILT, 'PYTHONDONTWRITEBYTECODE': '1'}
 VERBS = ('create', 'load', 'append', 'append', 'set', 'resize', 'clear', 'fold', 'upgrade', 'copy')
 
 
