@@ -5,10 +5,15 @@
                           sync NAME                             a file, or a folder
                           answer LENGTH                         on standard output
                           tell NAME LENGTH                      on any other descriptor above standard error
+   CALLS_TRACE=FILE   the same with the bytes, from which any moment of a file is laid out. Bytes stand behind their line:
+                          write NAME PLACE LENGTH               once it is made
+                          sync NAME                             once it has succeeded
+                          answer LENGTH, tell NAME LENGTH       before it is made
    CALLS_PART=N       each read and write does at most N bytes. Each call on a file whose interruption docs/file/disk.md
                       names is interrupted once before it is made: pread, pwrite, fdatasync, and statx of a descriptor
    CALLS_FAIL=CALL:N  the call of this name fails, which is number N of those with it, from 1: EIO, ENOSPC of a write, or
                       EAGAIN of the start of a thread (thread)
+   CALLS_DROP=1       each fdatasync succeeds, and is neither made nor noted
    CALLS_LARGEST=N    a request for more than N bytes of memory is refused
    CALLS_WAIT=N       each pread is made N microseconds later
    CALLS_NAP=N        each nap takes N microseconds more, as on a busy machine
@@ -29,12 +34,13 @@
 #include <sys/file.h>
 #include <sys/stat.h>
 #include <sys/syscall.h>
+#include <sys/uio.h>
 #include <time.h>
 #include <unistd.h>
 
 enum call { READ, WRITE, PREAD, PWRITE, FDATASYNC, FSYNC, STATX, FLOCK, THREAD, CALLS };
 static const char *const names[CALLS] = {"read", "write", "pread", "pwrite", "fdatasync", "fsync", "statx", "flock", "thread"};
-static int seen[CALLS], made[CALLS], failing = -1, failing_at, log_to = -1, naps_to = -1;
+static int seen[CALLS], made[CALLS], drops, failing = -1, failing_at, log_to = -1, trace_to = -1, naps_to = -1;
 static size_t part = (size_t)-1, largest = (size_t)-1;
 static useconds_t before_read, in_nap;
 static const char *moved, *at_lock;
@@ -53,7 +59,9 @@ __attribute__((constructor)) static void begin(void) {
     const char *bytes = getenv("CALLS_LARGEST"), *wait = getenv("CALLS_WAIT");
     const char *nap = getenv("CALLS_NAP");
     log_to = open_log(getenv("CALLS_LOG"));
+    trace_to = open_log(getenv("CALLS_TRACE"));
     naps_to = open_log(getenv("CALLS_NAPS"));
+    drops = getenv("CALLS_DROP") != NULL;
     if (most != NULL) part = strtoul(most, NULL, 10);
     if (bytes != NULL) largest = strtoul(bytes, NULL, 10);
     moved = getenv("CALLS_MOVE");
@@ -83,6 +91,19 @@ static void note(int fd, const char *kind, const char *more) {
     if (log_to < 0) return;
     int length = snprintf(line, sizeof line, "%s %s%s%s\n", kind, name_of(fd, name, sizeof name), *more ? " " : "", more);
     if (write(log_to, line, (size_t)length) != length) abort();
+}
+
+/* Adds a call to the trace, as a whole. */
+static void trace(const char *line, const void *bytes, size_t n) {
+    const struct iovec parts[] = {{(void *)line, strlen(line)}, {(void *)bytes, n}};
+    if (trace_to >= 0 && writev(trace_to, parts, 2) != (ssize_t)(parts[0].iov_len + n)) abort();
+}
+
+static void trace_file(int fd, const char *kind, const char *more, const void *bytes, size_t n) {
+    char name[4096], line[4300];
+    if (trace_to < 0) return;
+    snprintf(line, sizeof line, "%s %s%s\n", kind, name_of(fd, name, sizeof name), more);
+    trace(line, bytes, n);
 }
 
 /* Whether the call on a file is interrupted instead of made. */
@@ -119,6 +140,10 @@ ssize_t write(int fd, const void *bytes, size_t n) {
     snprintf(more, sizeof more, "%zu", at_most(n));
     if (fd == STDOUT_FILENO && log_to >= 0) dprintf(log_to, "answer %s\n", more);
     if (fd > STDERR_FILENO) note(fd, "tell", more);
+    snprintf(more, sizeof more, " %zu", at_most(n));
+    if (fd > STDERR_FILENO) trace_file(fd, "tell", more, bytes, at_most(n));
+    snprintf(more, sizeof more, "answer %zu\n", at_most(n));
+    if (fd == STDOUT_FILENO) trace(more, bytes, at_most(n));
     return NEXT(write)(fd, bytes, at_most(n));
 }
 
@@ -132,6 +157,8 @@ ssize_t pwrite(int fd, const void *bytes, size_t n, off_t place) {
         char more[80];
         snprintf(more, sizeof more, "%lld %zd %02x %02x", (long long)place, done, all[0], all[done - 1]);
         note(fd, "write", more);
+        snprintf(more, sizeof more, " %lld %zd", (long long)place, done);
+        trace_file(fd, "write", more, bytes, (size_t)done);
     }
     return done;
 }
@@ -166,10 +193,14 @@ long syscall(long number, ...) {
 
 static int synced(int fd, int failed) {
     if (!failed) note(fd, "sync", "");
+    if (!failed) trace_file(fd, "sync", "", "", 0);
     return failed;
 }
 
-int fdatasync(int fd) { return is_interrupted(FDATASYNC) || is_refused(FDATASYNC) ? -1 : synced(fd, NEXT(fdatasync)(fd)); }
+int fdatasync(int fd) {
+    if (drops) return 0;
+    return is_interrupted(FDATASYNC) || is_refused(FDATASYNC) ? -1 : synced(fd, NEXT(fdatasync)(fd));
+}
 
 int fsync(int fd) { return is_refused(FSYNC) ? -1 : synced(fd, NEXT(fsync)(fd)); }
 

@@ -43,4 +43,5 @@ def main(path, library, *command):
     print(f"killed {killed} times")
 
 
-main(*sys.argv[1:])
+if __name__ == "__main__":
+    main(*sys.argv[1:])

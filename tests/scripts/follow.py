@@ -239,8 +239,6 @@ class Run:
 
     def put(self, seat, records):
         phase = self.phase
-        if seat >= len(phase["seats"]):
-            raise Refused("wrong phase")
         if phase["closed"]:
             raise Refused("closed")
         number = len(phase["growths"])
@@ -294,6 +292,8 @@ class Run:
                   "clear": "exclusive", "list": "exclusive"}
         state = wanted.get(verb)
         if self.state != state if state else self.state == "shut":
+            raise Refused("wrong phase")
+        if verb in ("put", "look", "view", "settled") and rest[0] != "f" and int(rest[0]) >= len(self.phase["seats"]):
             raise Refused("wrong phase")
         if verb == "changes":
             runs = [[int(n) for n in part.split()] for part in " ".join(rest).split("|")]
@@ -418,4 +418,5 @@ def main():
     sys.exit(differ > 0)
 
 
-main()
+if __name__ == "__main__":
+    main()

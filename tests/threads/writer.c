@@ -63,11 +63,11 @@ int main(int argc, char **argv) {
     if (count == 0 || count > MOST_THREADS) return 2;
     uint32_t status = cvec_vector_create(&vector, argv[1], CVEC_U64, &(cvec_options){.version = 1, .seats = (uint16_t)count});
     require(status == CVEC_EXISTS ? cvec_vector_open(&vector, argv[1], CVEC_U64, &(cvec_options){.seats = (uint16_t)count}) : status);
-    pthread_create(&flusher, NULL, flush, vector);
+    if (pthread_create(&flusher, NULL, flush, vector) != 0) return 1;
     for (uint64_t k = 0; k < count; k++) {
         writers[k] = (struct writer){NULL, round, k, turns};
         require(cvec_seat_take(vector, &writers[k].seat));
-        pthread_create(&threads[k], NULL, run, &writers[k]);
+        if (pthread_create(&threads[k], NULL, run, &writers[k]) != 0) return 1;
     }
     for (uint64_t k = 0; k < count; k++) {
         pthread_join(threads[k], NULL);
