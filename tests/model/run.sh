@@ -58,6 +58,7 @@ borrow_late|borrowed.pml|-DSEATS=1 -DBORROWERS=2
 borrow_three|borrowed.pml|-DSEATS=1 -DBORROWERS=3 -DNO_WORK -DREFUSALS=1 -DTIMED=0
 borrow_often|borrowed.pml|-DSEATS=1 -DBORROWERS=3 -DTIMED=0 -DSPURIOUS=0
 borrow_two|borrowed.pml|-DSEATS=2 -DBORROWERS=3 -DNO_WORK -DTIMED=0 -DLOOKS=1
+borrow_refused|borrowed.pml|-DSEATS=2 -DBORROWERS=2 -DNO_WORK -DREFUSALS=2
 borrow_own|borrowed.pml|-DSEATS=1 -DBORROWERS=1 -DOWNERS=1 -DTURNS=2 -DLIMIT=2
 borrow_whole|borrowed.pml|-DSEATS=1 -DLIMIT=1 -DBORROWERS=1 -DWHOLES=1 -DREFUSALS=1 -DFAILURES=1
 borrow_all|borrowed.pml|-DSEATS=1 -DLIMIT=1 -DBORROWERS=2 -DWHOLES=1 -DTIMED=0 -DSPURIOUS=0
@@ -99,6 +100,7 @@ push_whole|all
 borrow|all
 borrow_three|all
 borrow_two|all
+borrow_refused|all
 borrow_own|all
 borrow_whole|all
 borrow_all|all
@@ -261,6 +263,7 @@ bugs() {
 106|borrow_often|all|who wants a seat back has it before
 107|end|all|nobody is inside a vector that is given up
 108|borrow_loop|fair|cycle
+109|borrow_refused|all|who is first in line was called where one is idle
 TABLE
 }
 

@@ -920,19 +920,24 @@ inline find_own() {
     when(answer == DONE, seat_of())
 }
 
+inline idle_since() {
+    atomic { called = false };
+#if BUG != 109
+    idle_slot()
+#endif
+}
+
 inline find_borrowed() {
     atomic { answer = LATE };
     idle_slot();
     if
     :: atomic { answer == LATE && !claimed && seats < SEATS -> answer = DONE };
        seat_of();
-       atomic {
-           if
-           :: answer == DONE -> put_in_slot()
-           :: answer != DONE && slot_seats > 0 -> answer = LATE
-           :: else
-           fi
-       }
+       if
+       :: atomic { answer == DONE -> put_in_slot() }
+       :: atomic { answer != DONE && slot_seats > 0 -> answer = LATE }; idle_since()
+       :: atomic { answer != DONE && slot_seats == 0 }
+       fi
     :: else
     fi;
     atomic { when(answer == LATE && BUG != 85, lendable_slot()) }
@@ -949,7 +954,7 @@ inline lose_patience() {
 /* The first one looks besides each millisecond. */
 inline await_call() {
     was = (line?[eval(id)] && slot_seats > 0);
-    when(was, called = false; lose_patience());
+    when(was, lose_patience());
     was = (was && looks > 0);
     wait(turn, timed || was);
     when(was && late, late = false; looks = looks - (LOOKS < 255); when(BUG == 108, overdue = overdue | MINE));

@@ -52,8 +52,8 @@ the_protocol_of_threads_holds_in_each_schedule() (
     has_spin || exit $is_skipped
     "$models/run.sh" >"$out" || :
     cat "$out"
-    [ "$(grep -c '[1-9][0-9]* states, .* holds$' "$out")" -eq 30 ]
-    [ "$(tail -n 1 "$out")" = '30 passed, 0 failed' ]
+    [ "$(grep -c '[1-9][0-9]* states, .* holds$' "$out")" -eq 31 ]
+    [ "$(tail -n 1 "$out")" = '31 passed, 0 failed' ]
 )
 
 # The planted bug of this number is found in a check of this scenario, by this property.

@@ -244,6 +244,13 @@ static uint32_t find_own(cvec_vector *vector, cvec_seat **found) {
     return vector->seats < vector->most_seats ? seat_of(vector, found) : CVEC_LATE;
 }
 
+/* With the mutex, for who was refused a further seat: one that was given back meanwhile. In line it has called itself by that, and a
+ * return that saw this called nobody. */
+static struct slot *idle_since(cvec_vector *vector) {
+    __atomic_store_n(&vector->called, 0, __ATOMIC_RELAXED);
+    return idle_slot(vector);
+}
+
 /* With the mutex, for who is the first: a seat to borrow that is idle, a further one, or one whose call waits. Memory that is refused
  * for a further one is no refusal while there are others. */
 static uint32_t find_borrowed(cvec_vector *vector, cvec_seat **found) {
@@ -252,7 +259,7 @@ static uint32_t find_borrowed(cvec_vector *vector, cvec_seat **found) {
     if (slot == NULL && !vector->claimed && vector->seats < vector->most_seats) {
         const uint32_t answer = seat_of(vector, &seat);
         if (answer != CVEC_DONE && vector->slot_seats == 0) return answer;
-        if (answer == CVEC_DONE) slot = put_in_slot(vector, seat);
+        slot = answer == CVEC_DONE ? put_in_slot(vector, seat) : idle_since(vector);
     }
     if (slot == NULL) slot = lendable_slot(vector);
     if (slot != NULL) *found = slot->seat;
@@ -284,7 +291,6 @@ static struct timespec next_look(const struct in_line *mine) {
 static void await_call(cvec_vector *vector, struct in_line *mine, const struct timespec *until) {
     struct timespec look = *until;
     if (vector->line == mine && vector->slot_seats > 0) {
-        __atomic_store_n(&vector->called, 0, __ATOMIC_RELAXED); /* as it looked it may have called itself */
         lose_patience(vector, mine);
         look = next_look(mine);
     }
