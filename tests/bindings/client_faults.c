@@ -134,6 +134,28 @@ static void try_sends(cvec_client *client, int requests, int answers) {
     check(cvec_client_take(client, NULL) == CVEC_NOT_SO, "an answer too many");
 }
 
+/* Growths whose lengths fill the room from its midst on: where it is taken twice, each keeps its own. */
+static void try_turned(void) {
+    static const uint64_t records[64];
+    int requests[2], answers[2];
+    cvec_client *client = NULL;
+    cvec_receipt receipt;
+    size_t sent = 0, taken = 0;
+    if (pipe(requests) != 0 || pipe(answers) != 0 || cvec_client_of(&client, CVEC_U64, requests[1], answers[0]) != CVEC_DONE) exit(2);
+    while (sent < 22) {
+        check(cvec_client_send(client, CVEC_U64, records, ++sent) == CVEC_DONE, "no send");
+        if (sent != 16) continue; /* the room is full */
+        for (; taken < 5; taken++) answer(answers[1], taken, 0), check(cvec_client_take(client, NULL) == CVEC_DONE, "no answer");
+    }
+    for (; taken < sent; taken++) {
+        answer(answers[1], taken, 0);
+        check(cvec_client_take(client, &receipt) == CVEC_DONE && receipt.len == taken + 1, "the answer of a growth has the length of another");
+    }
+    cvec_client_close(&client);
+    close(requests[0]);
+    close(answers[1]);
+}
+
 static void try_client(void) {
     const int before = open_descriptors();
     int requests[2], answers[2];
@@ -181,6 +203,7 @@ int main(void) {
     try_start();
     try_system();
     try_client();
+    try_turned();
     try_nothing();
     return wrong != 0;
 }

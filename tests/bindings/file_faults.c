@@ -136,7 +136,9 @@ static int run(const char *path) {
         done = 3;
         if (cvec_file_append_u64(file, numbers + 3, 1) == CVEC_DONE) done = 4;
     }
+    cvec_stat stat;
     if (done < 4 && cvec_file_append_u64(file, numbers, 1) != CVEC_BROKEN) puts("a broken file takes records");
+    if (cvec_file_stat(file, &stat) != CVEC_DONE || stat.size != (uint64_t)done) puts("a file tells of records that it was refused");
     cvec_file_close(&file);
     return done;
 }
@@ -240,6 +242,12 @@ static int tells_of_a_folder_that_is_shut(const char *path) {
     return status == CVEC_DISK_OPEN && file == NULL;
 }
 
+/* A file that stands in the root has a folder too. */
+static int syncs_the_root(const char *path) {
+    (void)path;
+    return cvec_system_sync_folder("/dev") == CVEC_DONE;
+}
+
 /* In a process whose standard streams are closed: whether the file never has one of their numbers, to print fails as before, and
  * no program that is run has the file. */
 static int is_behind_streams(const char *path) {
@@ -266,6 +274,17 @@ static int is_refused_past_the_limit(const char *path) {
     return cvec_file_append_u64(file, numbers, 1) == CVEC_BROKEN;
 }
 
+/* In a process that holds the signal back, and for which one waits: whether a refused write leaves both as they are. */
+static int is_left_a_signal_that_waits(const char *path) {
+    sigset_t too_large, now;
+    sigemptyset(&too_large);
+    sigaddset(&too_large, SIGXFSZ);
+    if (pthread_sigmask(SIG_BLOCK, &too_large, NULL) != 0 || raise(SIGXFSZ) != 0) return 0;
+    if (is_refused_past_the_limit(path) || errno != EFBIG) return 0; /* since the signal is held back */
+    if (sigpending(&now) != 0 || !sigismember(&now, SIGXFSZ)) return 0;
+    return pthread_sigmask(SIG_BLOCK, NULL, &now) == 0 && sigismember(&now, SIGXFSZ);
+}
+
 static int holds_in_a_child(int (*holds)(const char *), const char *path) {
     int status = 1;
     pid_t child = fork();
@@ -276,6 +295,8 @@ static int holds_in_a_child(int (*holds)(const char *), const char *path) {
 static int stays_behind_streams(const char *path) { return holds_in_a_child(is_behind_streams, path); }
 
 static int lives_past_the_limit(const char *path) { return holds_in_a_child(is_refused_past_the_limit, path); }
+
+static int leaves_a_signal_that_waits(const char *path) { return holds_in_a_child(is_left_a_signal_that_waits, path); }
 
 /* Whether a file that is put in place of one, whose lock is waited for, is the one that takes records. */
 static int opens_what_has_the_name(const char *path) {
@@ -423,6 +444,23 @@ static int makes_both_versions(const char *path) {
     return are;
 }
 
+/* Whether a file that is longer than what is read of it at first, and at next, is read whole beside its writer. */
+static int reads_all_beside_a_writer(const char *path) {
+    enum { EACH = 20000, TIMES = 3 };
+    static uint64_t records[EACH], seen[EACH * TIMES + 1];
+    uint64_t count = 0;
+    cvec_file *file, *beside;
+    int are = cvec_file_create(&file, path, CVEC_U64, 1) == CVEC_DONE;
+    for (uint64_t k = 0; k < EACH; k++) records[k] = k;
+    for (int k = 0; k < TIMES; k++) are = are && cvec_file_append_u64(file, records, EACH) == CVEC_DONE;
+    are = are && cvec_file_open_to_read(&beside, path, CVEC_U64, NULL) == CVEC_DONE;
+    are = are && cvec_file_read_u64(beside, 0, seen, EACH * TIMES + 1, &count, NULL) == CVEC_DONE && count == EACH * TIMES;
+    for (uint64_t k = 0; k < count; k++) are = are && seen[k] == k % EACH;
+    cvec_file_close(&beside);
+    cvec_file_close(&file);
+    return are;
+}
+
 /* Whether a pipe, which another program may put in the place of a file as it is opened, has no length. */
 static int asks_files_alone(const char *path) {
     uint64_t len = 9;
@@ -478,6 +516,8 @@ int main(int argc, char **argv) {
                  {tells_of_a_folder_that_is_shut, "a folder that can't be read passes for one whose sync has failed"},
                  {stays_behind_streams, "a file has the number of a standard stream"},
                  {lives_past_the_limit, "a write past the limit of a file's size ends the process"},
+                 {leaves_a_signal_that_waits, "a write takes a signal that waited before it, or lets one come"},
+                 {syncs_the_root, "the root isn't the folder of what stands in it"},
                  {opens_what_has_the_name, "a file that has the name no more takes records"},
                  {tells_of_a_look_that_fails, "a look for a name that fails passes for a name that is gone"},
                  {waits_whole_turns, "signals cut short how long a lock is waited for"},
@@ -487,6 +527,7 @@ int main(int argc, char **argv) {
                  {refuses_no_handle, "a handle of nothing is none of the library's to refuse"},
                  {keeps_widths_apart, "a type of another width is taken"},
                  {makes_both_versions, "a file has another version than it was made by"},
+                 {reads_all_beside_a_writer, "a file is read beside its writer to its middle"},
                  {asks_files_alone, "a pipe passes for a file"},
                  {sees_what_is_never_written, "a file that nobody can write is not seen where it can't be synced"}};
     if (argc != 2) return 2;

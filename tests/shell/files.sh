@@ -123,6 +123,25 @@ no_advice_takes_bytes_away() (
     was_refused exists 'or give --over, which takes all its records away'
 )
 
+# A file that a refused command hasn't made is left, also an empty one.
+an_empty_file_stays_where_no_vector_is_made() (
+    has_calls || exit $is_skipped
+    build_calls
+    a_changed_file
+    for words in "create u64 $work/n.cv" "copy u64 $work/t.cv $work/n.cv"; do
+        : >"$work/n.cv"
+        # shellcheck disable=SC2086 # each word is one
+        run_with CALLS_FAIL=pwrite:1 $words
+        [ "$status" -eq 1 ]
+        [ -f "$work/n.cv" ]
+        rm "$work/n.cv"
+        # shellcheck disable=SC2086 # each word is one
+        run_with CALLS_FAIL=pwrite:1 $words
+        [ "$status" -eq 1 ]
+        [ ! -e "$work/n.cv" ]
+    done
+)
+
 create_over_takes_whatever_is_there() (
     a_changed_file
     run create u64 "$work/t.cv" --format=2 --over

@@ -303,6 +303,18 @@ a_file_that_becomes_shorter_ends_it() (
         $how >/dev/null
         has_ended cut '5\n6\n7\n' 'it has become shorter'
     done
+    # Also to what it had at first: before each look its length is asked.
+    rm "$work/second.cv"
+    cp "$work/other.cv" "$work/t.cv"
+    follows --poll=5
+    until_followed 3
+    for record in 8 9; do
+        given "$record\n"
+        run append u64 "$work/t.cv"
+        until_followed $((record - 4))
+    done
+    truncate -s "$(stat -c %s "$work/other.cv")" "$work/t.cv"
+    has_ended cut '5\n6\n7\n8\n9\n' 'it has become shorter'
 )
 
 # As `list`, once it has something to write.

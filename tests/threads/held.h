@@ -153,6 +153,9 @@ static int test_fdatasync(int fd) {
     return -1;
 }
 
+/* A file that another process puts where one is about to be made. */
+static const char *between_from;
+
 /* Whether no folder may be read, and whether there is no /dev/null; the path where another file is put in the place of each one
  * that was opened, and how many were; and the least number that a file had at first. */
 static int folders_are_shut, is_null_gone;
@@ -168,6 +171,10 @@ static int test_open(const char *path, int flags, mode_t mode) {
     if (folders_are_shut && (flags & O_DIRECTORY) != 0) {
         errno = EACCES;
         return -1;
+    }
+    if (between_from != NULL && (flags & O_CREAT) != 0) {
+        rename(between_from, path);
+        between_from = NULL;
     }
     const int fd = open(path, flags, mode);
     if (!is_null && fd >= 0 && fd < least_number) least_number = fd;

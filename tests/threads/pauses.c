@@ -74,6 +74,9 @@ static void waits_for_calls(const char *path) {
     make_two(path);
     HOLDS(cvec_seat_settle(seat, 2, CVEC_NO_LIMIT) == CVEC_DONE);
     __atomic_store_n(&seat->busy, INSIDE, __ATOMIC_SEQ_CST); /* as a call leaves it that goes on */
+    long each = FIRST_NAP;
+    for (int k = 0; k < 12; k++) cvec_give_way(&each);
+    HOLDS(each < 2 * LONGEST_NAP); /* so soon who waits sees that it has ended, however long it goes on */
     const int before = __atomic_load_n(&writes, __ATOMIC_SEQ_CST);
     pthread_create(&changer, NULL, run_change, &answer);
     while (!__atomic_load_n(&vector->shut, __ATOMIC_SEQ_CST)) nap();
@@ -254,9 +257,31 @@ static void until_settled(uint64_t count) {
 }
 
 /* The close ends it, whether it rests for long or not; a stop ends it, and those that begin later. */
+static sig_atomic_t volatile has_come;
+
+static void note_signal(int number) {
+    (void)number;
+    has_come = 1;
+}
+
+/* A signal for the process comes to a thread of the caller's, once that takes it, and not to the library's. */
+static void leaves_signals(void) {
+    sigset_t held_back, before;
+    signal(SIGUSR1, note_signal);
+    HOLDS(cvec_vector_start_flusher(vector, 1) == CVEC_DONE);
+    sigemptyset(&held_back);
+    sigaddset(&held_back, SIGUSR1);
+    HOLDS(pthread_sigmask(SIG_BLOCK, &held_back, &before) == 0 && !sigismember(&before, SIGUSR1) && kill(getpid(), SIGUSR1) == 0);
+    naps_for(20);
+    HOLDS(!has_come);
+    pthread_sigmask(SIG_SETMASK, &before, NULL);
+    HOLDS(has_come);
+}
+
 static void own_flusher(const char *path) {
     uint64_t number = 9, count = 9;
     make(path, 1);
+    leaves_signals();
     threads_are_refused = 1;
     HOLDS(cvec_vector_start_flusher(vector, 1) == CVEC_MEMORY);
     threads_are_refused = 0;
@@ -314,6 +339,7 @@ static void forks(const char *path) {
  * gone over. */
 static void opens_or_creates(const char *path) {
     const cvec_options two = {2, 3, 2, 0}, too_many = {1, 1, 131072, 0};
+    char other_path[4096];
     uint64_t size = 9;
     remove(path);
     HOLDS(cvec_vector_open_or_create(&vector, path, CVEC_U64, &too_many) == CVEC_TOO_LARGE && vector == NULL);
@@ -328,6 +354,13 @@ static void opens_or_creates(const char *path) {
     close(open(path, O_CREAT | O_TRUNC | O_WRONLY, 0666)); /* a creation that was stopped at its start */
     HOLDS(cvec_vector_open_or_create(&vector, path, CVEC_U64, NULL) == CVEC_DONE && cvec_vector_close(&vector) == CVEC_DONE);
     HOLDS(found(path) == 0 && remove(path) == 0);
+    snprintf(other_path, sizeof other_path, "%s.other", path);
+    make(other_path, 1);
+    for (uint64_t k = 0; k < 3; k++) HOLDS(grow(k, &size) == CVEC_DONE);
+    HOLDS(cvec_seat_close(&seat) == CVEC_DONE && cvec_vector_close(&vector) == CVEC_DONE);
+    between_from = other_path;
+    HOLDS(cvec_vector_open_or_create(&vector, path, CVEC_U64, NULL) == CVEC_DONE && cvec_vector_close(&vector) == CVEC_DONE);
+    HOLDS(between_from == NULL && found(path) == 3 && remove(path) == 0);
     folders_are_shut = 1;
     HOLDS(cvec_vector_open_or_create(&vector, path, CVEC_U64, NULL) == CVEC_DISK_OPEN && errno == EACCES && vector == NULL);
     folders_are_shut = 0;
