@@ -45,9 +45,9 @@ input_is_taken_in_parts() (
     did 'ok\nok\ncrashed 34\nsize 1\n5\n'
 )
 
-# Builds a library that interrupts each second read of standard input before it is made.
+# Builds a library that interrupts each second read before it is made, of descriptors of which this C is so.
 build_interrupts() {
-    cc -std=gnu99 -Wall -Wextra -Werror -O1 -shared -fPIC -x c - -o "$work/interrupts.so" -ldl <<'C'
+    cc -std=gnu99 "-DIS_INTERRUPTED=($1)" -Wall -Wextra -Werror -O1 -shared -fPIC -x c - -o "$work/interrupts.so" -ldl <<'C'
 #define _GNU_SOURCE
 #include <dlfcn.h>
 #include <errno.h>
@@ -55,7 +55,7 @@ build_interrupts() {
 
 ssize_t read(int fd, void *bytes, size_t n) {
     static int reads;
-    if (fd == STDIN_FILENO && __atomic_fetch_add(&reads, 1, __ATOMIC_SEQ_CST) % 2 == 0) {
+    if (IS_INTERRUPTED && __atomic_fetch_add(&reads, 1, __ATOMIC_SEQ_CST) % 2 == 0) {
         errno = EINTR;
         return -1;
     }
@@ -68,7 +68,7 @@ C
 an_input_whose_reads_are_interrupted_is_appended_whole() (
     has_calls || exit $is_skipped
     build_calls
-    build_interrupts
+    build_interrupts 'fd == STDIN_FILENO'
     seq 1 100000 >"$in"
     for most in 1000 65536; do
         rm -f "$work/t.cv"
@@ -163,10 +163,23 @@ syncs_that_are_interrupted_are_made_again() (
         diff - "$work/calls"
 )
 
-# A client's growth of the record 5, its wait, and its end, byte by byte.
+# A client's growth of the record 5, its wait, and its end, byte by byte; and where each read of a request is interrupted before.
 clients_are_served_in_parts() (
     has_calls || exit $is_skipped
     build_calls
+    serves_a_client by_parts 1
+    build_interrupts 'fd > STDERR_FILENO'
+    serves_a_client with_interrupts
+)
+
+with_interrupts() {
+    status=0
+    LD_PRELOAD=$work/interrupts.so "$program" "$@" >"$out" 2>"$err" || status=$?
+}
+
+# With this in front of the program's words.
+serves_a_client() {
+    rm -f "$work/t.cv" "$work/answers"
     run create u64 "$work/t.cv"
     {
         printf '\1\0\0\0\1\0\0\0\0\0\0\0\0\0\0\0\5\0\0\0\0\0\0\0'
@@ -176,7 +189,7 @@ clients_are_served_in_parts() (
     mkfifo "$work/answers"
     cat "$work/answers" >"$work/answered" &
     reader=$!
-    by_parts 1 serve u64 "$work/t.cv" --seats=1 3<"$work/requests" 4>"$work/answers"
+    "$@" serve u64 "$work/t.cv" --seats=1 3<"$work/requests" 4>"$work/answers"
     wait $reader
     did 'served 1 growths\n'
     {
@@ -186,4 +199,4 @@ clients_are_served_in_parts() (
     } | cmp - "$work/answered"
     run list u64 "$work/t.cv"
     did '5\n'
-)
+}
