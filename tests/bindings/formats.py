@@ -17,8 +17,8 @@ PATH = os.path.join(sys.argv[1], "formats.cv")
 # Of each dtype the bytes of a word in the file, by hand: 8 where the size is a multiple, else 4, 2 or 1.
 WORDS = [
     ([("key", "<u4"), ("part", "<u2"), ("flag", "?"), ("rest", "u1")], 8), ([("a", "<u4"), ("b", "<f4"), ("c", "<i4")], 4), ([("half", "<f4")], 4), ("<f8", 8),
-    ([("key", "<u8"), ("value", "<i8")], 8), ([("sensor", "<u8"), ("second", "<u8"), ("value", "<f8")], 8), ("V64", 8), ("V20", 4),
-    ([("a", "u1"), ("b", "<u8")], 1), ([("a", "<u2"), ("b", "<u4")], 2), ("V3", 1),
+    ([("key", "<u8"), ("value", "<i8")], 16), ([("sensor", "<u8"), ("second", "<u8"), ("value", "<f8")], 24), ("V32", 32), ("V64", 64),
+    ("V40", 8), ("V20", 4), ([("a", "u1"), ("b", "<u8")], 1), ([("a", "<u2"), ("b", "<u4")], 2), ("<u2", 2), ("V3", 1),
 ]
 
 
@@ -62,16 +62,15 @@ def readers(dtype):
     with Server(PATH, dtype=dtype) as server:
         yield "server", server.seats[0].read()
         yield "a part of it", numpy.concatenate([server.seats[0].piece(0, 2), server.seats[0].read(2)])
-    if numpy.dtype(dtype).itemsize % 4 == 0:
-        with Vector.open(PATH, dtype=dtype) as vector:
-            yield "vector", vector[:]
-            yield "lent", numpy.concatenate(vector.lent())
+    with Vector.open(PATH, dtype=dtype) as vector:
+        yield "vector", vector[:]
+        yield "lent", numpy.concatenate(vector.lent())
 
 
 def check_formats():
     for dtype, width in WORDS:
-        writers = [by_file, by_server] + [by_vector] * (width >= 4)
-        for create in [File.create] + [Vector.create] * (width >= 4):
+        writers = [by_file, by_server, by_vector]
+        for create in File.create, Vector.create:
             create(PATH, dtype=dtype).close()
             with open(PATH, "rb") as file:
                 assert file.read(11)[9:] == bytes([width, 0]), dtype
@@ -81,13 +80,6 @@ def check_formats():
             for name, found in readers(dtype):
                 assert found.dtype == numpy.dtype(dtype) and found.tobytes() == rows.tobytes(), (dtype, name)
             os.remove(PATH)
-    for dtype in ("V3", "V6", "V30", "<u2"):
-        try:
-            Vector.create(PATH, dtype=dtype)
-        except ValueError:
-            assert not os.path.exists(PATH)
-        else:
-            raise AssertionError(f"a vector of {dtype}")
 
 
 def check_arrays():
@@ -105,28 +97,28 @@ def check_arrays():
 
 def check_no_whole_rows():
     """Words that are no whole rows are refused by each, and a row that lies in two growths is read by those that copy."""
-    pair = [("key", "<u8"), ("value", "<f8")]
-    with File.create(PATH) as file:
+    three = [("key", "<u4"), ("value", "<f4"), ("more", "<u4")]
+    with File.create(PATH, "u32") as file:
         file.append([1])
-        file.append([2, 3])
+        file.append([2, 3, 4])
     for begin in (File.open, Vector.open, Map):
         try:
-            begin(PATH, dtype=pair)
+            begin(PATH, dtype=three)
         except ValueError:
             continue
         raise AssertionError(begin)
-    with File.open(PATH) as file:
-        file.append([4])
-    with Server(PATH, dtype=pair) as server:
-        assert server.seats[0].read()["key"].tolist() == server.seats[0].piece(0)["key"].tolist() == [1, 3]
-    with File.open(PATH, dtype=pair) as file:
-        assert file.read()["key"].tolist() == [1, 3]
-    with Server(PATH) as server:
+    with File.open(PATH, "u32") as file:
+        file.append([5, 6])
+    with Server(PATH, dtype=three) as server:
+        assert server.seats[0].read()["key"].tolist() == server.seats[0].piece(0)["key"].tolist() == [1, 4]
+    with File.open(PATH, dtype=three) as file:
+        assert file.read()["key"].tolist() == [1, 4]
+    with Server(PATH, "u32") as server:
         seat = server.seats[0]
-        for row in ([5], [6, 7], [8], [9]):
+        for row in ([7], [8, 9, 10], [11], [12], [13]):
             seat.grow(row)
-        seat.form = kind_of("u64", pair)
-        assert seat.read()["key"].tolist() == [1, 3, 5, 7] and seat.piece(3, 1)["key"].tolist() == [7] and len(seat.piece(4)) == 0
+        seat.form = kind_of("u64", three)
+        assert seat.read()["key"].tolist() == [1, 4, 7, 10] and seat.piece(3, 1)["key"].tolist() == [10] and len(seat.piece(4)) == 0
     os.remove(PATH)
 
 

@@ -13,10 +13,10 @@ def block(round, name, turn):
     return [head] + [(head * 31 + at) % 2 ** 64 for at in range(1, length)]
 
 
-def records_of(path):
+def records_of(path, type="u64"):
     """What the file has, read by its format."""
     with open(path, "rb") as file:
-        return [int.from_bytes(it, "little") for it in reader.File(file.read(), "u64").cells]
+        return [int.from_bytes(it, "little") for it in reader.File(file.read(), type).cells]
 
 
 def places_of(records):

@@ -42,8 +42,8 @@ GREATEST = 2 ** 64 - 1
 THREADS = 8
 
 
-def records():
-    return records_of(PATH)
+def records(type="u64"):
+    return records_of(PATH, type)
 
 
 def refusal(call, *words, **named):
@@ -249,11 +249,11 @@ def arrays_with_a_mask():
             has_no(ValueError, vector.grow, row)
             has_no(ValueError, out.push, row[1])
         vector.grow(numpy.asarray(row))
-    assert records() == [1, 0x4004000000000000, 3, 0x4012000000000000]
+    assert records("bytes16") == [0x4004000000000000 << 64 | 1, 0x4012000000000000 << 64 | 3]
 
 
 def rows_of_a_dtype():
-    point = numpy.dtype([("key", "<u8"), ("place", "<f8", 2), ("flag", "?"), ("rest", "V7")])
+    point = numpy.dtype([("key", "<u8"), ("place", "<f8", 2), ("flag", "?"), ("rest", "V15")])
     rows = numpy.zeros(50, dtype=point)
     rows["key"], rows["place"], rows["flag"] = range(50), [(it, -it) for it in range(50)], [it % 2 for it in range(50)]
     with Vector.create(PATH, dtype=point) as vector:
@@ -276,13 +276,15 @@ def rows_of_a_dtype():
         vector.grow([1])
     has_no(ValueError, Vector.open, PATH, dtype=point)
     Vector.open(PATH).close()
-    for bad in ("u2", "V6", "V260", "O", [("a", "O")], ("u8", 2), [("a", "u1"), ("b", "u8")]):
+    for bad in ("V257", "V260", "O", [("a", "O")], ("u8", 2)):
         has_no(ValueError, Vector.open, PATH, dtype=bad)
+    for other in ("u2", "V6", "V16", "V24", [("a", "u1"), ("b", "u8")]):
+        assert refusal(Vector.open, PATH, dtype=other)[0] == Status.WIDTH
     # What is read is a record: numpy has a number in the machine's order of bytes, and a text without the zeros at its end.
     for good, row, bad in (("i8", [-1, 2 ** 63 - 1], numpy.uint64(1)), ("f8", [0.5, float("-inf")], numpy.float32(1)),
                            ("V256", [bytes(range(256))], numpy.void(bytes(8))), (">u8", [1, 256], numpy.int64(1)), (">f8", [2.5], numpy.int64(1)),
                            (">M8[s]", [1, 3], numpy.datetime64(1, "ms")), ("S8", [b"abc", b"", b"12345678"], numpy.bytes_(b"123456789")),
-                           ("U2", ["ab", "a"], numpy.bytes_(b"a")), (">U4", ["a\0bc", "abcd"], numpy.str_("abcde"))):
+                           ("U2", ["ab", "a"], numpy.bytes_(b"a")), (">U10", ["a\0bc", "abcdefghij"], numpy.str_("abcdefghijk"))):
         os.remove(PATH)
         values = numpy.array(row, dtype=good)
         with Vector.create(PATH, dtype=good) as vector:
@@ -362,7 +364,7 @@ def rows_with_padding():
         vector.change(2, rows[40:0:-7])
         wanted[2:8] = cells[40:0:-7]
         assert vector[7].tobytes() == cells[5]
-    assert b"".join(it.to_bytes(8, "little") for it in records()) == b"".join(wanted)
+    assert b"".join(it.to_bytes(24, "little") for it in records("bytes24")) == b"".join(wanted)
 
 
 def width_of_file():
@@ -413,6 +415,23 @@ def numbers_with_a_fraction_are_equal_by_their_values():
         assert vector.find(0.0) is None and vector.find(-0.0) == 0 and vector.count(math.nan) == 1
 
 
+def rows_that_are_one_record():
+    """A dtype of the size of a type of bytes is one record of the file; of another size it is words."""
+    for size, type in ((1, "u8"), (2, "u16"), (3, "u8"), (6, "u16"), (12, "u32"), (16, "bytes16"), (24, "bytes24"), (32, "bytes32"), (64, "bytes64"), (40, "u64"), (72, "u64")):
+        data = bytes((it * 7 + it // 256) % 256 for it in range(5 * size))
+        rows = numpy.frombuffer(data, dtype=f"V{size}")
+        with Vector.create(PATH, dtype=rows.dtype) as vector:
+            vector.grow(rows[:3])
+            with vector.appender(1) as out:
+                out.push(rows[3])
+            vector.change(1, rows[4:])
+            assert (vector.count(rows[4]), vector.find(rows[3]), vector.find(rows[1])) == (1, 3, None)
+            assert vector[:].tobytes() == data[:size] + data[4 * size:] + data[2 * size:4 * size] == b"".join(it.tobytes() for it in vector.lent())
+        width = {"u8": 1, "u16": 2, "u32": 4, "u64": 8}.get(type, size)
+        assert b"".join(it.to_bytes(width, "little") for it in records(type)) == data[:size] + data[4 * size:] + data[2 * size:4 * size]
+        os.remove(PATH)
+
+
 def records_of_each_type():
     has_records_of("u32", 4, [1, 2 ** 32 - 1], [0, 7, 8], [-1, 2 ** 32, 0.5, "a"])
     has_records_of("u64", 8, [1, 2 ** 64 - 1], [0, 7, 8], [-1, 2 ** 64])
@@ -422,15 +441,18 @@ def records_of_each_type():
     has_records_of("i32", 4, [-2 ** 31, 2 ** 31 - 1], [-1, 7, 8], [2 ** 31, -2 ** 31 - 1, 0.5])
     has_records_of("f32", 4, [1.5, -math.inf], [0.25, 7, 8], [0.1, 2 ** 25 + 1, "a"])
     has_records_of("f64", 8, [0.1, math.inf], [-2.5, 7, 8], [2 ** 53 + 1, None])
-    for name in ("bytes24", "bytes32", "bytes64", "u8", "u16", ""):
-        has_no(ValueError, Vector.open, PATH, type=name)
+    has_records_of("u8", 1, [1, 255], [0, 7, 8], [-1, 256, 0.5, "a"])
+    has_records_of("u16", 2, [1, 2 ** 16 - 1], [0, 7, 8], [-1, 2 ** 16, 0.5, "a"])
+    has_no(ValueError, Vector.open, PATH, type="")
     has_no(ValueError, Vector.open, PATH, dtype="i8", type="i64")
     numbers_with_a_fraction_are_equal_by_their_values()
     if numpy is None:
-        for name in ("pair", "flagged", "bytes16"):
+        for name in ("pair", "flagged", "bytes16", "bytes64"):
             has_no(ValueError, Vector.open, PATH, type=name)
         return
-    has_records_of("bytes16", 16, [bytes(range(16)), b"b" * 16], [bytes(16), b"c" * 16, b"d" * 16], [b"c" * 15, b"c" * 17, 5, "c" * 16], bytes(16))
+    for size in (16, 24, 32, 64):
+        has_records_of(f"bytes{size}", size, [bytes(range(size)), b"b" * size], [bytes(size), b"c" * size, b"d" * size],
+                       [b"c" * (size - 1), b"c" * (size + 1), 5, "c" * size], bytes(size))
     has_records_of("pair", 16, [(1, -1), (2 ** 64 - 1, -2 ** 63)], [(0, 0), (7, 7), (8, 8)], [(-1, 0), (1, 2 ** 63), 5, (1, 2, 3), b"12", bytearray(2)])
     has_records_of("flagged", 9, [(1, True), (2 ** 64 - 1, False)], [(0, False), (7, True), (8, True)], [(-1, True), 5, b"12", memoryview(b"12")])
 
@@ -756,7 +778,7 @@ def the_whole_vector():
 
 def rows_of_the_whole_vector():
     """Past the rows that a search reads at once."""
-    point = numpy.dtype([("key", "<u8"), ("place", "<f8"), ("rest", "V8")])
+    point = numpy.dtype([("key", "<u8"), ("place", "<f8"), ("rest", "V24")])
     rows = numpy.zeros(10000, dtype=point)
     rows["key"], rows["place"] = range(10000), [-it for it in range(10000)]
     rows["rest"][5] = b"12345678"
@@ -771,7 +793,7 @@ def rows_of_the_whole_vector():
         assert [vector.find(rows[it]) for it in (4095, 4096, 9999, 2)] == [4095, 4096, 9999, None]
         assert vector.find(rows[9999], 9999) == 9999 and vector.find(other) is None
         # Words that stand in a row, but in two rows.
-        assert vector.find(numpy.frombuffer(rows[7:9].tobytes()[8:32], dtype=point)[0]) is None
+        assert vector.find(numpy.frombuffer(rows[7:9].tobytes()[8:48], dtype=point)[0]) is None
         for start, row in ((9999, rows[:2]), (10000, rows[:1]), (2 ** 62, rows[:1])):
             assert refusal(vector.change, start, row)[0] == Status.OUT_OF_RANGE
         for call, *words in ((vector.change, 0, [rows[0]]), (vector.change, 0, rows["key"]), (vector.count, 5), (vector.find, (1, 2, b"")),
@@ -781,9 +803,9 @@ def rows_of_the_whole_vector():
         vector.fold()
         vector.resize(3)
         vector.resize(4)
-        same = numpy.frombuffer(bytes(range(1, 9)) * 3, dtype=point)[0]
+        same = numpy.frombuffer(bytes(range(1, 9)) * 5, dtype=point)[0]
         vector.resize(6, same)
-    wanted = rows[[0, 1, 5]].tobytes() + bytes(24) + same.tobytes() * 2
+    wanted = rows[[0, 1, 5]].tobytes() + bytes(40) + same.tobytes() * 2
     assert b"".join(it.to_bytes(8, "little") for it in records()) == wanted
     for dtype, row, sought in (("i8", [1, -5, 7, -5], -5), ("f8", [0.0, -0.0, 2.5, -0.0], -0.0), ("M8[s]", [1, 3, 2, 3], 3)):
         os.remove(PATH)

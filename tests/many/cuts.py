@@ -405,24 +405,24 @@ def each_type_is_read():
         raises(Fault, lambda: cvec.cut.take(pen.path, "bytes64" if kind != "bytes64" else "u8"))
 
 
-ROW = [("time", "<u8"), ("price", "<f8"), ("size", "<i4"), ("side", "<i4")]
+ROW = [("time", "<u8"), ("price", "<f8"), ("size", "<i4"), ("side", "<i4"), ("rest", "<u8", 2)]
 
 
 def rows_are_read_also_over_frames():
-    """A row of three words lies in two frames where these have ten words."""
+    """A row of five words lies in two frames where these have twelve words."""
     rows = numpy.zeros(1000, ROW)
     rows["time"], rows["price"], rows["size"] = range(1000), numpy.arange(1000) * 0.25, numpy.arange(1000) % 7
     data = rows.tobytes()
     words = [data[it:it + 8] for it in range(0, len(data), 8)]
     pen = Pen(at("rows.cv"))
-    for first in range(0, len(words), 10):
-        pen.grow(words[first:first + 10])
-    pen.change((10, numbers([7])))
+    for first in range(0, len(words), 12):
+        pen.grow(words[first:first + 12])
+    pen.change((16, numbers([7])))
     rows["price"][3] = struct.unpack("<d", struct.pack("<Q", 7))[0]
     cut = cvec.cut.take(pen.path, ROW)
-    assert len(cut) == 1000 and cut.words == 3
+    assert len(cut) == 1000 and cut.words == 5
     for start, stop in (0, 1000), (0, 1), (333, 999):
-        for block_bytes in 1, 24, 100, 1 << 18:
+        for block_bytes in 1, 40, 100, 1 << 18:
             seen = [block.copy() for _, block in cvec.cut.blocks(cut, start, stop, block_bytes)]
             assert numpy.concatenate(seen).tobytes() == rows[start:stop].tobytes(), (start, stop, block_bytes)
     pen.fold()
@@ -455,7 +455,7 @@ def a_record_is_compared_by_its_bits():
     for kind, none in [("u64", -1), ("u64", "5"), ("i64", 2**63), ("f32", 0.1), ("u8", 256), ("pair", 5), ("pair", (1, 2, 3)),
                        ("bytes16", b"a"), ("flagged", b"a" * 9), ("u64", None), (ROW, (1, 2.0, 3, 4)), ("u64", 1.0)]:
         raises(ValueError, lambda: cvec.cut.packed(kind, none))
-    row = numpy.array([(1, 2.0, 3, 4), (1, -0.0, 3, 4), (1, 0.0, 3, 4)], ROW)
+    row = numpy.array([(1, it, 3, 4, (5, 6)) for it in (2.0, -0.0, 0.0)], ROW)
     assert cvec.cut.places_of(row, cvec.cut.packed(ROW, row[2])).tolist() == [2]
     for width in (3, 5, 6, 7, 9, 12):
         rows = numpy.frombuffer(bytes(range(1, 1 + 4 * width)), f"V{width}")[[0, 1, 2, 1, 3]]

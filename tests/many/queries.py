@@ -194,7 +194,7 @@ def rows_are_counted_and_found():
     rows["time"], rows["price"] = range(500), numpy.arange(500) % 10 * 0.5
     data = rows.tobytes()
     for number in 0, 1:
-        grown(number, [data[it:it + 8] for it in range(0, len(data), 8)])
+        grown(number, [data[it:it + 16] for it in range(0, len(data), 16)], width=16)
     shards = found(dtype, chunk=77)
     assert len(shards) == 1000 and shards.count(lambda block: block["price"] == 4.5) == 100
     assert shards.count(rows[7]) == 2 and shards.find(rows[7]) == (shards.names[0], 7)

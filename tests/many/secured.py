@@ -64,9 +64,9 @@ def rows_of(number):
 
 def the_program_of_the_page_answers():
     for number, folder in enumerate(CLUSTER.folders):
-        data, pen = rows_of(number).tobytes(), Pen(os.path.join(folder, "000001.cv"))
+        data, pen = rows_of(number).tobytes(), Pen(os.path.join(folder, "000001.cv"), width=24)
         for first in range(0, len(data), 2400):
-            pen.grow([data[it:it + 8] for it in range(first, first + 2400, 8)])
+            pen.grow([data[it:it + 24] for it in range(first, first + 2400, 24)])
     with open(PROGRAM) as file:
         text = file.read()
     for old, new in [("10.0.0.11", CLUSTER.addresses[0]), ("10.0.0.12", CLUSTER.addresses[1]), ("tls://10.0.0.10:8786", CLUSTER.address),

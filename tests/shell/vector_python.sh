@@ -92,9 +92,9 @@ the_python_program_of_the_page_writes_rows_in_place() (
     make_python_vector
     run_program_of_the_page 2
     echo '60 samples up to 29.5, the last (7, 59, 29.5)' | cmp - "$out"
-    run list u64 "$work/t.cv"
-    [ "$(wc -l <"$out")" -eq 180 ]
-    [ "$(sed -n '1p;5p;9p' "$out" | tr '\n' ' ')" = '7 1 4607182418800017408 ' ]
+    run list bytes24 "$work/t.cv"
+    [ "$(wc -l <"$out")" -eq 60 ]
+    [ "$(sed -n 3p "$out")" = 07000000000000000200000000000000000000000000f03f ]
 )
 
 # The commands of the page, in a copy of the repository over the crates as they are built: the page's program runs by what pip puts into
@@ -155,6 +155,10 @@ a_python_vector_takes_no_other_values() (
 a_python_vector_takes_arrays_of_numpy() (
     is_so_with_numpy arrays
     is_so_with_numpy arrays_with_a_mask
+)
+
+rows_of_some_sizes_are_one_record_of_python() (
+    is_so_with_numpy rows_that_are_one_record
 )
 
 a_python_vector_has_rows_of_a_dtype() (

@@ -1,6 +1,6 @@
 """What the records of a file or a vector are: of one of its types, or of a type of numpy, each of which is a row of a file's records. A
-type of numpy has one format, whatever it is kept in: the file has its bytes, as words of 8 bytes where its size is a multiple of that,
-else of 4, 2 or 1."""
+type of numpy has one format, whatever it is kept in: the file has its bytes, as one record where a type has its size (1, 2, 4, 8, 16,
+24, 32 or 64 bytes), else as words of 8 bytes where its size is a multiple of that, else of 4, 2 or 1."""
 from __future__ import annotations
 
 import array
@@ -14,7 +14,8 @@ from .records import IN_C, IN_FILE, FloatForm, has_mask, numpy
 GREATEST_ROW = 256
 # The types as `array` has them.
 _CODES = {"u8": "B", "u16": "H", "u32": "I", "u64": "Q", "i32": "i", "i64": "q", "f32": "f", "f64": "d"}
-# The words of a row, the widest first.
+# What a row of such a size is one record of, and the words of others, the widest first.
+_ONE_RECORD = {16: "bytes16", 24: "bytes24", 32: "bytes32", 64: "bytes64"}
 _WORDS = {8: "u64", 4: "u32", 2: "u16", 1: "u8"}
 
 
@@ -170,8 +171,9 @@ class Rows:
             raise ValueError(f"no records of {self.dtype} can be kept")
         if not 1 <= size <= GREATEST_ROW:
             raise ValueError(f"a record takes {size} bytes: it may take 1 to {GREATEST_ROW}")
-        self.width = self.width_in_file = next(it for it in _WORDS if size % it == 0)
-        self.word, self.words = _WORDS[self.width], size // self.width
+        self._alignment = next(it for it in _WORDS if size % it == 0)
+        self.width = self.width_in_file = size if size in _ONE_RECORD else self._alignment
+        self.word, self.words = (_ONE_RECORD | _WORDS)[self.width], size // self.width
         # A record as bytes alone: of one with fields numpy copies these, and not what is between them.
         self._raw = numpy.dtype(f"V{size}")
 
@@ -200,7 +202,7 @@ class Rows:
         if has_mask(type(records)) or records.dtype != self.dtype or records.ndim != 1:
             raise ValueError(f"no records of the type: not an array of {self.dtype} with one dimension, and no mask")
         row = numpy.asarray(records).view(self._raw)
-        if not row.flags.c_contiguous or address_of(row) % self.width != 0:
+        if not row.flags.c_contiguous or address_of(row) % self._alignment != 0:
             row = row.copy()
         return row, address_of(row), len(row) * self.words
 

@@ -44,8 +44,6 @@ _PIECES = 256
 # passes over records.
 _SLICE = 100
 _NAP = 0.0005
-# Of C's types a vector has these. Others of their widths have their bytes.
-_IN_VECTOR = {"u32": "u32", "i32": "u32", "f32": "u32", "u64": "u64", "i64": "i64", "f64": "u64", "pair": "pair", "bytes16": "pair", "flagged": "flagged"}
 
 
 class _Receipt(ctypes.Structure):
@@ -252,7 +250,7 @@ class Vector(Single, Described):
     def __init__(self, path: Any, form: Records | Rows) -> None:
         """Not to be called: `create`, `open` and `open_or_create` do."""
         self._kept, self._form, self._path, self._process = Kept(), form, os.fspath(path), LIB.cvec_process()
-        self._number = NUMBERS[_IN_VECTOR[form.word]]
+        self._number = NUMBERS[form.word]
         self._closed = False
         # Of each call that is under way the thread that makes it; and of those among them that whole calls wait for. Who begins such a
         # pass, or has the whole vector, has the turn.
@@ -298,8 +296,6 @@ class Vector(Single, Described):
             raise ValueError(f"a phase has room for 1 to {MOST_GROWTHS} growths")
         form = kind_of(type, dtype)
         form.check_arrays()
-        if form.word not in _IN_VECTOR:
-            raise ValueError(f"a vector has no records of {form.name}: they take 4, 8, 12, .. bytes, or are of {', '.join(_IN_VECTOR)}")
         vector, options = cls(path, form), _Options(version, seats, 0, growths or 0)
         try:
             vector._check(call(byref(vector._kept.at), name_of(path), vector._number, byref(options)))
