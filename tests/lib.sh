@@ -371,9 +371,9 @@ make_texts() {
 # The example that indexes words, which is this command, goes on where it is killed, finds all, and each word once.
 indexes_words() {
     make_texts
-    words_of_entry=$1
-    shift
-    goes_on_where_it_is_killed "$work/t.cv" u64 "$words_of_entry" "$@" "$work/t.cv" Thread "$work"/*.txt
+    type=$1 each=$2
+    shift 2
+    goes_on_where_it_is_killed "$work/t.cv" "$type" "$each" "$@" "$work/t.cv" Thread "$work"/*.txt
     sed 1d "$out" | cmp "$work/wanted" -
     timeout 300 "$@" "$work/t.cv" Thread "$work"/*.txt >"$out"
     sed -n 1p "$out" | grep -qx "found $(cat "$work"/*.txt | LC_ALL=C tr -cs A-Za-z '\n' | grep -c .) words"
@@ -391,10 +391,23 @@ has_results_of_a_pool() {
     [ "$("$top/cvec" list "$type" "$work/t.cv" | tr : '\n' | paste - - | sort -u | wc -l)" -eq 5000 ]
 }
 
+# The words of eight bytes of samples of three, from a sample on: of records of u64 or of 24 bytes, in hex digits, of which awk makes
+# the first 53 bits.
+words_of_samples() {
+    case $("$top/cvec" stat "$work/t.cv") in
+    *'width 24'*)
+        "$top/cvec" list bytes24 "$work/t.cv" "--from=$1" | fold -w 16 | awk '
+            function digit(at) { return index("0123456789abcdef", substr($0, at, 1)) - 1 }
+            { word = 0; for (at = 15; at > 0; at -= 2) word = word * 256 + digit(at) * 16 + digit(at + 1); printf "%.0f\n", word }'
+        ;;
+    *) "$top/cvec" list u64 "$work/t.cv" "--from=$((3 * $1))" ;;
+    esac
+}
+
 # What the example of eight sensors is to find, by the file as the program lists it: of each so many samples, in hundreds and in
 # order. Of each hundred the last value is looked at: the bits of a double, of which awk has the first 53.
 samples_there() {
-    "$top/cvec" list u64 "$work/t.cv" | paste - - - | awk '
+    words_of_samples 0 | paste - - - | awk '
         function value_of(bits) {
             return (bits < 2 ^ 63 ? 1 : -1) * (1 + bits % 2 ^ 52 / 2 ^ 52) * 2 ^ (int(bits / 2 ^ 52) % 2048 - 1023)
         }
@@ -415,7 +428,7 @@ samples_there() {
 
 # Behind the first so many samples there are some of each of the eight sensors.
 each_sensor_goes_on() {
-    [ "$("$top/cvec" list u64 "$work/t.cv" "--from=$((3 * $1))" | paste - - - | awk '!seen[$1]++' | wc -l)" -ge 8 ]
+    [ "$(words_of_samples "$1" | paste - - - | awk '!seen[$1]++' | wc -l)" -ge 8 ]
 }
 
 # The example of eight sensors, which is this command, goes on where it is killed, at whatever moment.

@@ -162,7 +162,8 @@ static bool operator==(const sample &a, const sample &b) {
     return a.thread == b.thread && a.turn == b.turn && a.value == b.value;
 }
 
-using samples = cvec::concurrent_vector<sample>;
+// Of three records each.
+using samples = cvec::concurrent_vector<sample, cvec::rows_of_u64>;
 
 static list rows_of(const numbers &vector) { return list(vector.begin(), vector.end()); }
 
@@ -1392,7 +1393,7 @@ static void refusals(const std::string &path) {
     // Three words are no rows of two or of four, but one of three.
     HOLDS((opens<std::array<std::uint64_t, 2>>(path) == CVEC_WIDTH && opens<std::array<double, 4>>(path, open) == CVEC_WIDTH));
     HOLDS((sentence_of<std::array<char, 9>>(path) == "cvec: " + path + ": its records are no whole rows of 16 bytes"));
-    HOLDS(opens<sample>(path, open) == CVEC_DONE && bytes_of(path) == before);
+    HOLDS(samples(path, open).size() == 1 && bytes_of(path) == before && opens<sample>(path, open) == CVEC_WIDTH);
     HOLDS(opens<std::uint64_t>("/tmp") == CVEC_NOT_FILE && opens<std::uint64_t>("/dev/null") == CVEC_NOT_FILE);
     // What a stopped creation leaves is begun again, but not where the file is to be there.
     write_file(path, "");

@@ -15,22 +15,19 @@ FACTOR, MODULUS = 0x9E3779B97F4A7C15, 1 << 64
 
 def main(path, threads, durable):
     with open(path, "rb") as file:
-        words = [struct.unpack("<Q", cell)[0] for cell in File(file.read(), "u64").cells]
-    if len(words) % 3:
-        sys.exit(f"{len(words)} words are no rows")
+        rows = [struct.unpack("<3Q", cell) for cell in File(file.read(), "bytes24").cells]
     turns = [0] * int(threads)
-    for at in range(0, len(words), 3):
-        thread, turn, mixed = words[at:at + 3]
+    for at, (thread, turn, mixed) in enumerate(rows):
         if thread >= len(turns) or mixed != (thread * 1000003 + turn + 1) * FACTOR % MODULUS:
-            sys.exit(f"row {at // 3} is torn: {thread} {turn} {mixed}")
+            sys.exit(f"row {at} is torn: {thread} {turn} {mixed}")
         if turn != turns[thread]:
-            sys.exit(f"row {at // 3} of thread {thread} has turn {turn}, after {turns[thread]} rows")
+            sys.exit(f"row {at} of thread {thread} has turn {turn}, after {turns[thread]} rows")
         turns[thread] += 1
     with open(durable) as lines:
         for thread, count in re.findall(r"(?m)^durable (\d+) (\d+) end$", lines.read()):
             if turns[int(thread)] < int(count):
                 sys.exit(f"thread {thread} was told of {count} durable rows, and has {turns[int(thread)]}")
-    print(len(words) // 3)
+    print(len(rows))
 
 
 main(*sys.argv[1:])

@@ -352,7 +352,7 @@ threads_grow_and_read_whole_rows_in_cpp() (
     timeout 60 "$built/threads" "$work/t.cv" 8 2000 2 >"$work/durable"
     [ "$(python3 "$cpp_tests/rows.py" "$work/t.cv" 8 "$work/durable")" -gt 1000 ]
     grep -q '^durable 7 ' "$work/durable"
-    run check u64 "$work/t.cv"
+    run check bytes24 "$work/t.cv"
     [ "$status" -eq 0 ]
 )
 
@@ -561,7 +561,7 @@ words_are_indexed_in_cpp() (
     has_cpp || exit $is_skipped
     make_cpp
     link_cpp -o "$work/word_index" "$cpp/word_index.cc"
-    indexes_words 4 "$work/word_index"
+    indexes_words bytes32 1 "$work/word_index"
     tells_of_a_full_disk "$work/word_index" "$work/full.cv" Thread "$work"/*.txt
     is_refused_in_a_line '^-2: this is no word$' "$work/word_index" "$work/t.cv" -2 "$work/c.txt"
     for text in none.txt .; do

@@ -101,7 +101,7 @@ samples_of_sensors_go_on_in_c() (
 
 words_are_indexed_in_c() (
     make_example word_index
-    indexes_words 4 "$work/word_index"
+    indexes_words u64 4 "$work/word_index"
 )
 
 results_of_a_pool_are_kept_in_c() (

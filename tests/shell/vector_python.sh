@@ -126,7 +126,7 @@ words_are_indexed_in_python() (
     has_python_vector || exit $is_skipped
     make_python_vector
     export "CVEC_LIB=$built" "PYTHONPATH=$top/bindings/python" PYTHONDONTWRITEBYTECODE=1
-    indexes_words 1 "$python" "$top/examples/python/word_index.py"
+    indexes_words u64 1 "$python" "$top/examples/python/word_index.py"
 )
 
 results_of_a_pool_are_kept_in_python() (

@@ -61,7 +61,7 @@ words_are_indexed_in_rust() (
     has_rust_vector || exit $is_skipped
     make_rust_vector
     make_rust_program "$top/examples/rust/word_index.rs" "$work/word_index"
-    indexes_words 1 "$work/word_index"
+    indexes_words u64 1 "$work/word_index"
 )
 
 results_of_a_pool_are_kept_in_rust() (
