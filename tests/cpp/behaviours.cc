@@ -1162,7 +1162,7 @@ static void searching(const std::string &path) {
 static void appenders(const std::string &path) {
     samples vector(path);
     {
-        cvec::appender<sample> rows(vector, 3);
+        cvec::appender<sample, cvec::rows_of_u64> rows(vector, 3);
         for (std::uint64_t k = 0; k < 8; ++k) rows.emplace_back(k, k, 0.5);
         HOLDS(vector.size() == 6 && rows.buffered() == 2);
         const auto made = rows.flush();
@@ -1172,7 +1172,7 @@ static void appenders(const std::string &path) {
         rows.settle();
         HOLDS(vector.settled() == 4 && vector.size() == 9);
         rows.push_back({10, 10, 10});
-        cvec::appender<sample> moved(std::move(rows));
+        cvec::appender<sample, cvec::rows_of_u64> moved(std::move(rows));
         moved.push_back({11, 11, 11});
         HOLDS(vector.size() == 9);
         // One that was moved from has none, and takes rows again.
@@ -1182,7 +1182,7 @@ static void appenders(const std::string &path) {
     }
     HOLDS(vector.size() == 12 && vector[10].thread == 11 && vector[11].thread == 12);
     // Where a flush is refused, the rows are kept, and the one that was pushed isn't taken. The destructor is silent.
-    cvec::appender<sample> late(vector, 2);
+    cvec::appender<sample, cvec::rows_of_u64> late(vector, 2);
     late.push_back({1, 1, 1});
     late.push_back({2, 2, 2});
     vector.close();
@@ -1393,7 +1393,8 @@ static void refusals(const std::string &path) {
     // Three words are no rows of two or of four, but one of three.
     HOLDS((opens<std::array<std::uint64_t, 2>>(path) == CVEC_WIDTH && opens<std::array<double, 4>>(path, open) == CVEC_WIDTH));
     HOLDS((sentence_of<std::array<char, 9>>(path) == "cvec: " + path + ": its records are no whole rows of 16 bytes"));
-    HOLDS(samples(path, open).size() == 1 && bytes_of(path) == before && opens<sample>(path, open) == CVEC_WIDTH);
+    HOLDS(samples(path, open).size() == 1);
+    HOLDS(opens<sample>(path, open) == CVEC_WIDTH && bytes_of(path) == before);
     HOLDS(opens<std::uint64_t>("/tmp") == CVEC_NOT_FILE && opens<std::uint64_t>("/dev/null") == CVEC_NOT_FILE);
     // What a stopped creation leaves is begun again, but not where the file is to be there.
     write_file(path, "");
