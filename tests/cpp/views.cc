@@ -247,7 +247,10 @@ static void see_one_row(const numbers &vector, const std::atomic<bool> &is_over,
 
 // Views one behind another, without a pause, hold no call up for long.
 static void calls_come_soon(const std::string &path) {
-    numbers vector(path, waiting(20s));
+    // With little room a seat takes no long time to make, also under sanitizers: a view that does is waited for.
+    auto few = waiting(20s);
+    few.growths = 1000;
+    numbers vector(path, few);
     vector.grow_by(100, 1);
     std::atomic<bool> is_over{false}, is_right{true};
     std::vector<std::thread> readers;

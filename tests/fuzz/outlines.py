@@ -72,13 +72,13 @@ def answers_to_stat(image, as_json):
         lines = ''.join('%s %d\n' % field for field in fields.items())
         last = 0, json.dumps(fields, separators=(',', ':')) + '\n' if as_json else lines, ''
     except Fault as fault:
-        last = refusal_of(fault, len(outlines.homes))
-    return [*(refusal_of(*one) for one in outlines.maybe), last]
+        last = refusal_of(fault, len(outlines.homes), as_json)
+    return [*(refusal_of(*one, as_json) for one in outlines.maybe), last]
 
 
-def refusal_of(fault, size):
+def refusal_of(fault, size, as_json):
     told = '; the frames before that leave %d records\n' % size if str(fault).startswith('damaged') else '\n'
-    return 1, 'refused: %s\n' % fault, told
+    return 1, '{"refused":"%s"}\n' % fault if as_json else 'refused: %s\n' % fault, told
 
 
 def stat_differs(words, found, image):

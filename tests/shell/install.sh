@@ -255,7 +255,8 @@ pip_installs_the_modules() (
     CVEC_LIB=$prefix/lib/python3/dist-packages/cvec python3 -m pip install --quiet --no-index --no-cache-dir \
         --disable-pip-version-check --target "$work/site" "$work/python" 2>"$err" || { cat "$err" && exit 1; }
     diff -r -x __pycache__ "$prefix/lib/python3/dist-packages/cvec" "$work/site/cvec"
-    [ -e "$work/site/cvec/py.typed" ] && [ -e "$work/site/cvec/libcvec.so" ]
+    [ -e "$work/site/cvec/py.typed" ]
+    [ -e "$work/site/cvec/libcvec.so" ]
     [ "cvec $(sed -n 's/^Version: //p' "$work/site"/cvec-*.dist-info/METADATA)" = "$("$program" --version | head -n 1)" ]
     unset CVEC_LIB
     export PYTHONPATH="$work/site" PYTHONDONTWRITEBYTECODE=1

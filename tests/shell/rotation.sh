@@ -182,7 +182,7 @@ a_killed_row_has_the_front_of_its_input() (
         child=$!
         moment=$((whole * k / 11))
         sleep "$((moment / 1000)).$(printf %03d $((moment % 1000)))"
-        kill -9 "$child" 2>/dev/null && stopped=$((stopped + 1))
+        if kill -9 "$child" 2>/dev/null; then stopped=$((stopped + 1)); fi
         wait "$child" 2>/dev/null || :
         records_of_row >"$work/stands"
         stands=$(wc -l <"$work/stands")
